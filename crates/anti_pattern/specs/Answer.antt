@@ -1,0 +1,37 @@
+-- The answer under an allowance: document 01's bound, none and spent.
+use Prim.Native.Nat.{ℕ}
+use mathlib.Core.List.{List}
+use mathlib.Core.Bool.{Bool, true, false}
+use lib.Dec.{ltb}
+use Rattle.term.specs.Term.{Term}
+use Rattle.term.specs.Pattern.{Pattern}
+use Rattle.term.specs.declared.Part.{Part}
+use Rattle.anti_pattern.specs.Search.{Env, Outcome, found, failed, whole}
+use Rattle.anti_pattern.specs.Place.{partOf, eachVariable}
+
+-- bound, with the part of each variable and the count; none, with the count; spent, with the allowance
+pub data Answer : Type 0 where
+  bound : List Part → ℕ → Answer
+  nothing : ℕ → Answer
+  spent : ℕ → Answer
+
+-- the parts of the variables that the search assigned, each at the offset where it did
+abbrev pub parts : List ℕ → Env → List Part
+parts table e = eachVariable (λ v. partOf table (e .value v) (e .offset v))
+
+-- "The count of a pattern and record is that of the search run, under no allowance, to its first answer or its end."
+abbrev pub countOf : List ℕ → Pattern → Term → ℕ
+countOf table q t = whole table q t .cost
+
+abbrev pub shown : List ℕ → Outcome → ℕ → Answer
+shown table (found e) n = bound (parts table e) n
+shown table failed n = nothing n
+
+-- "if the count is over it the answer is spent and shows the allowance"
+abbrev pub limit : Bool → ℕ → Answer → Answer
+limit true allowance a = spent allowance
+limit false allowance a = a
+
+unfoldable pub answer : List ℕ → Pattern → Term → ℕ → Answer
+answer table q t allowance =
+    limit (ltb allowance (countOf table q t)) allowance (shown table (whole table q t .out) (countOf table q t))

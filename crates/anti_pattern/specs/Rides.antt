@@ -1,0 +1,101 @@
+-- Document 01's marked rides A to L, and the rules and states of its report, with the answers stated there.
+use Prim.Native.Nat.{ℕ}
+use mathlib.Core.Path.{_≡_}
+use mathlib.Core.List.{List, [], _∷_, map}
+use mathlib.Core.Bool.{cond}
+use lib.Dec.{eqb}
+use Rattle.term.specs.Part.{part, absent}
+use Rattle.term.specs.Pattern.{Pattern, name, symbol, complement, Children, end, plain, run}
+use Rattle.term.specs.Term.{Term, node, Terms, nil, _::_, single}
+use Rattle.term.specs.declared.Part.{Part}
+use Rattle.anti_pattern.specs.Answer.{Answer, bound, nothing, spent, answer}
+use Rattle.anti_pattern.specs.Place.{eachVariable}
+
+-- open, shut, held, gate (1), row (2), gates (list)
+abbrev pub table : List ℕ
+table = 0 ∷ 0 ∷ 0 ∷ 1 ∷ 2 ∷ 255 ∷ []
+
+abbrev pub opened : Term
+opened = node 0 nil
+
+abbrev pub shut : Term
+shut = node 1 nil
+
+abbrev held : Term
+held = node 2 nil
+
+abbrev pub gate : Term → Term
+gate t = node 3 (single t)
+
+abbrev pub row : Term → Term → Term
+row t u = node 4 (t :: u :: nil)
+
+abbrev gates : Terms → Term
+gates ts = node 5 ts
+
+-- the same as patterns
+abbrev openedᵖ : Pattern
+openedᵖ = symbol 0 end
+
+abbrev shutᵖ : Pattern
+shutᵖ = symbol 1 end
+
+abbrev gateᵖ : Pattern → Pattern
+gateᵖ q = symbol 3 (plain q end)
+
+abbrev rowᵖ : Pattern → Pattern → Pattern
+rowᵖ p q = symbol 4 (plain p (plain q end))
+
+abbrev gatesᵖ : Children → Pattern
+gatesᵖ qs = symbol 5 qs
+
+infix 70 !_
+abbrev !_ : Pattern → Pattern
+! q = complement q
+
+-- the parts given, for their variables, and the absent mark for the others
+abbrev lookup : List (ℕ × Part) → ℕ → Part
+lookup [] v = absent
+lookup (x ∷ xs) v = cond (eqb (x .0) v) (x .1) (lookup xs v)
+
+abbrev showing : List (ℕ × Part) → ℕ → Answer
+showing xs n = bound (eachVariable (lookup xs)) n
+
+pub record Ride : Type 0 where
+  pub pattern : Pattern
+  pub term : Term
+  pub allowance : ℕ
+  pub expected : Answer
+
+abbrev under : ℕ → Pattern → Term → Answer → Ride
+under n q t a = record { pattern = q; term = t; allowance = n; expected = a }
+
+abbrev ride : Pattern → Term → Answer → Ride
+ride = under 100000
+
+-- ?0 is the variable 0, @0 the variable 32
+abbrev pub rides : List Ride
+rides =
+    -- A to L; H also under an allowance of 3
+    ride (rowᵖ openedᵖ (! shutᵖ)) (row opened opened) (showing [] 4)
+    ∷ ride (! (gateᵖ (name 0))) (gate opened) (nothing 3)
+    ∷ ride (rowᵖ (name 0) (! (name 0))) (row opened shut) (showing ((0, part 1 1 1) ∷ []) 4)
+    ∷ ride (rowᵖ (! (name 0)) (name 0)) (row opened opened) (nothing 4)
+    ∷ ride (! (rowᵖ (name 0) (! (gateᵖ (name 0))))) (row opened (gate shut)) (nothing 6)
+    ∷ ride (rowᵖ (! (gateᵖ (name 0))) (! (! (gateᵖ (name 0))))) (row (gate opened) (gate shut)) (nothing 5)
+    ∷ ride (gatesᵖ (run 32 (plain (! openedᵖ) (run 33 end)))) (gates (opened :: shut :: nil)) (showing ((32, part 2 1 1) ∷ (33, part 4 0 0) ∷ []) 10)
+    ∷ ride (gatesᵖ (run 32 (run 33 end))) (gates (opened :: nil)) (showing ((32, part 2 0 0) ∷ (33, part 2 1 1) ∷ []) 4)
+    ∷ under 3 (gatesᵖ (run 32 (run 33 end))) (gates (opened :: nil)) (spent 3)
+    ∷ ride (gatesᵖ (run 32 (run 32 end))) (gates (opened :: nil)) (nothing 5)
+    ∷ ride (! (gatesᵖ (run 32 (plain (name 0) (run 33 (plain (! (name 0)) (run 34 end))))))) (gates nil) (showing [] 3)
+    ∷ ride (gatesᵖ (plain (! openedᵖ) end)) (gates nil) (nothing 1)
+    ∷ ride (! (! (name 0))) opened (showing [] 3)
+    -- the report's states: 0 by D and then A, with the sum 8; 1 by its first rule; 2 by neither, with the sum 2
+    ∷ ride (rowᵖ (! (name 0)) (name 0)) (row shut opened) (showing ((0, part 2 1 1) ∷ []) 4)
+    ∷ ride (rowᵖ (! (name 0)) (name 0)) held (nothing 1)
+    ∷ ride (rowᵖ openedᵖ (! shutᵖ)) held (nothing 1)
+    ∷ []
+
+-- each comes to the answer stated
+abbrev pub RidesHold : Type 0
+RidesHold = map (λ r. answer table (r .pattern) (r .term) (r .allowance)) rides ≡ map (λ r. r .expected) rides

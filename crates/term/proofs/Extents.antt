@@ -1,0 +1,170 @@
+-- How far the count of trees goes: byte by byte, and over the bytes of a tree.
+use Prim.Native.Nat.{ℕ, zero, suc, _+_, _-_, _<_, _≤_}
+use native.Mathlib.Omega.{arith}
+use native.Mathlib.Numerals.{add-one}
+use mathlib.Core.Path.{_≡_, refl, sym, ap, _∙_}
+use mathlib.Core.List.{List, [], _∷_}
+use mathlib.Core.Bool.{Bool, true, false, cond}
+use lib.ListN.{length, getD, drop, length-drop}
+use lib.Seq.{drop-cons}
+use lib.Dec.{eqb}
+use borrow.Author.Tests.{eqb-true, eqb-false, lt-ltb, le-ltb, ne-eqb}
+use Rattle.term.specs.Code.{byteOf}
+use Rattle.term.specs.Table.{isList}
+use Rattle.term.specs.Tree.{Tree, Trees, branch, empty, more, number, listCode, own, encode, encodes}
+use Rattle.term.specs.Term.{Term, size, termTree, termBytes}
+use Rattle.term.specs.Pattern.{Pattern, patternTree, patternBytes}
+use Rattle.term.specs.Limits.{Written, Counted, Shape, belowOf, Fits, FitAll}
+use Rattle.term.specs.Extent.{entryOf, spanOf, extentOf}
+use Rattle.term.specs.declared.Code.{Code}
+use Rattle.term.specs.declared.Code.the-variants.{Symbol, Name, Run, Complement}
+use Rattle.term.proofs.Sizes.{branch-length, more-length, term-size}
+
+module _ (table : List ℕ) where
+  -- bytes
+
+  pub span-none : (s : List ℕ) → spanOf table s false 0 ≡ 0
+  unfolding spanOf
+  span-none [] = refl
+  span-none (b ∷ s) = refl
+
+  pub span-fixed : (b n : ℕ) (s : List ℕ) → (entryOf table b ≡ 255 → ⊥)
+      → spanOf table (b ∷ s) false (suc n) ≡ suc (spanOf table s false (entryOf table b + n))
+  unfolding spanOf
+  span-fixed b n s h = rw (ne-eqb (entryOf table b) 255 h)
+
+  pub span-list : (b c n : ℕ) (s : List ℕ) → entryOf table b ≡ 255
+      → spanOf table (b ∷ c ∷ s) false (suc n) ≡ suc (suc (spanOf table s false (c + n)))
+  unfolding spanOf
+  span-list b c n s h = rw h
+
+  -- each tree takes a byte at least
+  pub span-all : (s : List ℕ) (counting : Bool) (n : ℕ) → length s ≤ n → spanOf table s counting n ≡ length s
+  unfolding spanOf
+  span-all [] counting n h = refl
+  span-all (b ∷ s) true n h = ap suc (span-all s false (b + n) (omega arith))
+  span-all (b ∷ s) false zero h = absurd (omega arith)
+  span-all (b ∷ s) false (suc n) h =
+      ap suc
+      (either (eqb (entryOf table b) 255) (span-all s true n (omega arith)) (span-all s false (entryOf table b + n) (omega arith)))
+    where
+      either : (l : Bool) {x y z : ℕ} → x ≡ z → y ≡ z → cond l x y ≡ z
+      either true e f = e
+      either false e f = f
+
+  pub extent-some : (s : List ℕ) → 0 < length s → 0 < extentOf table s
+  unfolding extentOf spanOf
+  extent-some [] h = absurd (omega arith)
+  extent-some (b ∷ s) h = omega arith
+
+  -- the same at a place, where `end` is the earliest place at which the trees can be over
+
+  pub extent-start : (s : List ℕ) → extentOf table s ≡ 0 + spanOf table (drop 0 s) false (1 - 0)
+  unfolding extentOf
+  extent-start s = omega arith
+
+  pub extent-over : (s : List ℕ) (at end : ℕ) → end ≤ at → at + spanOf table (drop at s) false (end - at) ≡ at
+  extent-over s at end h =
+      let z : end - at ≡ 0 = omega arith in
+      ap (λ (n : ℕ). at + spanOf table (drop at s) false n) z ∙ omega (arith, span-none (drop at s))
+
+  pub extent-all : (s : List ℕ) (at end : ℕ) → at ≤ length s → length s ≤ end → at + spanOf table (drop at s) false (end - at) ≡ length s
+  extent-all s at end h k = omega (arith, length-drop at s, span-all (drop at s) false (end - at) (omega (arith, length-drop at s)))
+
+  pub extent-fixed : (s : List ℕ) (at end e : ℕ) → at < end → at < length s → e ≡ entryOf table (getD s at 0) → (e ≡ 255 → ⊥)
+      → at + spanOf table (drop at s) false (end - at) ≡ at + 1 + spanOf table (drop (at + 1) s) false (end + e - (at + 1))
+  extent-fixed s at end e h k i d =
+      let n : end - at ≡ suc (end - (at + 1)) = omega arith in
+      let m : entryOf table (getD s at 0) + (end - (at + 1)) ≡ end + e - (at + 1) = omega arith in
+      let f : spanOf table (drop at s) false (end - at) ≡ suc (spanOf table (drop (at + 1) s) false (end + e - (at + 1))) =
+      rw (n, add-one at, drop-cons s at 0 k, ← add-one at)
+      (span-fixed (getD s at 0) (end - (at + 1)) (drop (at + 1) s) (λ z. d (i ∙ z))
+      ∙ ap (λ (x : ℕ). suc (spanOf table (drop (at + 1) s) false x)) m) in
+      omega arith
+
+  pub extent-list : (s : List ℕ) (at end c : ℕ) → at < end → at + 1 < length s → entryOf table (getD s at 0) ≡ 255 → c ≡ getD s (at + 1) 0
+      → at + spanOf table (drop at s) false (end - at) ≡ at + 2 + spanOf table (drop (at + 2) s) false (end + 1 + c - (at + 2))
+  extent-list s at end c h k i j =
+      let n : end - at ≡ suc (end - (at + 1)) = omega arith in
+      let m : getD s (at + 1) 0 + (end - (at + 1)) ≡ end + 1 + c - (at + 2) = omega arith in
+      let two : suc (at + 1) ≡ at + 2 = omega arith in
+      let a : drop at s ≡ getD s at 0 ∷ getD s (at + 1) 0 ∷ drop (at + 2) s =
+      drop-cons s at 0 (omega arith) ∙ rw (← add-one at, drop-cons s (at + 1) 0 k, two) in
+      let f : spanOf table (drop at s) false (end - at) ≡ suc (suc (spanOf table (drop (at + 2) s) false (end + 1 + c - (at + 2)))) =
+      rw (n, a)
+      (span-list (getD s at 0) (getD s (at + 1) 0) (end - (at + 1)) (drop (at + 2) s) i
+      ∙ ap (λ (x : ℕ). suc (suc (spanOf table (drop (at + 2) s) false x))) m) in
+      omega arith
+
+-- trees
+
+-- what the entry of a code says of its number of children
+abbrev Says : Bool → ℕ → ℕ → Type 0
+Says true entry n = entry ≡ 255
+Says false entry n = (entry ≡ n) × (entry ≡ 255 → ⊥)
+
+module _ (table : List ℕ) (small : length table ≤ 200) where
+  entry-symbol : (s : ℕ) → s < length table → entryOf table s ≡ getD table s 0
+  unfolding entryOf
+  entry-symbol s h = rw (lt-ltb s (length table) h)
+
+  entry-variable : (v : ℕ) → v < 48 → entryOf table (200 + v) ≡ 0
+  unfolding entryOf
+  entry-variable v h = rw (le-ltb (200 + v) (length table) (omega arith), ne-eqb (200 + v) 248 (λ e. omega arith))
+
+  entry-complement : entryOf table 248 ≡ 1
+  unfolding entryOf
+  entry-complement = rw (le-ltb 248 (length table) (omega arith))
+
+  says-symbol : (s n : ℕ) (l : Bool) → isList table s ≡ l → s < length table → Counted l n (getD table s 0) → Says l (entryOf table s) n
+  says-symbol s n true e h k = entry-symbol s h ∙ eqb-true (getD table s 0) 255 e
+  says-symbol s n false e h k = (entry-symbol s h ∙ sym k, λ z. eqb-false (getD table s 0) 255 e (sym (entry-symbol s h) ∙ z))
+
+  entry-says : (records inList : Bool) (c : Code) (n : ℕ) → Written records c → Shape table inList c n → Says (listCode table c) (entryOf table (byteOf c)) n
+  unfolding Written Shape listCode byteOf
+  entry-says records inList (Symbol s) n w h = says-symbol s n (isList table s) refl (h .0) (h .1)
+  entry-says true inList (Name v) n w h = absurd w
+  entry-says false inList (Name v) n w h = let z = entry-variable v (omega arith) in (omega arith, λ e. omega arith)
+  entry-says true inList (Run v) n w h = absurd w
+  entry-says false inList (Run v) n w h = let z = entry-variable v (omega arith) in (omega arith, λ e. omega arith)
+  entry-says records inList Complement n w h = let z = entry-complement in (omega arith, λ e. omega arith)
+  entry-says records inList Code.Refused n w h = absurd h
+
+  span-own : (l : Bool) (b n k : ℕ) (bs : List ℕ) → Says l (entryOf table b) n
+      → spanOf table (b ∷ cond l (n ∷ bs) bs) false (suc k) ≡ cond l 2 1 + spanOf table bs false (n + k)
+  span-own true b n k bs h = span-list table b n k bs h ∙ omega arith
+  span-own false b n k bs h =
+      span-fixed table b k bs (h .1) ∙ ap (λ (x : ℕ). suc (spanOf table bs false (x + k))) (h .0) ∙ omega arith
+
+  mutual
+    unfolding Fits encode own number
+
+    pub span-tree : (records : Bool) (t : Tree) (left : ℕ) (inList : Bool) (n : ℕ) (bs : List ℕ) → Fits table records t left inList
+        → spanOf table (encode table t bs) false (suc n) ≡ length (encode table t []) + spanOf table bs false n
+    span-tree records (branch c ts) left inList n bs h =
+        span-own (listCode table c) (byteOf c) (number ts) n (encodes table ts bs) (entry-says records inList c (number ts) (h .1) (h .2))
+        ∙ omega (arith, span-trees records ts (belowOf c left) (listCode table c) n bs (h .3), branch-length table c ts)
+
+    pub span-trees : (records : Bool) (ts : Trees) (left : ℕ) (inList : Bool) (n : ℕ) (bs : List ℕ) → FitAll table records ts left inList
+        → spanOf table (encodes table ts bs) false (number ts + n) ≡ length (encodes table ts []) + spanOf table bs false n
+    span-trees records empty left inList n bs h =
+        let z : 0 + n ≡ n = omega arith in
+        ap (λ (k : ℕ). spanOf table bs false k) z ∙ omega arith
+    span-trees records (more t ts) left inList n bs h =
+        let z : suc (number ts) + n ≡ suc (number ts + n) = omega arith in
+        ap (λ (k : ℕ). spanOf table (encode table t (encodes table ts bs)) false k) z
+        ∙ span-tree records t left inList (number ts + n) (encodes table ts bs) (h .0)
+        ∙ omega (arith, span-trees records ts left inList n bs (h .1), more-length table t ts)
+
+  pub extent-tree : (records : Bool) (t : Tree) (left : ℕ) (inList : Bool) (bs : List ℕ) → Fits table records t left inList
+      → extentOf table (encode table t bs) ≡ length (encode table t [])
+  unfolding extentOf
+  extent-tree records t left inList bs h = span-tree records t left inList 0 bs h ∙ omega (arith, span-none table bs)
+
+  pub extent-term : (records : Bool) (t : Term) (left : ℕ) (inList : Bool) (bs : List ℕ) → Fits table records (termTree t) left inList
+      → extentOf table (termBytes table t bs) ≡ size table t
+  extent-term records t left inList bs h = extent-tree records (termTree t) left inList bs h ∙ term-size table t
+
+  pub extent-pattern : (q : Pattern) (left : ℕ) (inList : Bool) (bs : List ℕ) → Fits table false (patternTree q) left inList
+      → extentOf table (patternBytes table q bs) ≡ length (patternBytes table q [])
+  extent-pattern q left inList bs h = extent-tree false (patternTree q) left inList bs h

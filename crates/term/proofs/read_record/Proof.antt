@@ -1,0 +1,17 @@
+-- `term::read_record` meets its contract.
+use Rattle.term.proofs.Typed.{shown-map}
+use Rattle.term.specs.Reading.{readRecord}
+use mathlib.Core.Path.{sym, _∙_}
+use borrow.Author.Needs.{needs}
+use Rattle.term.proofs.read_record.Statement.{statement}
+use Rattle.term.proofs.read_record.Tie as tie
+
+read-whole-requires : tie.Need-read-whole-requires
+read-whole-requires c κs = search needs
+
+returns : tie.Need-returns
+unfolding readRecord
+returns c = c .read-whole .ensures ∙ sym (shown-map _ _)
+
+pub read-record-spec : {M : Type 1} → statement M
+read-record-spec = tie.close (tie.spec read-whole-requires returns)

@@ -1,0 +1,13 @@
+-- Tables, codes, terms and patterns, their bytes, and how they are read. In document 01's order.
+pub mod Table
+pub mod Code
+pub mod Tree
+pub mod Term
+pub mod Pattern
+pub mod Limits
+pub mod Refusal
+pub mod Node
+pub mod Reading
+pub mod Extent
+pub mod Same
+pub mod Part

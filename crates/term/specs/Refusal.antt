@@ -1,0 +1,17 @@
+-- Document 01's number for each refusal. (10 and 11, none and spent, are answers.)
+use Prim.Native.Nat.{ℕ}
+use Rattle.term.specs.declared.Refusal.{Refusal}
+use Rattle.term.specs.declared.Refusal.the-variants.{Table, Short, Spare, BadCode, Deep, Long, Stray, Narrow, Directory, Full, Unread}
+
+abbrev pub numberOf : Refusal → ℕ
+numberOf Table = 1
+numberOf Short = 2
+numberOf Spare = 3
+numberOf BadCode = 4
+numberOf Deep = 5
+numberOf Long = 6
+numberOf Stray = 7
+numberOf Narrow = 8
+numberOf Directory = 9
+numberOf Full = 12
+numberOf Unread = 13

@@ -1,0 +1,393 @@
+// Symbol tables, records and patterns: what their bytes stand for, which are accepted, where a term ends, and when two are the same.
+ghost use mathlib.Core.Path.{_≡_};
+ghost use mathlib.Core.Bool.{true, false};
+ghost use Prim.Native.Nat.{_≤_};
+ghost use lib.ListN.{length};
+ghost use Rattle.term.specs.Table.{entryAccepted, tableAccepted};
+ghost use Rattle.term.specs.Code.{decodeOf, codeIn};
+ghost use Rattle.term.specs.Limits.{longest};
+ghost use Rattle.term.specs.Refusal.{numberOf};
+ghost use Rattle.term.specs.Node.{known, listNode, openNode, nodeAt};
+ghost use Rattle.term.specs.Extent.{entryOf, extentOf};
+ghost use Rattle.term.specs.Same.{samePart};
+ghost use Rattle.term.specs.Part.{boundPart, isAbsent, partBytes};
+ghost use Rattle.term.specs.Reading.{shown, readAll, readTree, nodeRefusal, readWhole, readRecord, readPattern};
+
+// What a byte of a pattern stands for. A name or a run name holds its variable's number.
+pub enum Code {
+    Symbol(u8),
+    Name(u8),
+    Run(u8),
+    Complement,
+    Refused,
+}
+
+// Why an input is refused.
+pub enum Refusal {
+    Table,
+    Short,
+    Spare,
+    BadCode,
+    Deep,
+    Long,
+    Stray,
+    Narrow,
+    Directory,
+    Full,
+    Unread,
+}
+
+// The checks of one node: its own bytes, its number of children, whether it is a list, and the nesting left for its children.
+pub enum Node {
+    Open {
+        size: usize,
+        kids: u8,
+        list: bool,
+        low: usize,
+    },
+    Refused(Refusal),
+}
+
+// A tree that was read ends after so many bytes.
+pub enum Read {
+    Ends(usize),
+    Refused(Refusal),
+}
+
+// A part of a record: offset and length in bytes, and the number of its elements.
+pub struct Part {
+    pub offset: u16,
+    pub length: u16,
+    pub elements: u8,
+}
+
+pub fn decode(b: u8) -> Code
+    ensures { λ r. ⌜ r ≡ decodeOf b ⌝ }
+{
+    match b {
+        0..=199 => Code::Symbol(b),
+        200..=231 => Code::Name(b - 200),
+        232..=247 => Code::Run(b - 200),
+        248 => Code::Complement,
+        _ => Code::Refused,
+    }
+}
+
+impl Refusal {
+    // Document 01's number.
+    pub fn number(self) -> u8
+        ensures { λ r. ⌜ r ≡ numberOf self ⌝ }
+    {
+        match self {
+            Refusal::Table => 1,
+            Refusal::Short => 2,
+            Refusal::Spare => 3,
+            Refusal::BadCode => 4,
+            Refusal::Deep => 5,
+            Refusal::Long => 6,
+            Refusal::Stray => 7,
+            Refusal::Narrow => 8,
+            Refusal::Directory => 9,
+            Refusal::Full => 12,
+            Refusal::Unread => 13,
+        }
+    }
+}
+
+fn accepts_entry(b: u8) -> bool
+    ensures { λ r. ⌜ r ≡ entryAccepted b ⌝ }
+{
+    if b <= 8 {
+        return true;
+    }
+    b == 255
+}
+
+pub fn check_table(table: &[u8]) -> bool
+    ensures { λ r. ⌜ r ≡ tableAccepted (now (table .entry)) ⌝ }
+{
+    if 200 < table.len() {
+        return false;
+    }
+    let mut i = 0;
+    while i < table.len() {
+        if !accepts_entry(table[i]) {
+            return false;
+        }
+        i += 1;
+    }
+    true
+}
+
+fn code_in(records: bool, b: u8) -> Code
+    ensures { λ r. ⌜ r ≡ codeIn records b ⌝ }
+{
+    if records { Code::Symbol(b) } else { decode(b) }
+}
+
+fn is_known(table: &[u8], code: Code) -> bool
+    ensures { λ r. ⌜ r ≡ known (now (table .entry)) code ⌝ }
+{
+    match code {
+        Code::Symbol(b) => (b as usize) < table.len(),
+        Code::Name(_) => true,
+        Code::Run(_) => true,
+        Code::Complement => true,
+        Code::Refused => false,
+    }
+}
+
+// A node of one byte.
+fn plain_node(kids: u8, low: usize) -> Node
+    ensures { λ r. ⌜ r ≡ Node.Open 1 kids false low ⌝ }
+{
+    Node::Open {
+        size: 1,
+        kids: kids,
+        list: false,
+        low: low,
+    }
+}
+
+// The node of a list symbol.
+fn list_node(s: &[u8], low: usize) -> Node
+    ensures { λ r. ⌜ r ≡ listNode low (now (s .entry)) ⌝ }
+{
+    if s.len() < 2 {
+        return Node::Refused(Refusal::Short);
+    }
+    Node::Open {
+        size: 2,
+        kids: s[1],
+        list: true,
+        low: low,
+    }
+}
+
+// The node of a known code, with so much nesting left for its children.
+fn open_node(table: &[u8], s: &[u8], in_list: bool, low: usize, code: Code) -> Node
+    requires { ⌜ known (now table) code ≡ true ⌝ }
+    ensures { λ r. ⌜ r ≡ openNode (now (table .entry)) «in_list» low (now (s .entry)) code ⌝ }
+{
+    match code {
+        Code::Symbol(b) => {
+            let i = b as usize;
+            let entry = table[i];
+            if entry == 255 {
+                return list_node(s, low);
+            }
+            plain_node(entry, low)
+        }
+        Code::Name(_) => plain_node(0, low),
+        Code::Run(_) => {
+            if in_list {
+                return plain_node(0, low);
+            }
+            Node::Refused(Refusal::Stray)
+        }
+        Code::Complement => plain_node(1, low),
+        Code::Refused => Node::Refused(Refusal::BadCode),
+    }
+}
+
+fn node_at(table: &[u8], s: &[u8], records: bool, in_list: bool, left: usize) -> Node
+    ensures { λ r. ⌜ r ≡ nodeAt (now (table .entry)) records «in_list» left (now (s .entry)) ⌝ }
+{
+    if s.len() == 0 {
+        return Node::Refused(Refusal::Short);
+    }
+    let code = code_in(records, s[0]);
+    if !is_known(table, code) {
+        return Node::Refused(Refusal::BadCode);
+    }
+    if left == 0 {
+        return Node::Refused(Refusal::Deep);
+    }
+    open_node(table, s, in_list, left - 1, code)
+}
+
+fn node_refusal(n: Node) -> Read
+    ensures { λ r. ⌜ r ≡ nodeRefusal n ⌝ }
+{
+    match n {
+        Node::Refused(r) => Read::Refused(r),
+        Node::Open {
+            size: _,
+            kids: _,
+            list: _,
+            low: _,
+        } => Read::Ends(0),
+    }
+}
+
+// The tree at the start of s: its node, and then its children, which are handed on as a part of s.
+fn read_tree(table: &[u8], s: &[u8], records: bool, left: usize, in_list: bool) -> Read
+    ensures { λ r. ⌜ r ≡ shown (readTree (now (table .entry)) records left «in_list» (now (s .entry))) ⌝ }
+{
+    let node = node_at(table, s, records, in_list, left);
+    let Node::Open {
+        size,
+        kids,
+        list,
+        low,
+    } = node
+    else {
+        return node_refusal(node);
+    };
+    let inner = read_all(table, &s[size..], records, low, list, kids);
+    let Read::Ends(n) = inner else {
+        return inner;
+    };
+    Read::Ends(size + n)
+}
+
+// So many trees, one after the other.
+fn read_all(table: &[u8], s: &[u8], records: bool, left: usize, in_list: bool, count: u8) -> Read
+    ensures { λ r. ⌜ r ≡ shown (readAll (readTree (now (table .entry)) records left «in_list») count (now (s .entry))) ⌝ }
+{
+    if count == 0 {
+        return Read::Ends(0);
+    }
+    let first = read_tree(table, s, records, left, in_list);
+    let Read::Ends(n) = first else {
+        return first;
+    };
+    let rest = read_all(table, &s[n..], records, left, in_list, count - 1);
+    let Read::Ends(m) = rest else {
+        return rest;
+    };
+    Read::Ends(n + m)
+}
+
+fn longest_of(records: bool) -> usize
+    ensures { λ r. ⌜ r ≡ longest records ⌝ }
+{
+    if records { 4096 } else { 256 }
+}
+
+// The whole of s as one tree.
+fn read_whole(records: bool, table: &[u8], s: &[u8]) -> Read
+    ensures { λ r. ⌜ r ≡ shown (readWhole records (now (table .entry)) (now (s .entry))) ⌝ }
+{
+    if longest_of(records) < s.len() {
+        return Read::Refused(Refusal::Long);
+    }
+    let tree = read_tree(table, s, records, 32, false);
+    let Read::Ends(n) = tree else {
+        return tree;
+    };
+    if n < s.len() {
+        return Read::Refused(Refusal::Spare);
+    }
+    tree
+}
+
+// Reads a record by an accepted table.
+pub fn read_record(table: &[u8], bytes: &[u8]) -> Read
+    ensures { λ r. ⌜ r ≡ shown (readRecord (now (table .entry)) (now (bytes .entry))) ⌝ }
+{
+    read_whole(true, table, bytes)
+}
+
+// Reads a pattern by an accepted table.
+pub fn read_pattern(table: &[u8], bytes: &[u8]) -> Read
+    ensures { λ r. ⌜ r ≡ shown (readPattern (now (table .entry)) (now (bytes .entry))) ⌝ }
+{
+    read_whole(false, table, bytes)
+}
+
+fn wide(b: u8) -> usize
+    ensures { λ r. ⌜ r ≡ b ⌝ }
+{
+    b as usize
+}
+
+// The entry of a code: its number of children, or 255 for a list.
+pub fn entry_of(table: &[u8], b: u8) -> u8
+    ensures { λ r. ⌜ r ≡ entryOf (now (table .entry)) b ⌝ }
+{
+    let i = wide(b);
+    if i < table.len() {
+        return table[i];
+    }
+    if b == 248 { 1 } else { 0 }
+}
+
+// The number of bytes of the term or pattern at the start of s, or all of s where s ends before it.
+pub fn extent(table: &[u8], s: &[u8]) -> usize
+    ensures is { λ r. ⌜ r ≡ extentOf (now (table .entry)) (now (s .entry)) ⌝ }
+    ensures within { λ r. ⌜ r ≤ length (now (s .entry)) ⌝ }
+{
+    let mut at: usize = 0;
+    // The earliest place at which it can end: each tree still to come takes a byte at least.
+    let mut end: usize = 1;
+    while at < end {
+        if s.len() <= end {
+            return s.len();
+        }
+        let entry = entry_of(table, s[at]);
+        if entry == 255 {
+            end = end + 1 + wide(s[at + 1]);
+            at = at + 2;
+        } else {
+            end = end + wide(entry);
+            at = at + 1;
+        }
+    }
+    at
+}
+
+// Whether x and y have the same bytes.
+pub fn same(x: &[u8], y: &[u8]) -> bool
+    ensures { λ r. ⌜ r ≡ samePart (now (x .entry)) (now (y .entry)) ⌝ }
+{
+    if x.len() != y.len() {
+        return false;
+    }
+    let mut i: usize = 0;
+    while i < x.len() {
+        if x[i] != y[i] {
+            return false;
+        }
+        i = i + 1;
+    }
+    true
+}
+
+impl Part {
+    // The absent mark.
+    pub const ABSENT: Part = Part {
+        offset: 65535,
+        length: 0,
+        elements: 0,
+    };
+
+    // A part that a name or a run name is bound to.
+    pub fn bound(offset: usize, length: usize, elements: u8) -> Part
+        ensures { λ r. ⌜ r ≡ boundPart offset length elements ⌝ }
+    {
+        Part {
+            offset: (offset % 65536) as u16,
+            length: (length % 65536) as u16,
+            elements: elements,
+        }
+    }
+
+    pub fn is_absent(self) -> bool
+        ensures { λ r. ⌜ r ≡ isAbsent self ⌝ }
+    {
+        self.offset == 65535
+    }
+}
+
+// The bytes of a part of a record: none where it does not lie within the record.
+pub fn bytes_of(bytes: &[u8], p: Part) -> &[u8]
+    ensures { λ r. ⌜ now r ≡ partBytes (now (bytes .entry)) p ⌝ }
+{
+    let start = p.offset as usize;
+    let end = start + p.length as usize;
+    if end <= bytes.len() {
+        return &bytes[start..end];
+    }
+    &bytes[..0]
+}
