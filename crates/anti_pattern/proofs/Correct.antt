@@ -16,7 +16,9 @@ use Rattle.anti_pattern.specs.Order.{lengthOf}
 use Rattle.anti_pattern.specs.Search.{Env, update, bind, Outcome, found, failed, Result, ifTrue, ifSome, after, Deferred, Next, refuted, finish, sameOr, lengths, behind, tryRun, search, searches, level}
 use Rattle.anti_pattern.specs.Variables.{vars, varsAll, free}
 use Rattle.anti_pattern.proofs.Extensions.{extends-refl, extends-nil, extends-at, extends-add, extends-drop, extends-bind, extends-unbind, extends-bound}
-use Rattle.anti_pattern.proofs.Facts.{eqb-true, eqb-same, sameTerms-sound, sameTerms-differ, join-nil, join-one, count-join, head-same, tail-same, nil-cons, none-some, some-same, behind-sound, behind-complete}
+use borrow.Author.Tests.{eqb-true}
+use Rattle.term.proofs.SameParts.{terms-equal}
+use Rattle.anti_pattern.proofs.Facts.{eqb-same, sameTerms-differ, join-nil, join-one, count-join, head-same, tail-same, nil-cons, none-some, some-same, behind-sound, behind-complete}
 
 -- of the lengths at the variables vs, the first that differ are smaller in a than in b
 abbrev pub Before : List ℕ → Assignment → Assignment → Type 0
@@ -139,7 +141,7 @@ module _ (e : Env) (v at : ℕ) (w : Terms) (k : Next) (vs : List ℕ) (K : Assi
       → Best (e .value) (v ∷ vs) (λ b. ((b v ≡ some w) × K b) × C b) (ifSome (cond m (some e) none) (λ f. k f put) .out)
   name-kept x true h q =
       best-iff (λ b y. ((y .0, y .1 .0), y .1 .1)) (λ b y. (y .0 .0, (y .0 .1, y .1)))
-      (kept-best (e .value) v w vs (λ b. K b × C b) (q ∙ ap some (sameTerms-sound x w h)) (l e put C p))
+      (kept-best (e .value) v w vs (λ b. K b × C b) (q ∙ ap some (terms-equal x w h)) (l e put C p))
   name-kept x false h q =
       no-candidate (λ b s. sameTerms-differ x w h
       (some-same (sym (extends-at (e .value) b (v ∷ vs) v x q (s .extends)) ∙ s .meets .0 .0)))

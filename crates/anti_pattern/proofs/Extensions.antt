@@ -9,7 +9,8 @@ use Rattle.term.specs.Term.{Terms}
 use Rattle.anti_pattern.specs.Meaning.{Assignment, ExtendsAt, Extends}
 use Rattle.anti_pattern.specs.Search.{update}
 use Rattle.anti_pattern.specs.Variables.{among}
-use Rattle.anti_pattern.proofs.Facts.{eqb-true, eqb-same}
+use borrow.Author.Tests.{eqb-true}
+use Rattle.anti_pattern.proofs.Facts.{eqb-same}
 
 pub extends-refl : (a : Assignment) → Extends a [] a
 unfolding Extends

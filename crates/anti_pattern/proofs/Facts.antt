@@ -1,55 +1,22 @@
--- Laws of tests, of equal terms, and of sequences of terms.
+-- Laws of equal terms, and of sequences of terms.
 use Prim.Native.Nat.{ℕ, suc, _+_}
 use mathlib.Core.Path.{_≡_, refl, sym, _∙_, ap, ap₂, subst}
-use mathlib.Core.Bool.{Bool, true, false, cond, _&&_, false≢true}
+use mathlib.Core.Bool.{Bool, true, false, cond, false≢true}
 use mathlib.Core.Option.{none, some}
 use native.Mathlib.Omega.{arith}
 use native.Mathlib.Nat.{zero-add, suc-add}
-use lib.Dec.{eqb, T, eqb→eq, eqb-refl}
+use lib.Dec.{eqb}
+use borrow.Author.Tests.{eq-eqb}
 use Rattle.term.specs.Same.{sameTerm, sameTerms}
-use Rattle.term.specs.Term.{Term, node, Terms, nil, _::_, _⧺_, count, single}
+use Rattle.term.specs.Term.{Term, Terms, nil, _::_, _⧺_, count, single}
+use Rattle.term.proofs.SameParts.{term-equal, same-term, same-terms}
 use Rattle.anti_pattern.specs.Search.{behind}
 
--- tests
-
-pub eqb-true : (m n : ℕ) → eqb m n ≡ true → m ≡ n
-eqb-true m n h = eqb→eq m n (subst T (sym h) tt)
-
-is-true : (b : Bool) → T b → b ≡ true
-is-true true h = refl
-is-true false h = absurd h
-
 pub eqb-same : (n : ℕ) → eqb n n ≡ true
-eqb-same n = is-true (eqb n n) (eqb-refl n)
-
-both-true : (a b : Bool) → (a && b) ≡ true → (a ≡ true) × (b ≡ true)
-both-true true b h = (refl, h)
-both-true false b h = absurd (false≢true h)
-
-mutual
-  pub sameTerm-sound : (t u : Term) → sameTerm t u ≡ true → t ≡ u
-  sameTerm-sound (node s ts) (node r us) h =
-      let p = both-true (eqb s r) (sameTerms ts us) h in
-      ap₂ node (eqb-true s r (p .0)) (sameTerms-sound ts us (p .1))
-
-  pub sameTerms-sound : (ts us : Terms) → sameTerms ts us ≡ true → ts ≡ us
-  sameTerms-sound nil nil h = refl
-  sameTerms-sound nil (u :: us) h = absurd (false≢true h)
-  sameTerms-sound (t :: ts) nil h = absurd (false≢true h)
-  sameTerms-sound (t :: ts) (u :: us) h =
-      let p = both-true (sameTerm t u) (sameTerms ts us) h in
-      ap₂ _::_ (sameTerm-sound t u (p .0)) (sameTerms-sound ts us (p .1))
-
-mutual
-  pub sameTerm-same : (t : Term) → sameTerm t t ≡ true
-  sameTerm-same (node s ts) = rw (eqb-same s) (sameTerms-same ts)
-
-  pub sameTerms-same : (ts : Terms) → sameTerms ts ts ≡ true
-  sameTerms-same nil = refl
-  sameTerms-same (t :: ts) = rw (sameTerm-same t) (sameTerms-same ts)
+eqb-same n = eq-eqb n n refl
 
 pub sameTerms-differ : (ts us : Terms) → sameTerms ts us ≡ false → ts ≡ us → ⊥
-sameTerms-differ ts us h p = false≢true (sym h ∙ subst (λ (x : Terms). sameTerms ts x ≡ true) p (sameTerms-same ts))
+sameTerms-differ ts us h p = false≢true (sym h ∙ subst (λ (x : Terms). sameTerms ts x ≡ true) p (same-terms ts))
 
 -- sequences
 
@@ -88,10 +55,10 @@ behind-sound (x :: w) (t :: ts) us h = go (sameTerm x t) refl h (behind-sound w 
   where
     go : (m : Bool) → sameTerm x t ≡ m → cond m (behind w ts) none ≡ some us → (behind w ts ≡ some us → ts ≡ w ⧺ us)
         → t :: ts ≡ x :: (w ⧺ us)
-    go true e h r = ap₂ _::_ (sym (sameTerm-sound x t e)) (r h)
+    go true e h r = ap₂ _::_ (sym (term-equal x t e)) (r h)
     go false e h r = absurd (none-some h)
 
 pub behind-complete : (w us : Terms) → behind w (w ⧺ us) ≡ some us
 unfolding behind
 behind-complete nil us = refl
-behind-complete (x :: w) us = rw (sameTerm-same x) (behind-complete w us)
+behind-complete (x :: w) us = rw (same-term x) (behind-complete w us)

@@ -15,7 +15,8 @@ use Rattle.anti_pattern.specs.Order.{lengthOf, runLengths, Smaller}
 use Rattle.anti_pattern.specs.Search.{Env, start, found, failed, whole}
 use Rattle.anti_pattern.specs.Variables.{vars, varsAll, free, among, runs, runsAll, without, firsts, freeRuns}
 use Rattle.anti_pattern.proofs.Correct.{Before, Best, least, no-candidate, level-best}
-use Rattle.anti_pattern.proofs.Facts.{eqb-true, head-same, tail-same}
+use borrow.Author.Tests.{eqb-true}
+use Rattle.anti_pattern.proofs.Facts.{head-same, tail-same}
 
 -- the comparison at all places is the comparison at the run names' first places
 

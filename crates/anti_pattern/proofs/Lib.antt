@@ -16,3 +16,4 @@ pub mod Published
 pub mod OverTable
 pub mod Crossed
 pub mod Demands
+pub mod Each

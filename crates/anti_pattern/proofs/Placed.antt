@@ -17,7 +17,8 @@ use Rattle.anti_pattern.specs.Meaning.{Assignment, ExtendsAt, Extends, H
 use Rattle.anti_pattern.specs.Place.{past, assigned, place, placeAll, partOf, orAbsent, partAt, eachFrom, partsAt}
 use Rattle.anti_pattern.specs.Search.{Env, bind, start, Outcome, found, failed, Result, ifTrue, ifSome, after, Deferred, Next, refuted, finish, sameOr, lengths, behind, tryRun, search, searches, whole}
 use Rattle.anti_pattern.specs.Variables.{vars, varsAll, free, among}
-use Rattle.anti_pattern.proofs.Facts.{eqb-true, eqb-same, join-nil, join-one, none-some, behind-sound}
+use borrow.Author.Tests.{eqb-true}
+use Rattle.anti_pattern.proofs.Facts.{eqb-same, join-nil, join-one, none-some, behind-sound}
 use Rattle.anti_pattern.proofs.First.{found-first}
 
 failed-found : {e : Env} → failed ≡ found e → ⊥

@@ -21,7 +21,8 @@ use Rattle.anti_pattern.specs.Search.{Env, Outcome, found, failed, whole
 use Rattle.anti_pattern.specs.Variables.{vars, varsAll, free, among, runs, runsAll, firsts}
 use Rattle.anti_pattern.proofs.Answers.{none-exactly, bound-exactly}
 use Rattle.anti_pattern.proofs.Extensions.{extends-at}
-use Rattle.anti_pattern.proofs.Facts.{eqb-true, eqb-same, head-same, none-some, some-same}
+use borrow.Author.Tests.{eqb-true}
+use Rattle.anti_pattern.proofs.Facts.{eqb-same, head-same, none-some, some-same}
 use Rattle.anti_pattern.proofs.First.{found-first, failed-none, equal-lengths, one-first}
 use Rattle.anti_pattern.proofs.Renamed.{member}
 use Rattle.anti_pattern.proofs.Taken.{Fits, FitAll, ground-there, ground-fits, ground-none, free-occurs}

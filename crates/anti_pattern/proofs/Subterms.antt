@@ -11,7 +11,7 @@ use Rattle.term.specs.Term.{Term, node, Terms, nil, _::_, _⧺_}
 use Rattle.anti_pattern.specs.Meaning.{Assignment, Holds, HoldAll}
 use Rattle.anti_pattern.specs.Subterm.{Each, Subterm, SubtermIn, OverTable, AllOverTable}
 use Rattle.anti_pattern.specs.Variables.{vars, varsAll, free, among}
-use Rattle.anti_pattern.proofs.Facts.{eqb-true}
+use borrow.Author.Tests.{eqb-true}
 
 each-map : (G H : Term → Type 0) → ((u : Term) → G u → H u) → (ts : Terms) → Each G ts → Each H ts
 each-map G H f nil h = tt

@@ -23,6 +23,10 @@ use Rattle.term.proofs.Sizes.{branch-length, more-length, term-size}
 module _ (table : List ℕ) where
   -- bytes
 
+  pub entry-symbol : (s : ℕ) → s < length table → entryOf table s ≡ getD table s 0
+  unfolding entryOf
+  entry-symbol s h = rw (lt-ltb s (length table) h)
+
   pub span-none : (s : List ℕ) → spanOf table s false 0 ≡ 0
   unfolding spanOf
   span-none [] = refl
@@ -104,10 +108,6 @@ Says true entry n = entry ≡ 255
 Says false entry n = (entry ≡ n) × (entry ≡ 255 → ⊥)
 
 module _ (table : List ℕ) (small : length table ≤ 200) where
-  entry-symbol : (s : ℕ) → s < length table → entryOf table s ≡ getD table s 0
-  unfolding entryOf
-  entry-symbol s h = rw (lt-ltb s (length table) h)
-
   entry-variable : (v : ℕ) → v < 48 → entryOf table (200 + v) ≡ 0
   unfolding entryOf
   entry-variable v h = rw (le-ltb (200 + v) (length table) (omega arith), ne-eqb (200 + v) 248 (λ e. omega arith))
@@ -117,8 +117,8 @@ module _ (table : List ℕ) (small : length table ≤ 200) where
   entry-complement = rw (le-ltb 248 (length table) (omega arith))
 
   says-symbol : (s n : ℕ) (l : Bool) → isList table s ≡ l → s < length table → Counted l n (getD table s 0) → Says l (entryOf table s) n
-  says-symbol s n true e h k = entry-symbol s h ∙ eqb-true (getD table s 0) 255 e
-  says-symbol s n false e h k = (entry-symbol s h ∙ sym k, λ z. eqb-false (getD table s 0) 255 e (sym (entry-symbol s h) ∙ z))
+  says-symbol s n true e h k = entry-symbol table s h ∙ eqb-true (getD table s 0) 255 e
+  says-symbol s n false e h k = (entry-symbol table s h ∙ sym k, λ z. eqb-false (getD table s 0) 255 e (sym (entry-symbol table s h) ∙ z))
 
   entry-says : (records inList : Bool) (c : Code) (n : ℕ) → Written records c → Shape table inList c n → Says (listCode table c) (entryOf table (byteOf c)) n
   unfolding Written Shape listCode byteOf

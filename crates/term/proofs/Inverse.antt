@@ -4,22 +4,20 @@ use native.Mathlib.Omega.{arith}
 use native.Mathlib.Nat.{le-refl}
 use mathlib.Core.Path.{_≡_, refl, sym, ap, ap₂, subst, fun-ext, _∙_}
 use mathlib.Core.List.{List, [], _∷_}
-use mathlib.Core.Bool.{Bool, true, false, cond}
+use mathlib.Core.Bool.{Bool, false}
 use mathlib.Core.Logic.{_↔_}
 use lib.ListN.{length, getD, drop, length-drop}
 use lib.Seq.{drop-drop, drop-length, drop-at, getD-drop}
 use lib.Dec.{leb, eqb}
 use borrow.Author.Tests.{eqb-true, leb-true, le-leb, eq-eqb}
-use Rattle.term.specs.Code.{codeIn, byteOf}
+use Rattle.term.specs.Code.{codeIn}
 use Rattle.term.specs.Tree.{Tree, Trees, branch, empty, more, number, listCode, own, encode, encodes}
 use Rattle.term.specs.Limits.{Written, Shape, belowOf, Fits, FitAll, longest, Octets, Accepted}
 use Rattle.term.specs.Node.{nodeAt}
 use Rattle.term.specs.Reading.{Answer, refused, read, join, chain, readAll, grow, enter, readBy, readTree, whole, readWhole}
 use Rattle.term.specs.declared.Code.{Code}
-use Rattle.term.specs.declared.Node.{Node}
-use Rattle.term.specs.declared.Node.the-variants.{Open}
 use Rattle.term.specs.declared.Refusal.the-variants.{Short}
-use Rattle.term.proofs.Answers.{cond-all, Opened, Got, opened-map, got-map, got-enter, got-chain, enter-same}
+use Rattle.term.proofs.Answers.{cond-all, Got, opened-map, got-map, got-enter, got-chain, enter-same}
 use Rattle.term.proofs.Codes.{code-back}
 use Rattle.term.proofs.Sizes.{encode-append, branch-length, more-length}
 use Rattle.term.proofs.Nodes.{ownSize, own-first, own-past, own-size, node-complete, NodeSound, sound-node}

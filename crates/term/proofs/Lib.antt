@@ -9,3 +9,4 @@ pub mod Nodes
 pub mod Inverse
 pub mod Typed
 pub mod Steps
+pub mod Joins

@@ -3,14 +3,14 @@ use Prim.Native.Nat.{ℕ, zero, suc, _+_, _-_, _≤_, _<_}
 use native.Mathlib.Omega.{arith}
 use native.Mathlib.Numerals.{sub-one}
 use mathlib.Core.Path.{_≡_, refl, sym, ap, _∙_}
-use mathlib.Core.List.{List, []}
+use mathlib.Core.List.{List}
 use mathlib.Core.Bool.{Bool, true, false, cond}
 use lib.ListN.{length, getD, drop, take, length-drop}
 use lib.Seq.{take-all}
 use lib.Dec.{eqb}
 use borrow.Author.Tests.{le-leb, lt-leb, eq-eqb, ne-eqb}
 use Rattle.term.specs.Code.{codeIn}
-use Rattle.term.specs.Tree.{Tree, Trees, own, encode, encodes}
+use Rattle.term.specs.Tree.{Tree, Trees}
 use Rattle.term.specs.Limits.{longest}
 use Rattle.term.specs.Node.{nodeAt}
 use Rattle.term.specs.Reading.{Answer, refused, read, shown, join, chain, readAll, grow, enter, readTree, whole, readWhole}

@@ -1,0 +1,239 @@
+-- The answer on accepted input meets demands 2 and 3.
+use Prim.Native.Nat.{ℕ, _+_, _-_, _<_, _≤_}
+use native.Mathlib.Omega.{arith}
+use mathlib.Core.Path.{_≡_, refl, sym, _∙_, ap, ap₂, subst}
+use mathlib.Core.List.{List, [], _∷_, _++_}
+use mathlib.Core.Bool.{Bool, true, false, cond}
+use mathlib.Core.Option.{Option, some}
+use lib.ListN.{length, getD, take, drop}
+use lib.Dec.{eqb}
+use borrow.Author.Tests.{eqb-true}
+use Rattle.term.specs.Term.{Term, Terms, count, sizes}
+use Rattle.term.specs.Pattern.{Pattern, Children, name, symbol, complement, end, plain, run, patternTree, childTrees}
+use Rattle.term.specs.Limits.{Written, belowOf, Fits, FitAll, Octets}
+use Rattle.term.specs.Part.{part, absent}
+use Rattle.term.specs.Tree.{listCode}
+use Rattle.term.specs.declared.Code.the-variants.{Symbol}
+use Rattle.term.specs.declared.Part.{Part}
+use Rattle.term.proofs.Sizes.{terms-sizes, take-terms}
+use Rattle.anti_pattern.specs.Answer.{Answer as Outcome, bound, nothing, spent, parts, countOf, shown, answer}
+use Rattle.anti_pattern.specs.Demands.{First, AnswerExact}
+use Rattle.anti_pattern.specs.Meaning.{Assignment, Satisfies}
+use Rattle.anti_pattern.specs.Meter.{Metered, met, metered}
+use Rattle.anti_pattern.specs.Place.{partOf, orAbsent, partAt, partsAt, eachVariable}
+use Rattle.anti_pattern.specs.Published.{NoRuns, assignment}
+use Rattle.anti_pattern.specs.Search.{Env, Outcome as Ended, found, failed, whole}
+use Rattle.anti_pattern.specs.Variables.{vars, varsAll, free, among}
+use Rattle.anti_pattern.proofs.Allowance.{answer-over, answer-within}
+use Rattle.anti_pattern.proofs.Demands.{search-decides, parts-shown, answer-exact, published-agrees, published-answer}
+use Rattle.anti_pattern.proofs.Metering.{meter-within}
+use Rattle.search.specs.Level.{searchOf}
+use Rattle.search.specs.declared.Reply.{Reply}
+use Rattle.matcher.specs.Call.{answerNumber, answerCount, Input, Checked, trees, checked, told, answerBy, answerOf, numbers, written, bufferBy, bufferOf}
+use Rattle.matcher.specs.Demands.{offsetIn, lengthIn, Shows, Answered, Published}
+use Rattle.matcher.specs.Represents.{Shown, Agrees, is-found}
+use Rattle.matcher.proofs.Buffers.{offset-shown, length-shown}
+use Rattle.matcher.proofs.Checks.{input-checked}
+use Rattle.anti_pattern.proofs.Each.{each-at}
+use Rattle.matcher.proofs.Linked.{whole-agrees}
+
+-- the free variables of an accepted pattern are among the 48
+
+first-below : (u v : ℕ) (vs : List ℕ) → u < 48 → (among v vs ≡ true → v < 48) → among v (u ∷ vs) ≡ true → v < 48
+first-below u v vs low k = go (eqb u v) refl
+  where
+    go : (b : Bool) → eqb u v ≡ b → cond b true (among v vs) ≡ true → v < 48
+    go true e h = omega (arith, eqb-true u v e)
+    go false e h = k h
+
+mutual
+  unfolding Fits Written
+
+  vars-below : (table : List ℕ) (q : Pattern) (left : ℕ) (inList : Bool) → Fits table false (patternTree q) left inList
+      → (v : ℕ) (vs : List ℕ) → (among v vs ≡ true → v < 48) → among v (vars q vs) ≡ true → v < 48
+  vars-below table (name u) left inList f v vs k h = first-below u v vs (omega (arith, f .1)) k h
+  vars-below table (symbol s qs) left inList f v vs k h = all-below table qs (belowOf (Symbol s) left) (listCode table (Symbol s)) (f .3) v vs k h
+  vars-below table (complement q) left inList f v vs k h = k h
+
+  all-below : (table : List ℕ) (qs : Children) (left : ℕ) (inList : Bool) → FitAll table false (childTrees qs) left inList
+      → (v : ℕ) (vs : List ℕ) → (among v vs ≡ true → v < 48) → among v (varsAll qs vs) ≡ true → v < 48
+  all-below table end left inList f v vs k h = k h
+  all-below table (plain q qs) left inList f v vs k h =
+      vars-below table q left inList (f .0) v (varsAll qs vs) (all-below table qs left inList (f .1) v vs k) h
+  all-below table (run u qs) left inList f v vs k h =
+      first-below u v (varsAll qs vs) (f .0 .1 .1) (all-below table qs left inList (f .1) v vs k) h
+
+-- what the search finds is shown
+
+module _ (table pattern bytes : List ℕ) (q : Pattern) (t : Term) (i : Input table pattern bytes q t) (e : Env) (o : whole table q t .out ≡ found e)
+    (ps : List Part) (h : Shown table bytes ps e) (rest : List ℕ) where
+  satisfies : Satisfies q t (e .value)
+  satisfies = search-decides table q t .found-first e o .satisfies
+
+  below : (v : ℕ) → among v (free q) ≡ true → v < 48
+  below v m =
+      vars-below table q 32 false (i .pattern-accepted .fits) v []
+      (λ k. let z : _≡_ {A = ℕ} 0 1 = ap (λ (b : Bool). cond b 1 0) k in absurd (omega arith)) m
+
+  -- the pair of a variable, by what is assigned to it and by its first place
+  pair-is : (v : ℕ) → v < 48 → (p : Part) → getD (parts table e) v (part 0 0 0) ≡ p
+      → (offsetIn (numbers (parts table e) ++ rest) v ≡ p .offset) × (lengthIn (numbers (parts table e) ++ rest) v ≡ p .length)
+  pair-is v low p z = (
+    offset-shown (parts table e) rest v low ∙ ap (λ (x : Part). x .offset) z,
+    length-shown (parts table e) rest v low ∙ ap (λ (x : Part). x .length) z,
+  )
+
+  each-is : (f : ℕ → Part) (v : ℕ) → v < 48 → parts table e ≡ eachVariable f → getD (parts table e) v (part 0 0 0) ≡ f v
+  each-is f v low z =
+      let k : 0 + v ≡ v = omega arith in
+      ap (λ (l : List Part). getD l v (part 0 0 0)) z ∙ each-at f 0 48 v low ∙ ap f k
+
+  value-pair : (v : ℕ) (w : Terms) → v < 48 → e .value v ≡ some w
+      → (offsetIn (numbers (parts table e) ++ rest) v ≡ e .offset v) × (lengthIn (numbers (parts table e) ++ rest) v ≡ sizes table w)
+  value-pair v w low z =
+      pair-is v low (part (e .offset v) (sizes table w) (count w))
+      (each-is (λ u. partOf table (e .value u) (e .offset u)) v low refl ∙ ap (λ (x : Option Terms). partOf table x (e .offset v)) z)
+
+  place-pair : (v : ℕ) → v < 48 → (p : Part) → partAt table q t (e .value) v ≡ p
+      → (offsetIn (numbers (parts table e) ++ rest) v ≡ p .offset) × (lengthIn (numbers (parts table e) ++ rest) v ≡ p .length)
+  place-pair v low p z = pair-is v low p (each-is (partAt table q t (e .value)) v low (parts-shown table q t .shown-at-first-place e o) ∙ z)
+
+  env-shown : Shows table bytes q t (e .value) (numbers (parts table e) ++ rest)
+  env-shown = record {
+    first-place = λ v m.
+        let f = parts-shown table q t .free-placed (e .value) satisfies v m in
+        f .2 ∙ ap some (sym (place-pair v (below v m) (part (f .0) (sizes table (f .1)) (count (f .1)))
+        (ap₂ (λ (x : Option ℕ) (y : Option Terms). orAbsent x (partOf table y)) (f .2) (f .3)) .0));
+    value-length = λ v w m z. value-pair v w (below v m) z .1 ∙ sym (terms-sizes table w);
+    value-bytes = λ v w m z.
+        let p = value-pair v w (below v m) z in
+        let s = h .stands v w z in
+        ap₂ (λ (n at : ℕ). take n (drop at bytes)) (p .1) (p .0) ∙ ap (take (sizes table w)) (s .stands) ∙ take-terms table w (s .after);
+    absent-mark = λ v low m. place-pair v low absent (parts-shown table q t .others-absent (e .value) satisfies v m);
+  }
+
+-- the number of what is told says which it is
+
+spent-told : (o : Outcome) → answerNumber (told o) ≡ 11 → (n : ℕ) × (o ≡ spent n)
+spent-told (bound ps n) h = absurd (omega arith)
+spent-told (nothing n) h = absurd (omega arith)
+spent-told (spent n) h = (n, refl)
+
+none-told : (o : Outcome) → answerNumber (told o) ≡ 10 → (n : ℕ) × (o ≡ nothing n)
+none-told (bound ps n) h = absurd (omega arith)
+none-told (nothing n) h = (n, refl)
+none-told (spent n) h = absurd (omega arith)
+
+bound-told : (o : Outcome) → answerNumber (told o) ≡ 0 → (ps : List Part) × (n : ℕ) × (o ≡ bound ps n)
+bound-told (bound ps n) h = (ps, n, refl)
+bound-told (nothing n) h = absurd (omega arith)
+bound-told (spent n) h = absurd (omega arith)
+
+-- a bound answer has the parts of what the search finds
+pub bound-found : (table : List ℕ) (q : Pattern) (t : Term) (allowance : ℕ) (ps : List Part) (n : ℕ) → answer table q t allowance ≡ bound ps n
+    → (countOf table q t ≤ allowance) × ((e : Env) × (whole table q t .out ≡ found e) × (ps ≡ parts table e))
+bound-found table q t allowance ps n h =
+    let c = answer-exact table q t allowance .bound-exactly ps n .0 h in
+    (c .1, go (whole table q t .out) refl (sym (answer-within table q t allowance (c .1)) ∙ h))
+  where
+    go : (o : Ended) → whole table q t .out ≡ o → shown table o (countOf table q t) ≡ bound ps n
+        → (e : Env) × (whole table q t .out ≡ found e) × (ps ≡ parts table e)
+    go (found e) z h = (e, z, cc)
+    go failed z h = let z : _≡_ {A = ℕ} 0 1 = cc in absurd (omega arith)
+
+shown-by : {table bytes : List ℕ} {e : Env} {left : ℕ} {r : Reply} → Agrees table bytes (met e left) r → Shown table bytes (r .parts) e
+shown-by (is-found h) = h
+
+module _ (table pattern bytes : List ℕ) (q : Pattern) (t : Term) (i : Input table pattern bytes q t) (allowance : ℕ) where
+  found-shown : (e : Env) → countOf table q t ≤ allowance → whole table q t .out ≡ found e
+      → Shown table bytes (searchOf table pattern bytes allowance .parts) e
+  found-shown e within o =
+      shown-by (subst (λ (m : Metered). Agrees table bytes m (searchOf table pattern bytes allowance))
+      (meter-within allowance (whole table q t) within ∙ ap (λ (x : Ended). metered true x (allowance - countOf table q t)) o)
+      (whole-agrees table pattern bytes q t i allowance))
+
+  bound-shows : (before : List ℕ) → answerNumber (told (answer table q t allowance)) ≡ 0
+      → (x : Assignment) × First q t x × Shows table bytes q t x (written (answer table q t allowance) before)
+  bound-shows before h =
+      let b = bound-told (answer table q t allowance) h in
+      let f = bound-found table q t allowance (b .0) (b .1) (b .2) in
+      let e = f .1 .0 in
+      let z : answer table q t allowance ≡ bound (parts table e) (b .1) = b .2 ∙ ap (λ (ps : List Part). bound ps (b .1)) (f .1 .2) in (
+        e .value,
+        search-decides table q t .found-first e (f .1 .1),
+        subst (Shows table bytes q t (e .value)) (ap (λ (o : Outcome). written o before) (sym z))
+            (env-shown table pattern bytes q t i e (f .1 .1) _ (found-shown e (f .0) (f .1 .1)) (drop 96 before)),
+      )
+
+  count-told : (o : Ended) (n : ℕ) → answerCount (told (shown table o n)) ≡ n
+  count-told (found e) n = refl
+  count-told failed n = refl
+
+  module _ (before : List ℕ) (pattern-octets : Octets pattern) (record-octets : Octets bytes) (wide : 96 ≤ length before) where
+    pub same-call : (more : ℕ) → answer table q t more ≡ answer table q t allowance
+        → (answerOf table pattern bytes more (length before) ≡ told (answer table q t allowance))
+        × (bufferOf table pattern bytes more before ≡ written (answer table q t allowance) before)
+    unfolding answerOf bufferOf
+    same-call more z =
+        let c : checked table pattern bytes (length before) ≡ trees q t =
+        input-checked table pattern bytes (length before) pattern-octets record-octets q t wide i in (
+          ap (λ (x : Checked). answerBy x table more) c ∙ ap told z,
+          ap (λ (x : Checked). bufferBy x table more before) c
+              ∙ ap (λ (o : Outcome). written o before) z,
+        )
+
+    pub answered : Answered table pattern bytes before allowance q t (told (answer table q t allowance)) (written (answer table q t allowance) before)
+    answered = record {
+      spent-exactly = (
+        λ h. let s = spent-told (answer table q t allowance) h in exact .spent-exactly (s .0) .0 (s .1) .1,
+        λ h. ap (λ (o : Outcome). answerNumber (told o)) (exact .spent-exactly allowance .1 (refl, h)),
+      );
+      spent-shows = λ h. ap (λ (o : Outcome). answerCount (told o)) (answer-over table q t allowance h);
+      shows-count = λ h. ap (λ (o : Outcome). answerCount (told o)) (answer-within table q t allowance h)
+          ∙ count-told (whole table q t .out) (countOf table q t);
+      none-exactly = (
+        λ h.
+            let s = none-told (answer table q t allowance) h in
+            let b = exact .none-exactly (s .0) .0 (s .1) in
+            (b .1, b .2),
+        λ h. ap (λ (o : Outcome). answerNumber (told o)) (exact .none-exactly (countOf table q t) .1 (refl, h .0, h .1)),
+      );
+      bound-exactly = (
+        λ h.
+            let s = bound-told (answer table q t allowance) h in
+            let b = exact .bound-exactly (s .0) (s .1) .0 (s .2) in
+            (b .1, (b .2 .0, b .2 .1)),
+        λ h. ap (λ (o : Outcome). answerNumber (told o))
+            (exact .bound-exactly (partsAt table q t (h .1 .0)) (countOf table q t) .1 (refl, h .0, (h .1 .0, h .1 .1, refl))),
+      );
+      bound-shows = bound-shows before;
+      larger-allowance = λ more h k. same-call more (exact .larger-allowance more h k);
+    }
+      where
+        exact : AnswerExact table q t allowance
+        exact = answer-exact table q t allowance
+
+    pub published : (n : NoRuns q) → Published table bytes allowance q n t (told (answer table q t allowance)) (written (answer table q t allowance) before)
+    published n = record {
+      none-exactly = (
+        λ h. let s = none-told (answer table q t allowance) h in
+            let b = published-answer table q n t allowance .none-exactly (s .0) .0 (s .1) in
+            (b .1, b .2),
+        λ h. ap (λ (o : Outcome). answerNumber (told o)) (published-answer table q n t allowance .none-exactly (countOf table q t) .1 (refl, h .0, h .1)),
+      );
+      bound-exactly = (
+        λ h. let s = bound-told (answer table q t allowance) h in
+            let b = published-answer table q n t allowance .bound-exactly (s .0) (s .1) .0 (s .2) in
+            (b .1, (b .2 .0, b .2 .1)),
+        λ h. ap (λ (o : Outcome). answerNumber (told o))
+            (published-answer table q n t allowance .bound-exactly (partsAt table q t (assignment (h .1 .0))) (countOf table q t) .1
+            (refl, h .0, (h .1 .0, h .1 .1, refl))),
+      );
+      bound-shows = λ h.
+          let b = bound-shows before h in
+          let s = published-agrees table q n t .satisfying-substitution (b .0) (b .1 .satisfies) in (
+            s .0,
+            published-agrees table q n t .solution-satisfies (s .0) .1 (subst (Satisfies q t) (s .1) (b .1 .satisfies)),
+            subst (λ (x : Assignment). Shows table bytes q t x (written (answer table q t allowance) before)) (s .1) (b .2),
+          );
+    }

@@ -1,0 +1,99 @@
+-- The link: on accepted input the search on bytes is the search on trees.
+use Prim.Native.Nat.{ℕ, zero, suc, _+_, _-_, _≤_}
+use native.Mathlib.Omega.{arith}
+use mathlib.Core.Path.{_≡_, refl, sym, _∙_, ap}
+use mathlib.Core.List.{List, []}
+use mathlib.Core.Bool.{Bool, true, false, cond, false≢true}
+use lib.ListN.{length, replicate}
+use lib.Seq.{ext-getD}
+use lib.Dec.{leb}
+use borrow.Author.Tests.{leb-true, le-leb}
+use Rattle.term.specs.Table.{entriesAccepted, tableAccepted}
+use Rattle.term.specs.Tree.{Tree, empty, more}
+use Rattle.term.specs.Term.{Term, single}
+use Rattle.term.specs.Pattern.{Pattern, end, plain}
+use Rattle.term.specs.Limits.{Fits, Accepted}
+use Rattle.term.specs.Part.{part, absent}
+use Rattle.term.specs.declared.Part.{Part}
+use Rattle.anti_pattern.specs.Search.{Env, start, whole}
+use Rattle.anti_pattern.specs.Place.{partOf}
+use Rattle.anti_pattern.specs.Answer.{bound, parts, answer}
+use Rattle.anti_pattern.specs.Meter.{Metered, meter, answered}
+use Rattle.anti_pattern.proofs.Machinery.{machine-level}
+use Rattle.anti_pattern.proofs.Allowance.{answer-metered}
+use Rattle.anti_pattern.proofs.Each.{each-at}
+use Rattle.search.specs.Level.{startOf, levels, levelOf, searchOf}
+use Rattle.search.specs.declared.Outcome.{Outcome}
+use Rattle.search.specs.declared.Reply.{Reply}
+use Rattle.matcher.specs.Call.{Input}
+use Rattle.matcher.specs.Represents.{Limited, Shown, Represents, Agrees, is-found, is-failed, is-spent, repliedBy, replied}
+use Rattle.matcher.proofs.Parts.{shown-start}
+use Rattle.matcher.proofs.Levels.{carry, start-represents, Searches}
+use Rattle.matcher.proofs.Walks.{walk-goes}
+
+-- every level, with levels enough
+level-searches : (table : List ℕ) (small : length table ≤ 200) (bytes : List ℕ) (short : length bytes ≤ 4096) (n : ℕ)
+    → Searches table small bytes short n (levelOf n table bytes)
+unfolding levelOf
+level-searches table small bytes short zero pattern narrow s qs ts fs e ds left h few = absurd (omega arith)
+level-searches table small bytes short (suc n) pattern narrow s qs ts fs e ds left h few =
+    walk-goes table small bytes short n (levelOf n table bytes) (level-searches table small bytes short n) pattern narrow 1024 s qs ts fs e ds left h few
+    (omega (arith, h .here .depth, h .here .patterns-limited .deep))
+
+-- the parts of a reply are the parts of the answer
+
+pub shown-parts : (table bytes : List ℕ) (ps : List Part) (e : Env) → Shown table bytes ps e → parts table e ≡ ps
+shown-parts table bytes ps e h =
+    ext-getD (part 0 0 0) (parts table e) ps (sym (h .room))
+    (λ i k.
+    let z : 0 + i ≡ i = omega arith in
+    each-at (λ v. partOf table (e .value v) (e .offset v)) 0 48 i k
+    ∙ ap (λ (v : ℕ). partOf table (e .value v) (e .offset v)) z ∙ sym (h .shown i k))
+
+pub replied-by : (allowance : ℕ) (r : Reply) {o : Outcome} → r .outcome ≡ o → replied allowance r ≡ repliedBy o allowance (r .left) (r .parts)
+replied-by allowance r h = ap (λ (x : Outcome). repliedBy x allowance (r .left) (r .parts)) h
+
+answers : (table bytes : List ℕ) (allowance : ℕ) {m : Metered} {r : Reply} → Agrees table bytes m r → answered table allowance m ≡ replied allowance r
+answers table bytes allowance (is-found {e} {left} {parts} h) = ap (λ (ps : List Part). bound ps (allowance - left)) (shown-parts table bytes parts e h)
+answers table bytes allowance is-failed = refl
+answers table bytes allowance is-spent = refl
+
+table-short : (table : List ℕ) → tableAccepted table ≡ true → length table ≤ 200
+unfolding tableAccepted
+table-short table h = leb-true (length table) 200 (go (leb (length table) 200) h)
+  where
+    go : (b : Bool) → cond b (entriesAccepted table) false ≡ true → b ≡ true
+    go true e = refl
+    go false e = absurd (false≢true e)
+
+limited-whole : (table : List ℕ) (records : Bool) (t : Tree) → Accepted table records t → Limited table records 0 (more t empty)
+unfolding Fits
+limited-whole table records t a = record { left = 32; inList = false; deep = omega arith; fit = (a .fits, tt) }
+
+module _ (table pattern bytes : List ℕ) (q : Pattern) (t : Term) (i : Input table pattern bytes q t) (allowance : ℕ) where
+  narrow : length pattern ≤ 256
+  narrow = rw (i .pattern-bytes) at (i .pattern-accepted .short)
+
+  short : length bytes ≤ 4096
+  short = rw (i .record-bytes) at (i .record-accepted .short)
+
+  start-here : Represents table pattern bytes (startOf (replicate 48 absent) 0) (plain q end) (single t) [] start []
+  start-here =
+      start-represents table pattern bytes (replicate 48 absent) start q t 0 [] [] (sym (i .pattern-bytes)) (sym (i .record-bytes)) (omega arith)
+      (limited-whole table false _ (i .pattern-accepted)) (limited-whole table true _ (i .record-accepted)) (shown-start table bytes)
+
+  searched : searchOf table pattern bytes allowance ≡ levelOf (levels pattern 0) table bytes pattern (startOf (replicate 48 absent) 0) allowance
+  unfolding searchOf
+  searched = rw (le-leb (length pattern) 256 narrow, le-leb (length bytes) 4096 short)
+
+  -- the reply under an allowance is what the search on trees under it comes to
+  pub whole-agrees : Agrees table bytes (meter allowance (whole table q t)) (searchOf table pattern bytes allowance)
+  whole-agrees =
+      carry (ap (meter allowance) (machine-level table q t 0 start)) searched
+      (level-searches table (table-short table (i .table-accepted)) bytes short _ pattern narrow (startOf (replicate 48 absent) 0) (plain q end) (single t)
+      [] start []
+      allowance start-here (omega arith))
+
+  -- word, count and parts
+  pub linked : answer table q t allowance ≡ replied allowance (searchOf table pattern bytes allowance)
+  linked = answer-metered table q t allowance ∙ answers table bytes allowance whole-agrees

@@ -1,0 +1,151 @@
+-- Parts of the record: what they show, how a variable takes one, and when an assigned one stands at a place.
+use Prim.Native.Nat.{ℕ, _+_, _%_, _<_, _≤_}
+use native.Mathlib.Omega.{arith}
+use mathlib.Core.Path.{_≡_, refl, sym, _∙_, ap, ap₂, subst}
+use mathlib.Core.List.{List, [], _++_}
+use mathlib.Core.Bool.{Bool, true, false, cond, _&&_}
+use mathlib.Core.Option.{none, some}
+use lib.ListN.{length, getD, drop, take, set, replicate, length-set, length-replicate, getD-replicate, take-append-drop}
+use lib.Seq.{getD-set-same, getD-set-other}
+use lib.Dec.{eqb, leb}
+use borrow.Author.Tests.{eqb-true, eqb-false, leb-true, le-leb, ne-eqb}
+use Rattle.term.specs.Term.{Term, Terms, nil, _::_, _⧺_, count, single, sizes, termTrees, termsBytes}
+use Rattle.term.specs.Same.{sameTerms, samePart}
+use Rattle.term.specs.Limits.{FitAll}
+use Rattle.term.specs.Part.{part, absent, isAbsent, boundPart, partBytes}
+use Rattle.term.specs.declared.Part.{Part}
+use Rattle.term.proofs.Sizes.{encodes-append, terms-length, take-terms}
+use Rattle.term.proofs.SameParts.{same-refl, same-equal, run-of-count, terms-equal, and-true}
+use Rattle.anti_pattern.specs.Search.{Env, bind, start, behind}
+use Rattle.anti_pattern.specs.Place.{partOf}
+use Rattle.anti_pattern.proofs.Facts.{count-join, none-some, some-same, head-same, tail-same, behind-sound, behind-complete}
+use Rattle.search.specs.State.{standsOf}
+use Rattle.matcher.specs.Represents.{Stands, Shown}
+use Rattle.term.proofs.Joins.{bytes-join, fit-split}
+use Rattle.matcher.proofs.Places.{within-terms}
+
+-- tests
+
+is-false : (b : Bool) → (b ≡ true → ⊥) → b ≡ false
+is-false true h = absurd (h refl)
+is-false false h = refl
+
+-- sequences
+
+-- as many elements from the start of a sequence
+cut : (w ts : Terms) → count w ≤ count ts → (x : Terms) × (us : Terms) × (ts ≡ x ⧺ us) × (count w ≡ count x)
+cut nil ts h = (nil, ts, refl, refl)
+cut (t :: w) nil h = absurd (omega arith)
+cut (t :: w) (u :: ts) h = let r = cut w ts (omega arith) in (u :: r .0, r .1, ap (u ::_) (r .2), omega (arith, r .3))
+
+one-term : (w : Terms) → count w ≡ 1 → (t : Term) × (w ≡ single t)
+one-term nil h = absurd (omega arith)
+one-term (t :: nil) h = (t, refl)
+one-term (t :: (u :: w)) h = absurd (omega arith)
+
+module _ (w : Terms) (t : Term) (ts : Terms) where
+  pub one-behind : (us : Terms) → count w ≡ 1 → behind w (t :: ts) ≡ some us → (w ≡ single t) × (ts ≡ us)
+  one-behind us h b =
+      let o = one-term w h in
+      let z : t :: ts ≡ o .0 :: us = behind-sound w (t :: ts) us b ∙ ap (λ (x : Terms). x ⧺ us) (o .1) in
+      (o .1 ∙ ap single (sym (head-same z)), tail-same z)
+
+  pub none-behind : behind w (t :: ts) ≡ none → sameTerms w (single t) ≡ false
+  none-behind b =
+      is-false (sameTerms w (single t))
+      (λ e. none-some (sym b ∙ ap (λ (x : Terms). behind x (t :: ts)) (terms-equal w (single t) e) ∙ behind-complete (single t) ts))
+
+-- parts
+
+module _ (table bytes : List ℕ) where
+  pub part-bytes : (at : ℕ) (w : Terms) → Stands table bytes at w → partBytes bytes (part at (sizes table w) (count w)) ≡ termsBytes table w []
+  unfolding partBytes
+  part-bytes at w s =
+      rw (le-leb (at + sizes table w) (length bytes) (within-terms table bytes at w (s .after) (s .within) (s .stands)), s .stands)
+      (take-terms table w (s .after))
+
+  -- an assigned run, and the elements ts that come next
+  module _ (at : ℕ) (w ts : Terms) (after : List ℕ) (s : Stands table bytes at w) where
+    pub assigned-stands : (us : Terms) → behind w ts ≡ some us
+        → (leb (count w) (count ts) && standsOf bytes (part at (sizes table w) (count w)) (termsBytes table ts after)) ≡ true
+    unfolding standsOf
+    assigned-stands us b =
+        let z : ts ≡ w ⧺ us = behind-sound w ts us b in
+        let r : termsBytes table ts after ≡ termsBytes table w (termsBytes table us after) =
+        ap (λ (x : Terms). termsBytes table x after) z ∙ bytes-join table w us after in
+        rw (
+          le-leb (count w) (count ts) (omega (arith, ap count z, count-join w us)),
+          r,
+          le-leb (sizes table w) (length (termsBytes table w (termsBytes table us after)))
+              (omega (arith, terms-length table w (termsBytes table us after))),
+          part-bytes at w s,
+          take-terms table w (termsBytes table us after),
+        ) (same-refl (termsBytes table w []))
+
+    pub assigned-differs : (left : ℕ) (inList : Bool) → FitAll table true (termTrees ts) left inList → behind w ts ≡ none
+        → (leb (count w) (count ts) && standsOf bytes (part at (sizes table w) (count w)) (termsBytes table ts after)) ≡ false
+    unfolding standsOf
+    assigned-differs left inList f b = is-false _ (λ e. none-some (sym b ∙ ap (behind w) (stood e .1) ∙ behind-complete w (stood e .0)))
+      where
+        stood : (leb (count w) (count ts) && (leb (sizes table w) (length (termsBytes table ts after))
+            && samePart (partBytes bytes (part at (sizes table w) (count w))) (take (sizes table w) (termsBytes table ts after)))) ≡ true
+            → (us : Terms) × (ts ≡ w ⧺ us)
+        stood e =
+            let a = and-true (leb (count w) (count ts)) _ e in
+            let d = and-true (leb (sizes table w) (length (termsBytes table ts after))) _ (a .1) in
+            let c = cut w ts (leb-true (count w) (count ts) (a .0)) in
+            let r = drop (sizes table w) (termsBytes table ts after) in
+            let x : termsBytes table w [] ≡ take (sizes table w) (termsBytes table ts after) = sym (part-bytes at w s) ∙ same-equal _ _ (d .1) in
+            let y : termsBytes table w r ≡ termsBytes table (c .0) (termsBytes table (c .1) after) =
+            encodes-append table (termTrees w) [] r ∙ ap (λ (l : List ℕ). l ++ r) x ∙ take-append-drop (sizes table w) (termsBytes table ts after)
+            ∙ ap (λ (u : Terms). termsBytes table u after) (c .2) ∙ bytes-join table (c .0) (c .1) after in
+            let g = fit-split table true (c .0) (c .1) left inList (subst (λ (u : Terms). FitAll table true (termTrees u) left inList) (c .2) f) in
+            let z : w ≡ c .0 =
+            run-of-count table w (c .0) (s .limited .left) left (s .limited .inList) inList (s .limited .fit) (g .0) r (termsBytes table (c .1) after)
+            (c .3) y in
+            (c .1, c .2 ∙ ap (λ (u : Terms). u ⧺ c .1) (sym z))
+
+  module _ (short : length bytes ≤ 4096) where
+    pub assigned-present : (at : ℕ) (w : Terms) → Stands table bytes at w → isAbsent (part at (sizes table w) (count w)) ≡ false
+    assigned-present at w s = ne-eqb at 65535 (λ e. omega (arith, s .within))
+
+    bound-is : (at : ℕ) (w : Terms) → Stands table bytes at w → boundPart at (sizes table w) (count w) ≡ part at (sizes table w) (count w)
+    bound-is at w s =
+        let h = within-terms table bytes at w (s .after) (s .within) (s .stands) in
+        let i : at % 65536 ≡ at = omega arith in
+        let j : sizes table w % 65536 ≡ sizes table w = omega arith in
+        ap₂ (λ (x y : ℕ). part x y (count w)) i j
+
+    -- a variable takes what stands there
+    pub shown-bind : (ps : List Part) (e : Env) (v at : ℕ) (w : Terms) → v < 48 → (v < 32 → count w ≡ 1) → Shown table bytes ps e → Stands table bytes at w
+        → Shown table bytes (set ps v (boundPart at (sizes table w) (count w))) (bind e v at w)
+    shown-bind ps e v at w low n h s = record {
+      room = length-set ps v _ ∙ h .room;
+      shown = λ i k. is i k (eqb v i) refl;
+      stands = λ i x. stands i x (eqb v i);
+      one = λ i x k. one i x k (eqb v i) refl;
+    }
+      where
+        is : (i : ℕ) → i < 48 → (m : Bool) → eqb v i ≡ m
+            → getD (set ps v (boundPart at (sizes table w) (count w))) i (part 0 0 0) ≡ partOf table (cond m (some w) (e .value i))
+            (cond m at (e .offset i))
+        is i k true z =
+            ap (λ (j : ℕ). getD (set ps v (boundPart at (sizes table w) (count w))) j (part 0 0 0)) (sym (eqb-true v i z))
+            ∙ getD-set-same ps v _ (part 0 0 0) (omega (arith, h .room)) ∙ bound-is at w s
+        is i k false z = getD-set-other ps v i _ (part 0 0 0) (λ y. eqb-false v i z (sym y)) ∙ h .shown i k
+
+        stands : (i : ℕ) (x : Terms) (m : Bool) → cond m (some w) (e .value i) ≡ some x → Stands table bytes (cond m at (e .offset i)) x
+        stands i x true z = subst (Stands table bytes at) (some-same z) s
+        stands i x false z = h .stands i x z
+
+        one : (i : ℕ) (x : Terms) → i < 32 → (m : Bool) → eqb v i ≡ m → cond m (some w) (e .value i) ≡ some x → count x ≡ 1
+        one i x k true y z = ap count (sym (some-same z)) ∙ n (omega (arith, eqb-true v i y))
+        one i x k false y z = h .one i x k z
+
+  pub shown-start : Shown table bytes (replicate 48 absent) start
+  shown-start = record {
+    room = length-replicate 48 absent;
+    shown = λ v h. getD-replicate 48 v absent (part 0 0 0) h;
+    stands = λ v w z. absurd (none-some z);
+    one = λ v w h z. absurd (none-some z);
+  }

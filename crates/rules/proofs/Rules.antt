@@ -1,0 +1,99 @@
+-- The rules of accepted input, and the sheet's entries that are their bytes.
+use Prim.Native.Nat.{ℕ, zero, suc, _+_, _<_}
+use native.Mathlib.Omega.{arith}
+use mathlib.Core.Path.{_≡_, refl, sym, _∙_, ap}
+use mathlib.Core.List.{List, [], _∷_}
+use lib.ListN.{length, getD, take, drop, length-map}
+use lib.Seq.{getD-drop}
+use Rattle.term.specs.Tree.{own, encode}
+use Rattle.term.specs.Term.{Term}
+use Rattle.term.specs.Pattern.{Pattern, name, symbol, complement, patternBytes}
+use Rattle.term.specs.Limits.{Octets, PatternAccepted}
+use Rattle.sheet.specs.Sheet.{NoneEmpty}
+use Rattle.sheet.specs.Check.{entryCount, offsetAt, lengthAt}
+use Rattle.sheet.specs.Entry.{entryAt, entriesFrom, entries, partAt}
+use Rattle.sheet.proofs.Checks.{Directed}
+use Rattle.sheet.proofs.Entries.{part-entry, entries-at}
+use Rattle.sheet.proofs.Readings.{written-read, written-directed}
+use Rattle.matcher.specs.Call.{Input as PatternInput}
+use Rattle.rules.specs.Call.{AllAccepted, rulesBytes, Input}
+
+-- each entry of a sheet of bytes has bytes
+
+octets-take : (n : ℕ) (s : List ℕ) → Octets s → Octets (take n s)
+octets-take zero s o i = omega arith
+octets-take (suc n) [] o i = omega arith
+octets-take (suc n) (x ∷ s) o zero = o zero
+octets-take (suc n) (x ∷ s) o (suc i) = octets-take n s (λ j. o (suc j)) i
+
+entry-octets : (s : List ℕ) → Octets s → (i : ℕ) → Octets (entryAt s i)
+unfolding entryAt
+entry-octets s o i = octets-take (lengthAt s i) (drop (offsetAt s i) s) (λ n. rw getD-drop (o (offsetAt s i + n)))
+
+octets-from : (s : List ℕ) → Octets s → (k i j : ℕ) → Octets (getD (entriesFrom s k i) j [])
+unfolding entriesFrom
+octets-from s o zero i j = λ n. omega arith
+octets-from s o (suc k) i zero = entry-octets s o i
+octets-from s o (suc k) i (suc j) = octets-from s o k (i + 1) j
+
+pub entries-octets : (s : List ℕ) → Octets s → (j : ℕ) → Octets (getD (entries s) j [])
+unfolding entries
+entries-octets s o j = octets-from s o (entryCount s) 0 j
+
+-- the rule of an index
+
+abbrev pub ruleAt : List Pattern → ℕ → Pattern
+ruleAt qs k = getD qs k (name 0)
+
+module _ (table : List ℕ) where
+  rule-bytes : (qs : List Pattern) (k : ℕ) → k < length qs → getD (rulesBytes table qs) k [] ≡ patternBytes table (ruleAt qs k) []
+  rule-bytes [] k h = absurd (omega arith)
+  rule-bytes (q ∷ qs) zero h = refl
+  rule-bytes (q ∷ qs) (suc k) h = rule-bytes qs k (omega arith)
+
+  rule-accepted : (qs : List Pattern) (k : ℕ) → k < length qs → AllAccepted table qs → PatternAccepted table (ruleAt qs k)
+  rule-accepted [] k h a = absurd (omega arith)
+  rule-accepted (q ∷ qs) zero h a = a .0
+  rule-accepted (q ∷ qs) (suc k) h a = rule-accepted qs k (omega arith) (a .1)
+
+  pattern-bytes-some : (q : Pattern) → 0 < length (patternBytes table q [])
+  unfolding encode own
+  pattern-bytes-some (name v) = omega arith
+  pattern-bytes-some (symbol s qs) = omega arith
+  pattern-bytes-some (complement q) = omega arith
+
+  rules-none-empty : (qs : List Pattern) → NoneEmpty (rulesBytes table qs)
+  unfolding NoneEmpty
+  rules-none-empty [] = tt
+  rules-none-empty (q ∷ qs) = (pattern-bytes-some q, rules-none-empty qs)
+
+module _ (table sheet bytes : List ℕ) (qs : List Pattern) (t : Term) (i : Input table sheet bytes qs t) where
+  pub input-directed : Directed sheet (length qs)
+  input-directed =
+      rw (← i .sheet-bytes, ← length-map qs (λ q. patternBytes table q []))
+      (written-directed (rulesBytes table qs) (rules-none-empty table qs) (rw (i .sheet-bytes) (i .sheet-short)))
+
+  pub input-entries : entries sheet ≡ rulesBytes table qs
+  input-entries = ap entries (sym (i .sheet-bytes)) ∙ written-read (rulesBytes table qs)
+
+  part-bytes : (k : ℕ) → k < length qs → partAt sheet k ≡ patternBytes table (ruleAt qs k) []
+  unfolding entries
+  part-bytes k h =
+      let d = input-directed in
+      let e : 0 + k ≡ k = omega arith in
+      part-entry sheet (length qs) k d h
+      ∙ sym (entries-at sheet (entryCount sheet) 0 k (omega (arith, d .counted)) ∙ ap (entryAt sheet) e)
+      ∙ ap (λ (es : List (List ℕ)). getD es k []) input-entries ∙ rule-bytes table qs k h
+
+  -- with the record, each part is input that the matcher accepts
+  pub rule-input : (k : ℕ) → k < length qs → PatternInput table (partAt sheet k) bytes (ruleAt qs k) t
+  rule-input k h = record {
+    table-accepted = i .table-accepted;
+    pattern-bytes = sym (part-bytes k h);
+    pattern-accepted = rule-accepted table qs k h (i .rules-accepted);
+    record-bytes = i .record-bytes;
+    record-accepted = i .record-accepted;
+  }
+
+  pub part-octets : Octets sheet → (k : ℕ) → k < length qs → Octets (partAt sheet k)
+  part-octets o k h = rw (part-entry sheet (length qs) k input-directed h) (entry-octets sheet o k)

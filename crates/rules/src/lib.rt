@@ -1,0 +1,132 @@
+// A rule sheet against one record: its rules are tried in order, up to the first that is bound or spent.
+use matcher::Answer;
+use sheet::Checked;
+use term::Read;
+use term::Refusal;
+ghost use mathlib.Core.Path.{_≡_};
+ghost use Prim.Native.Nat.{_+_, _*_, _≤_};
+ghost use lib.ListN.{length};
+ghost use Rattle.rules.specs.Answer.{ruleNumber, ruleIndex, ruleCount};
+ghost use Rattle.rules.specs.Call.{checked, checkOf, answerOf, bufferOf};
+ghost use Rattle.rules.specs.Demands.{Demanded, Matched};
+
+// Bound at a rule, none, or spent at a rule, with the sum of counts so far; or why the input is refused, with the index of the entry, 0
+// where no entry is meant.
+pub enum RuleAnswer {
+    Bound(usize, u64),
+    None(u64),
+    Spent(usize, u64),
+    Refused(Refusal, usize),
+}
+
+impl RuleAnswer {
+    // Document 01's number; bound has 0.
+    pub fn number(self) -> u8
+        ensures { λ r. ⌜ r ≡ ruleNumber self ⌝ }
+    {
+        match self {
+            RuleAnswer::Bound(_, _) => 0,
+            RuleAnswer::None(_) => 10,
+            RuleAnswer::Spent(_, _) => 11,
+            RuleAnswer::Refused(r, _) => r.number(),
+        }
+    }
+
+    // The index of the rule; none shows 0.
+    pub fn index(self) -> usize
+        ensures { λ r. ⌜ r ≡ ruleIndex self ⌝ }
+    {
+        match self {
+            RuleAnswer::Bound(i, _) => i,
+            RuleAnswer::None(_) => 0,
+            RuleAnswer::Spent(i, _) => i,
+            RuleAnswer::Refused(_, i) => i,
+        }
+    }
+
+    // The sum of the counts; a refusal shows 0.
+    pub fn count(self) -> u64
+        ensures { λ r. ⌜ r ≡ ruleCount self ⌝ }
+    {
+        match self {
+            RuleAnswer::Bound(_, n) => n,
+            RuleAnswer::None(n) => n,
+            RuleAnswer::Spent(_, n) => n,
+            RuleAnswer::Refused(_, _) => 0,
+        }
+    }
+}
+
+// The checks in order, for a buffer of so many numbers: the number of rules, or the refusal.
+fn check_input(table: &[u8], sheet: &[u8], record: &[u8], width: usize) -> Checked
+    ensures { λ r. ⌜ r ≡ checkOf (checked (now (table .entry)) (now (sheet .entry)) (now («record» .entry)) width) ⌝ }
+{
+    if width < 96 {
+        return Checked::Refused(Refusal::Narrow, 0);
+    }
+    let rules = sheet::check_rules(table, sheet);
+    let Checked::Accepted(_) = rules else {
+        return rules;
+    };
+    let read = term::read_record(table, record);
+    if let Read::Refused(r) = read {
+        return Checked::Refused(r, 0);
+    }
+    rules
+}
+
+// A rule sheet and a record that passed their checks by this table. Only the buffer is checked here.
+pub fn match_rules_checked(
+    table: &[u8],
+    sheet: &[u8],
+    record: &[u8],
+    allowance: u32,
+    answer: &mut [u16],
+) -> RuleAnswer
+    ensures { λ r. ⌜ Matched (now (table .entry)) (now (sheet .entry)) (now («record» .entry)) (now (answer .entry)) allowance r (now (answer .exit)) ⌝ }
+{
+    if answer.len() < 96 {
+        return RuleAnswer::Refused(Refusal::Narrow, 0);
+    }
+    let rules = sheet::count(sheet) as usize;
+    let mut sum: u64 = 0;
+    let mut i: usize = 0;
+    while i < rules {
+        let own = matcher::match_checked(
+            table,
+            sheet::part_at(sheet, i),
+            record,
+            allowance,
+            answer,
+        );
+        match own {
+            Answer::Bound(n) => return RuleAnswer::Bound(i, sum + n as u64),
+            Answer::Spent(n) => return RuleAnswer::Spent(i, sum + n as u64),
+            Answer::Refused(r) => return RuleAnswer::Refused(r, i),
+            Answer::None(n) => {
+                sum = sum + n as u64;
+                i = i + 1;
+            }
+        }
+    }
+    RuleAnswer::None(sum)
+}
+
+// A rule sheet against a record, with every check.
+pub fn match_rules(
+    table: &[u8],
+    sheet: &[u8],
+    record: &[u8],
+    allowance: u32,
+    answer: &mut [u16],
+) -> RuleAnswer
+    ensures is { λ r. ⌜ r ≡ answerOf (now (table .entry)) (now (sheet .entry)) (now («record» .entry)) allowance (length (now (answer .entry))) ⌝ }
+    ensures buffer { λ r. ⌜ now (answer .exit) ≡ bufferOf (now (table .entry)) (now (sheet .entry)) (now («record» .entry)) allowance (now (answer .entry)) ⌝ }
+    ensures demand { λ r. ⌜ Demanded (now (table .entry)) (now (sheet .entry)) (now («record» .entry)) (now (answer .entry)) allowance r (now (answer .exit)) ⌝ }
+{
+    let checks = check_input(table, sheet, record, answer.len());
+    match checks {
+        Checked::Refused(r, i) => RuleAnswer::Refused(r, i),
+        Checked::Accepted(_) => match_rules_checked(table, sheet, record, allowance, answer),
+    }
+}

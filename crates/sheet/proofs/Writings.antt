@@ -1,0 +1,139 @@
+-- The checks of a writing, test by test, and what it shows and leaves.
+use Prim.Native.Nat.{ℕ, _+_, _-_, _≤_, _<_}
+use native.Mathlib.Omega.{arith}
+use mathlib.Core.Path.{_≡_, refl, sym, _∙_}
+use mathlib.Core.List.{List, _++_}
+use mathlib.Core.Bool.{Bool, true, false}
+use lib.ListN.{length, getD, take, drop, drop-of-length-le}
+use lib.Seq.{sets}
+use lib.Dec.{leb}
+use borrow.Author.Tests.{le-leb, lt-leb, leb-true, leb-false}
+use Rattle.term.specs.Table.{tableAccepted}
+use Rattle.term.specs.declared.Read.{Read}
+use Rattle.term.specs.declared.Read.the-variants.{Ends}
+use Rattle.term.specs.declared.Refusal.{Refusal}
+use Rattle.term.specs.declared.Refusal.the-variants.{Table, Long, Directory, Full}
+use Rattle.sheet.specs.Sheet.{sheetBytes}
+use Rattle.sheet.specs.Check.{longestSheet}
+use Rattle.sheet.specs.Contents.{readEntry, checkEach}
+use Rattle.sheet.specs.Writing.{split, lengthsAccepted, sheetLength, checkRecords, writing, outputAfter}
+use Rattle.sheet.specs.declared.Checked.{Checked}
+use Rattle.sheet.specs.declared.Checked.the-variants.{Accepted}
+use Rattle.sheet.specs.declared.Writing.{Writing}
+use Rattle.sheet.specs.declared.Writing.the-variants.{Written}
+use Rattle.sheet.proofs.Lengths.{rest-part, split-next, lengths-true, split-size}
+use Rattle.sheet.proofs.Stores.{sets-front}
+
+-- the records from index i on
+
+module _ (table rest ns : List ℕ) (i : ℕ) where
+  pub records-refused : (r : Refusal) → i < length ns → readEntry true table (take (getD ns i 0) rest) ≡ Read.Refused r
+      → checkEach true table i (split rest (drop i ns)) ≡ Checked.Refused r i
+  unfolding checkEach
+  records-refused r h e = rw (split-next ns i h rest, e)
+
+  pub records-read : (m : ℕ) → i < length ns → readEntry true table (take (getD ns i 0) rest) ≡ Ends m
+      → checkEach true table i (split rest (drop i ns))
+      ≡ checkEach true table (i + 1) (split (take (length rest - getD ns i 0) (drop (getD ns i 0) rest)) (drop (i + 1) ns))
+  unfolding checkEach
+  records-read m h e = rw (split-next ns i h rest, e, rest-part rest (getD ns i 0))
+
+  pub records-end : length ns ≤ i → checkEach true table i (split rest (drop i ns)) ≡ Accepted i
+  unfolding checkEach split
+  records-end h = rw (drop-of-length-le ns h)
+
+-- all checks but that of the room
+
+module _ (table bs ns : List ℕ) where
+  pub joined-table : tableAccepted table ≡ false → checkRecords table bs ns ≡ Checked.Refused Table 0
+  unfolding checkRecords
+  joined-table t = rw t
+
+  pub joined-lengths : tableAccepted table ≡ true → lengthsAccepted ns (length bs) ≡ false → checkRecords table bs ns ≡ Checked.Refused Directory 0
+  unfolding checkRecords
+  joined-lengths t l = rw (t, l)
+
+  pub joined-long : tableAccepted table ≡ true → lengthsAccepted ns (length bs) ≡ true → leb (sheetLength (length ns) (length bs)) longestSheet ≡ false
+      → checkRecords table bs ns ≡ Checked.Refused Long 0
+  unfolding checkRecords
+  joined-long t l s = rw (t, l, s)
+
+  pub joined-each : tableAccepted table ≡ true → lengthsAccepted ns (length bs) ≡ true → leb (sheetLength (length ns) (length bs)) longestSheet ≡ true
+      → checkRecords table bs ns ≡ checkEach true table 0 (split bs ns)
+  unfolding checkRecords
+  joined-each t l s = rw (t, l, s)
+
+-- what passes them keeps each
+
+pub record RecordsPassed (table bs ns : List ℕ) (n : ℕ) : Type 0 where
+  pub tabled : tableAccepted table ≡ true
+  pub lengths : lengthsAccepted ns (length bs) ≡ true
+  pub short : sheetLength (length ns) (length bs) ≤ longestSheet
+  pub each : checkEach true table 0 (split bs ns) ≡ Accepted n
+
+module _ (table bs ns : List ℕ) (n : ℕ) where
+  pub records-passed : checkRecords table bs ns ≡ Accepted n → RecordsPassed table bs ns n
+  records-passed a =
+      go (tableAccepted table) refl (lengthsAccepted ns (length bs)) refl (leb (sheetLength (length ns) (length bs)) longestSheet) refl
+    where
+      go : (t : Bool) → tableAccepted table ≡ t → (l : Bool) → lengthsAccepted ns (length bs) ≡ l
+          → (s : Bool) → leb (sheetLength (length ns) (length bs)) longestSheet ≡ s → RecordsPassed table bs ns n
+      go false t l f s g = let z : _≡_ {A = ℕ} 0 1 = cc (joined-table table bs ns t) in absurd (omega arith)
+      go true t false f s g = let z : _≡_ {A = ℕ} 0 1 = cc (joined-lengths table bs ns t f) in absurd (omega arith)
+      go true t true f false g = let z : _≡_ {A = ℕ} 0 1 = cc (joined-long table bs ns t f g) in absurd (omega arith)
+      go true t true f true g =
+          record {
+            tabled = t;
+            lengths = f;
+            short = leb-true (sheetLength (length ns) (length bs)) longestSheet g;
+            each = sym (joined-each table bs ns t f g) ∙ a;
+          }
+
+  pub passed-accepted : RecordsPassed table bs ns n → checkRecords table bs ns ≡ Accepted n
+  passed-accepted p =
+      joined-each table bs ns (p .tabled) (p .lengths) (le-leb (sheetLength (length ns) (length bs)) longestSheet (p .short)) ∙ p .each
+
+-- what is shown, and the output after
+
+module _ (table bs ns out : List ℕ) where
+  pub writing-refused : (r : Refusal) (i : ℕ) → checkRecords table bs ns ≡ Checked.Refused r i
+      → (Writing.Refused r i ≡ writing table bs ns (length out)) × (out ≡ outputAfter table bs ns out)
+  unfolding writing outputAfter
+  writing-refused r i e = (rw e, rw e)
+
+  pub writing-full : (n : ℕ) → checkRecords table bs ns ≡ Accepted n → length out < sheetLength (length ns) (length bs)
+      → (Writing.Refused Full 0 ≡ writing table bs ns (length out)) × (out ≡ outputAfter table bs ns out)
+  unfolding writing outputAfter
+  writing-full n e h =
+      let f = lt-leb (sheetLength (length ns) (length bs)) (length out) h in
+      (rw (e, f), rw (e, f))
+
+  pub writing-written : (n : ℕ) → checkRecords table bs ns ≡ Accepted n → sheetLength (length ns) (length bs) ≤ length out
+      → (Written (sheetLength (length ns) (length bs)) ≡ writing table bs ns (length out))
+      × (sets out 0 (sheetBytes (split bs ns)) ≡ outputAfter table bs ns out)
+  unfolding writing outputAfter
+  writing-written n e h =
+      let f = le-leb (sheetLength (length ns) (length bs)) (length out) h in
+      let l = lengths-true ns (length bs) (records-passed table bs ns n e .lengths) .1 in
+      (rw (e, f), sets-front out (sheetBytes (split bs ns)) (sheetLength (length ns) (length bs)) (split-size bs ns l) h ∙ rw (e, f))
+
+  pub output-written : (n : ℕ) → writing table bs ns (length out) ≡ Written n → outputAfter table bs ns out ≡ sheetBytes (split bs ns) ++ drop n out
+  unfolding outputAfter
+  output-written n w = rw w
+
+  pub written-passed : (n : ℕ) → writing table bs ns (length out) ≡ Written n
+      → (k : ℕ) × RecordsPassed table bs ns k × (sheetLength (length ns) (length bs) ≡ n)
+  written-passed n w = go (checkRecords table bs ns) refl
+    where
+      go : (x : Checked) → checkRecords table bs ns ≡ x → (k : ℕ) × RecordsPassed table bs ns k × (sheetLength (length ns) (length bs) ≡ n)
+      go (Checked.Refused r i) e = let z : _≡_ {A = ℕ} 0 1 = cc (writing-refused r i e .0) in absurd (omega arith)
+      go (Accepted k) e = fits (leb (sheetLength (length ns) (length bs)) (length out)) refl
+        where
+          fits : (b : Bool) → leb (sheetLength (length ns) (length bs)) (length out) ≡ b
+              → (k : ℕ) × RecordsPassed table bs ns k × (sheetLength (length ns) (length bs) ≡ n)
+          fits false f =
+              let z : _≡_ {A = ℕ} 0 1 = cc (writing-full k e (leb-false (sheetLength (length ns) (length bs)) (length out) f) .0) in
+              absurd (omega arith)
+          fits true f =
+              let w′ = writing-written k e (leb-true (sheetLength (length ns) (length bs)) (length out) f) .0 in
+              (k, records-passed table bs ns k e, cc)

@@ -1,0 +1,39 @@
+-- `sheet::entry` meets its contract.
+use mathlib.Core.Path.{sym, _∙_}
+use borrow.Author.Needs.{needs}
+use Rattle.sheet.proofs.Entries.{entry-refused, entry-part}
+use Rattle.sheet.proofs.entry.Statement.{statement}
+use Rattle.sheet.proofs.entry.Tie as tie
+
+check-entry-requires : tie.Need-check-entry-requires
+check-entry-requires c κs = search needs
+
+enum-told : tie.Need-enum-told
+enum-told c = search needs
+
+enum-told-2 : tie.Need-enum-told-2
+enum-told-2 c = search needs
+
+slice-aggregate-result : tie.Need-slice-aggregate-result
+slice-aggregate-result c = search needs
+
+returns : tie.Need-returns
+returns c = sym (entry-refused (c .before .before .before .before .before .args .sheet .now) (c .before .before .before .before .before .args .index) _ _ (sym (c .before .before .before .check-entry .ensures) ∙ c .before .enum-told2 .given .1))
+
+part-at-requires : tie.Need-part-at-requires
+part-at-requires c κs = search needs
+
+returns-2 : tie.Need-returns-2
+returns-2 c = c .part-at .ensures ∙ sym (entry-part (c .before .before .before .before .before .args .sheet .now) (c .before .before .before .before .before .args .index) _ (sym (c .before .before .before .check-entry .ensures) ∙ c .before .enum-told .given .1))
+
+pub entry-spec : {M : Type 1} → statement M
+entry-spec =
+    tie.close
+    (tie.spec
+    check-entry-requires
+    enum-told
+    enum-told-2
+    slice-aggregate-result
+    returns
+    part-at-requires
+    returns-2)

@@ -1,0 +1,46 @@
+-- The check of a sheet: 6 over 32,768 bytes, then 9 where its directory breaks a rule.
+use Prim.Native.Nat.{ℕ, zero, suc, _+_, _*_}
+use mathlib.Core.List.{List}
+use mathlib.Core.Bool.{Bool, cond, _&&_}
+use lib.ListN.{length}
+use lib.Dec.{leb, ltb, eqb}
+use Rattle.term.specs.declared.Refusal.the-variants.{Long, Directory}
+use Rattle.sheet.specs.Word.{wordAt}
+use Rattle.sheet.specs.Sheet.{pastPairs}
+use Rattle.sheet.specs.declared.Checked.{Checked}
+use Rattle.sheet.specs.declared.Checked.the-variants.{Accepted}
+
+abbrev pub longestSheet : ℕ
+longestSheet = 32768
+
+-- the number of entries that a sheet tells
+unfoldable pub entryCount : List ℕ → ℕ
+entryCount s = wordAt s 0
+
+-- the directory's pair of an index
+abbrev pub offsetAt : List ℕ → ℕ → ℕ
+offsetAt s i = wordAt s (2 + 4 * i)
+
+abbrev pub lengthAt : List ℕ → ℕ → ℕ
+lengthAt s i = wordAt s (4 + 4 * i)
+
+-- so many entries from index i on: the first starts at this offset, each where the one before ended, no length is 0, and the last
+-- ends with the sheet
+unfoldable pub followed : List ℕ → ℕ → ℕ → ℕ → Bool
+followed s zero i at = eqb at (length s)
+followed s (suc k) i at = eqb (offsetAt s i) at && ltb 0 (lengthAt s i) && followed s k (i + 1) (at + lengthAt s i)
+
+-- count and pairs lie within the sheet, and the entries follow
+unfoldable pub directoryAccepted : List ℕ → Bool
+directoryAccepted s = leb (pastPairs (entryCount s)) (length s) && followed s (entryCount s) 0 (pastPairs (entryCount s))
+
+unfoldable pub checkSheet : List ℕ → Checked
+checkSheet s =
+    cond (leb (length s) longestSheet)
+    (cond (directoryAccepted s) (Accepted (entryCount s)) (Checked.Refused Directory 0))
+    (Checked.Refused Long 0)
+
+-- a further check, by the number of entries
+abbrev pub andThen : Checked → (ℕ → Checked) → Checked
+andThen (Accepted n) next = next n
+andThen (Checked.Refused r i) next = Checked.Refused r i

@@ -1,0 +1,22 @@
+-- A sheet: the number of its entries, a directory of offset and length pairs, and the entries, one after the other.
+use Prim.Native.Nat.{ℕ, _+_, _*_, _<_}
+use mathlib.Core.List.{List, [], _∷_, _++_, map, flatten}
+use lib.ListN.{length}
+use Rattle.sheet.specs.Word.{word}
+
+-- the offset of the first entry, which follows the last of so many pairs
+abbrev pub pastPairs : ℕ → ℕ
+pastPairs n = 2 + 4 * n
+
+-- the pairs of entries of these lengths, each of which starts where the one before ended
+unfoldable pub directory : ℕ → List ℕ → List ℕ
+directory at [] = []
+directory at (n ∷ ns) = word at ++ word n ++ directory (at + n) ns
+
+unfoldable pub sheetBytes : List (List ℕ) → List ℕ
+sheetBytes es = word (length es) ++ directory (pastPairs (length es)) (map length es) ++ flatten es
+
+-- no entry is empty
+unfoldable pub NoneEmpty : List (List ℕ) → Type 0
+NoneEmpty [] = Unit {0}
+NoneEmpty (e ∷ es) = (0 < length e) × NoneEmpty es

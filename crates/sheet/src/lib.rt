@@ -1,0 +1,399 @@
+// Sheets of patterns or of records: how they are checked, read entry by entry, and written.
+use term::Read;
+use term::Refusal;
+ghost use mathlib.Core.Path.{_≡_};
+ghost use mathlib.Core.Bool.{true};
+ghost use Prim.Native.Nat.{_+_, _*_, _≤_, _<_};
+ghost use lib.Dec.{leb};
+ghost use lib.ListN.{length};
+ghost use lib.Seq.{sets};
+ghost use Rattle.sheet.specs.Word.{word, wordAt};
+ghost use Rattle.sheet.specs.Sheet.{pastPairs, directory, sheetBytes};
+ghost use Rattle.sheet.specs.Check.{longestSheet, entryCount, offsetAt, lengthAt, followed, checkSheet};
+ghost use Rattle.sheet.specs.Entry.{entries, checkEntry, entryOf, partAt};
+ghost use Rattle.sheet.specs.Contents.{readEntry, checkEach, few, checkContents, checkStates, checkRules};
+ghost use Rattle.sheet.specs.Writing.{split, sum, lengthsAccepted, sheetLength, checkRecords, writing, outputAfter};
+ghost use Rattle.sheet.specs.Answer.{checkedNumber, checkedIndex, writingNumber, writingIndex, writingLength};
+
+// What a check shows: the number of entries, or a refusal with the entry's index, 0 where no entry is meant.
+pub enum Checked {
+    Accepted(usize),
+    Refused(Refusal, usize),
+}
+
+// What a writing shows: the sheet's length, or a refusal with the record's index, 0 where no record is meant.
+pub enum Writing {
+    Written(usize),
+    Refused(Refusal, usize),
+}
+
+impl Checked {
+    // Document 01's number, or 0.
+    pub fn number(self) -> u8
+        ensures { λ r. ⌜ r ≡ checkedNumber self ⌝ }
+    {
+        match self {
+            Checked::Accepted(_) => 0,
+            Checked::Refused(r, _) => r.number(),
+        }
+    }
+
+    // The index of the entry that is refused.
+    pub fn index(self) -> usize
+        ensures { λ r. ⌜ r ≡ checkedIndex self ⌝ }
+    {
+        match self {
+            Checked::Accepted(_) => 0,
+            Checked::Refused(_, i) => i,
+        }
+    }
+}
+
+impl Writing {
+    pub fn number(self) -> u8
+        ensures { λ r. ⌜ r ≡ writingNumber self ⌝ }
+    {
+        match self {
+            Writing::Written(_) => 0,
+            Writing::Refused(r, _) => r.number(),
+        }
+    }
+
+    pub fn index(self) -> usize
+        ensures { λ r. ⌜ r ≡ writingIndex self ⌝ }
+    {
+        match self {
+            Writing::Written(_) => 0,
+            Writing::Refused(_, i) => i,
+        }
+    }
+
+    // The length of the sheet that was written.
+    pub fn length(self) -> usize
+        ensures { λ r. ⌜ r ≡ writingLength self ⌝ }
+    {
+        match self {
+            Writing::Written(n) => n,
+            Writing::Refused(_, _) => 0,
+        }
+    }
+}
+
+// The 16-bit number at a place, low byte first.
+fn word_at(s: &[u8], at: usize) -> u16
+    requires { ⌜ at + 1 < length (now s) ⌝ }
+    ensures { λ r. ⌜ r ≡ wordAt (now (s .entry)) at ⌝ }
+{
+    (s[at] as u16) + 256 * (s[at + 1] as u16)
+}
+
+// The number of entries that a sheet tells, be it accepted or not.
+pub fn count(sheet: &[u8]) -> u16
+    ensures { λ r. ⌜ r ≡ entryCount (now (sheet .entry)) ⌝ }
+{
+    if sheet.len() == 0 {
+        return 0;
+    }
+    if sheet.len() == 1 {
+        return sheet[0] as u16;
+    }
+    word_at(sheet, 0)
+}
+
+// The offset and the length of an index in the directory.
+fn offset_at(sheet: &[u8], index: usize) -> u16
+    requires { ⌜ 6 + 4 * index ≤ length (now sheet) ⌝ }
+    ensures { λ r. ⌜ r ≡ offsetAt (now (sheet .entry)) index ⌝ }
+{
+    word_at(sheet, 2 + 4 * index)
+}
+
+fn length_at(sheet: &[u8], index: usize) -> u16
+    requires { ⌜ 6 + 4 * index ≤ length (now sheet) ⌝ }
+    ensures { λ r. ⌜ r ≡ lengthAt (now (sheet .entry)) index ⌝ }
+{
+    word_at(sheet, 4 + 4 * index)
+}
+
+// Whether the entries follow the directory of n pairs and each other, and end with the sheet.
+fn entries_follow(sheet: &[u8], n: usize) -> bool
+    requires { ⌜ pastPairs n ≤ length (now sheet) ⌝ }
+    ensures { λ r. ⌜ r ≡ followed (now (sheet .entry)) n 0 (pastPairs n) ⌝ }
+{
+    let mut at = 2 + 4 * n;
+    let mut i: usize = 0;
+    while i < n {
+        if offset_at(sheet, i) as usize != at {
+            return false;
+        }
+        let length = length_at(sheet, i) as usize;
+        if length == 0 {
+            return false;
+        }
+        at = at + length;
+        i = i + 1;
+    }
+    at == sheet.len()
+}
+
+// Checks a sheet of any entries.
+pub fn check_sheet(sheet: &[u8]) -> Checked
+    ensures { λ r. ⌜ r ≡ checkSheet (now (sheet .entry)) ⌝ }
+{
+    if 32768 < sheet.len() {
+        return Checked::Refused(Refusal::Long, 0);
+    }
+    if sheet.len() < 2 {
+        return Checked::Refused(Refusal::Directory, 0);
+    }
+    let n = count(sheet) as usize;
+    if sheet.len() < 2 + 4 * n {
+        return Checked::Refused(Refusal::Directory, 0);
+    }
+    if entries_follow(sheet, n) {
+        return Checked::Accepted(n);
+    }
+    Checked::Refused(Refusal::Directory, 0)
+}
+
+// The part that the pair of an index tells, without the other checks: for callers that checked the sheet before.
+pub fn part_at(sheet: &[u8], index: usize) -> &[u8]
+    ensures { λ r. ⌜ now r ≡ partAt (now (sheet .entry)) index ⌝ }
+{
+    if sheet.len() < 6 {
+        return &sheet[..0];
+    }
+    if (sheet.len() - 6) / 4 < index {
+        return &sheet[..0];
+    }
+    let start = offset_at(sheet, index) as usize;
+    let end = start + length_at(sheet, index) as usize;
+    if sheet.len() < end {
+        return &sheet[..0];
+    }
+    &sheet[start..end]
+}
+
+// Checks a sheet and an index.
+pub fn check_entry(sheet: &[u8], index: usize) -> Checked
+    ensures { λ r. ⌜ r ≡ checkEntry (now (sheet .entry)) index ⌝ }
+{
+    let checked = check_sheet(sheet);
+    let Checked::Accepted(n) = checked else {
+        return checked;
+    };
+    if index < n {
+        return checked;
+    }
+    Checked::Refused(Refusal::Directory, 0)
+}
+
+// An entry as a part of the sheet, or an empty part where the check of sheet and index refuses.
+pub fn entry(sheet: &[u8], index: usize) -> &[u8]
+    ensures { λ r. ⌜ now r ≡ entryOf (now (sheet .entry)) index ⌝ }
+{
+    let checked = check_entry(sheet, index);
+    let Checked::Accepted(_) = checked else {
+        return &sheet[..0];
+    };
+    part_at(sheet, index)
+}
+
+fn read_entry(records: bool, table: &[u8], bytes: &[u8]) -> Read
+    ensures { λ r. ⌜ r ≡ readEntry records (now (table .entry)) (now (bytes .entry)) ⌝ }
+{
+    if records {
+        return term::read_record(table, bytes);
+    }
+    term::read_pattern(table, bytes)
+}
+
+// Each of the n entries of a checked sheet, in order.
+fn check_entries(records: bool, table: &[u8], sheet: &[u8], n: usize) -> Checked
+    requires { ⌜ checkSheet (now sheet) ≡ Checked.Accepted n ⌝ }
+    ensures { λ r. ⌜ r ≡ checkEach records (now (table .entry)) 0 (entries (now (sheet .entry))) ⌝ }
+{
+    let mut i: usize = 0;
+    while i < n {
+        let read = read_entry(records, table, part_at(sheet, i));
+        if let Read::Refused(r) = read {
+            return Checked::Refused(r, i);
+        }
+        i = i + 1;
+    }
+    Checked::Accepted(i)
+}
+
+// Whether a sheet may hold so many entries.
+fn few(records: bool, n: usize) -> bool
+    ensures { λ r. ⌜ r ≡ few records n ⌝ }
+{
+    if records {
+        return true;
+    }
+    n <= 64
+}
+
+fn check_contents(records: bool, table: &[u8], sheet: &[u8]) -> Checked
+    ensures { λ r. ⌜ r ≡ checkContents records (now (table .entry)) (now (sheet .entry)) ⌝ }
+{
+    if !term::check_table(table) {
+        return Checked::Refused(Refusal::Table, 0);
+    }
+    let checked = check_sheet(sheet);
+    let Checked::Accepted(n) = checked else {
+        return checked;
+    };
+    if !few(records, n) {
+        return Checked::Refused(Refusal::Long, 0);
+    }
+    check_entries(records, table, sheet, n)
+}
+
+// Checks a sheet of records.
+pub fn check_states(table: &[u8], sheet: &[u8]) -> Checked
+    ensures { λ r. ⌜ r ≡ checkStates (now (table .entry)) (now (sheet .entry)) ⌝ }
+{
+    check_contents(true, table, sheet)
+}
+
+// Checks a sheet of at most 64 patterns.
+pub fn check_rules(table: &[u8], sheet: &[u8]) -> Checked
+    ensures { λ r. ⌜ r ≡ checkRules (now (table .entry)) (now (sheet .entry)) ⌝ }
+{
+    check_contents(false, table, sheet)
+}
+
+// Whether no length is 0 and together they are `total`.
+fn lengths_accepted(lengths: &[u16], total: usize) -> bool
+    ensures { λ r. ⌜ r ≡ lengthsAccepted (now (lengths .entry)) total ⌝ }
+{
+    let mut left = total;
+    let mut i: usize = 0;
+    while i < lengths.len() {
+        let n = lengths[i] as usize;
+        if n == 0 {
+            return false;
+        }
+        if left < n {
+            return false;
+        }
+        left = left - n;
+        i = i + 1;
+    }
+    left == 0
+}
+
+// Whether n records of so many bytes are not too long for a sheet.
+fn fits_sheet(n: usize, total: usize) -> bool
+    ensures { λ r. ⌜ r ≡ leb (sheetLength n total) longestSheet ⌝ }
+{
+    if 32768 < n {
+        return false;
+    }
+    if 32768 < total {
+        return false;
+    }
+    2 + 4 * n + total <= 32768
+}
+
+// Each record, in order.
+fn check_each(table: &[u8], records: &[u8], lengths: &[u16]) -> Checked
+    requires { ⌜ length (now records) ≡ sum (now lengths) ⌝ }
+    ensures { λ r. ⌜ r ≡ checkEach true (now (table .entry)) 0 (split (now (records .entry)) (now (lengths .entry))) ⌝ }
+{
+    let mut rest = records;
+    let mut i: usize = 0;
+    while i < lengths.len() {
+        let n = lengths[i] as usize;
+        let read = read_entry(true, table, &rest[..n]);
+        if let Read::Refused(r) = read {
+            return Checked::Refused(r, i);
+        }
+        rest = &rest[n..];
+        i = i + 1;
+    }
+    Checked::Accepted(i)
+}
+
+// The checks of a writing but for the output's room.
+fn check_records(table: &[u8], records: &[u8], lengths: &[u16]) -> Checked
+    ensures { λ r. ⌜ r ≡ checkRecords (now (table .entry)) (now (records .entry)) (now (lengths .entry)) ⌝ }
+{
+    if !term::check_table(table) {
+        return Checked::Refused(Refusal::Table, 0);
+    }
+    if !lengths_accepted(lengths, records.len()) {
+        return Checked::Refused(Refusal::Directory, 0);
+    }
+    if !fits_sheet(lengths.len(), records.len()) {
+        return Checked::Refused(Refusal::Long, 0);
+    }
+    check_each(table, records, lengths)
+}
+
+fn put_word(output: &mut [u8], at: usize, n: u16)
+    requires { ⌜ at + 2 ≤ length (now output) ⌝ }
+    ensures { λ _. ⌜ now (output .exit) ≡ sets (now (output .entry)) at (word n) ⌝ }
+{
+    output[at] = (n % 256) as u8;
+    output[at + 1] = (n / 256) as u8;
+}
+
+// The pairs of entries of these lengths.
+fn put_directory(lengths: &[u16], output: &mut [u8])
+    requires { ⌜ pastPairs (length (now lengths)) ≤ length (now output) ⌝ }
+    requires { ⌜ pastPairs (length (now lengths)) + sum (now lengths) ≤ longestSheet ⌝ }
+    ensures { λ _. ⌜ now (output .exit) ≡ sets (now (output .entry)) 2 (directory (pastPairs (length (now (lengths .entry)))) (now (lengths .entry))) ⌝ }
+{
+    let mut at = 2 + 4 * lengths.len();
+    let mut i: usize = 0;
+    while i < lengths.len() {
+        let n = lengths[i];
+        put_word(output, 2 + 4 * i, at as u16);
+        put_word(output, 4 + 4 * i, n);
+        at = at + n as usize;
+        i = i + 1;
+    }
+}
+
+fn put_bytes(bytes: &[u8], output: &mut [u8], at: usize)
+    requires { ⌜ at + length (now bytes) ≤ length (now output) ⌝ }
+    ensures { λ _. ⌜ now (output .exit) ≡ sets (now (output .entry)) at (now (bytes .entry)) ⌝ }
+{
+    let mut i: usize = 0;
+    while i < bytes.len() {
+        output[at + i] = bytes[i];
+        i = i + 1;
+    }
+}
+
+// The sheet of records that passed their checks, into an output that has the room.
+fn put_sheet(records: &[u8], lengths: &[u16], output: &mut [u8])
+    requires { ⌜ length (now records) ≡ sum (now lengths) ⌝ }
+    requires { ⌜ sheetLength (length (now lengths)) (length (now records)) ≤ longestSheet ⌝ }
+    requires { ⌜ sheetLength (length (now lengths)) (length (now records)) ≤ length (now output) ⌝ }
+    ensures { λ _. ⌜ now (output .exit) ≡ sets (now (output .entry)) 0 (sheetBytes (split (now (records .entry)) (now (lengths .entry)))) ⌝ }
+{
+    let n = lengths.len();
+    put_word(output, 0, n as u16);
+    put_directory(lengths, output);
+    put_bytes(records, output, 2 + 4 * n);
+}
+
+// Writes the sheet of these records to the front of the output, or leaves the output as it is.
+pub fn write_sheet(table: &[u8], records: &[u8], lengths: &[u16], output: &mut [u8]) -> Writing
+    ensures answer { λ r. ⌜ r ≡ writing (now (table .entry)) (now (records .entry)) (now (lengths .entry)) (length (now (output .entry))) ⌝ }
+    ensures contents { λ _. ⌜ now (output .exit) ≡ outputAfter (now (table .entry)) (now (records .entry)) (now (lengths .entry)) (now (output .entry)) ⌝ }
+{
+    let checked = check_records(table, records, lengths);
+    if let Checked::Refused(r, i) = checked {
+        return Writing::Refused(r, i);
+    }
+    let size = 2 + 4 * lengths.len() + records.len();
+    if size <= output.len() {
+        put_sheet(records, lengths, output);
+        return Writing::Written(size);
+    }
+    Writing::Refused(Refusal::Full, 0)
+}
