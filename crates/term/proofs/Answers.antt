@@ -1,12 +1,16 @@
--- How a property of an answer goes through the reader's steps. A refusal asks nothing.
+-- How a property of an answer goes through the reader's steps, and what is shown of it. A refusal asks nothing.
 use Prim.Native.Nat.{ℕ, _+_}
+use native.Mathlib.Omega.{arith}
 use mathlib.Core.Path.{_≡_, refl, ap, subst}
 use mathlib.Core.Bool.{Bool, true, false, cond}
 use Rattle.term.specs.Tree.{Tree, Trees, branch, more}
-use Rattle.term.specs.Reading.{Answer, refused, read, join, chain, grow, enter}
+use Rattle.term.specs.Reading.{Answer, refused, read, shown, join, chain, grow, enter}
 use Rattle.term.specs.declared.Code.{Code}
+use Rattle.term.specs.declared.Refusal.{Refusal}
 use Rattle.term.specs.declared.Node.{Node}
 use Rattle.term.specs.declared.Node.the-variants.{Open}
+use Rattle.term.specs.declared.Read.{Read}
+use Rattle.term.specs.declared.Read.the-variants.{Ends}
 
 pub cond-all : {A : Type 0} (P : A → Type 0) (b : Bool) {x y : A} → (b ≡ true → P x) → (b ≡ false → P y) → P (cond b x y)
 cond-all P true f g = f refl
@@ -58,3 +62,15 @@ pub got-chain : (P : Trees → ℕ → Type 0) (a : Answer Tree) (g : ℕ → An
 unfolding chain
 got-chain P (refused r) g h = tt
 got-chain P (read t n) g h = got-join P t n (g n) h
+
+-- what is shown of an answer says which it is
+
+pub refused-shown : {A : Type 0} (a : Answer A) (r : Refusal) → shown a ≡ Read.Refused r → a ≡ refused r
+unfolding shown
+refused-shown (refused x) r e = cc
+refused-shown (read x n) r e = let z : _≡_ {A = ℕ} 0 1 = cc in absurd (omega arith)
+
+pub ends-shown : {A : Type 0} (a : Answer A) (n : ℕ) → shown a ≡ Ends n → (x : A) × (a ≡ read x n)
+unfolding shown
+ends-shown (refused r) n e = let z : _≡_ {A = ℕ} 0 1 = cc in absurd (omega arith)
+ends-shown (read x m) n e = let z : m ≡ n = cc in (x, ap (read x) z)

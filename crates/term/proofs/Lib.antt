@@ -9,4 +9,5 @@ pub mod Nodes
 pub mod Inverse
 pub mod Typed
 pub mod Steps
+pub mod Frames
 pub mod Joins

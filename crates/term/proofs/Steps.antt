@@ -1,8 +1,8 @@
--- What the reader's steps make of the answers of their calls, and that what they are given lies within the bytes.
+-- What is shown of the reader's steps, and that what they read lies within the bytes.
 use Prim.Native.Nat.{ℕ, zero, suc, _+_, _-_, _≤_, _<_}
 use native.Mathlib.Omega.{arith}
 use native.Mathlib.Numerals.{sub-one}
-use mathlib.Core.Path.{_≡_, refl, sym, ap, _∙_}
+use mathlib.Core.Path.{_≡_, refl, ap, subst, _∙_}
 use mathlib.Core.List.{List}
 use mathlib.Core.Bool.{Bool, true, false, cond}
 use lib.ListN.{length, getD, drop, take, length-drop}
@@ -21,36 +21,31 @@ use Rattle.term.specs.declared.Node.{Node}
 use Rattle.term.specs.declared.Node.the-variants.{Open}
 use Rattle.term.specs.declared.Read.{Read}
 use Rattle.term.specs.declared.Read.the-variants.{Ends}
-use Rattle.term.proofs.Answers.{Got, opened-at}
-use Rattle.term.proofs.Sizes.{encode-length, encodes-length}
+use Rattle.term.proofs.Answers.{Got, opened-at, refused-shown, ends-shown}
+use Rattle.term.proofs.Sizes.{encode-length}
 use Rattle.term.proofs.Nodes.{NodeSound, own-length, own-size, sound-node}
-use Rattle.term.proofs.Inverse.{TreeSound, TreesSound, sound, sound-all, tree-unfold}
+use Rattle.term.proofs.Inverse.{TreeSound, sound, tree-unfold}
 
--- What is read lies within the bytes
+-- What is read lies within the bytes and the nesting
 
-pub node-within : (table : List ℕ) (records inList : Bool) (left : ℕ) (s : List ℕ) {size k : ℕ} {list : Bool} {low : ℕ}
-    → nodeAt table records inList left s ≡ Open size k list low → (size ≤ length s) × (0 < size)
-node-within table records inList left s {size} {k} {list} {low} e =
-    let c = codeIn records (getD s 0 0) in
-    let h = opened-at (NodeSound table records inList left s c) (sound-node table records inList left s) e in
-    (omega (arith, ap length (h .bytes) ∙ own-length table c k (drop size s), h .long), omega (arith, h .long, own-size table c))
+module _ (table : List ℕ) (records inList : Bool) (left : ℕ) (s : List ℕ) {size k : ℕ} {list : Bool} {low : ℕ} (e : nodeAt table records inList left s ≡ Open size k list low) where
+  node-sound : NodeSound table records inList left s (codeIn records (getD s 0 0)) size k list low
+  node-sound = opened-at (NodeSound table records inList left s (codeIn records (getD s 0 0))) (sound-node table records inList left s) e
 
-shown-got : {A : Type 0} (P : A → ℕ → Type 0) (a : Answer A) (n : ℕ) → Got P a → shown a ≡ Ends n → (x : A) × P x n
-unfolding shown
-shown-got P (refused r) n h e = let z : _≡_ {A = ℕ} 0 1 = cc in absurd (omega arith)
-shown-got P (read x m) n h e = let z : m ≡ n = cc in (x, rw (← z) h)
+  pub node-within : (size ≤ length s) × (0 < size)
+  node-within =
+      let c = codeIn records (getD s 0 0) in
+      (omega (arith, ap length (node-sound .bytes) ∙ own-length table c k (drop size s), node-sound .long), omega (arith, node-sound .long, own-size table c))
+
+  -- less nesting is left for two children or more
+  pub node-below : (0 < left) × (low < left + (2 - k))
+  node-below = (node-sound .levels, omega (arith, node-sound .levels, node-sound .is-low))
 
 pub tree-ends : (table : List ℕ) (records : Bool) (left : ℕ) (inList : Bool) (s : List ℕ) (n : ℕ) → shown (readTree table records left inList s) ≡ Ends n → n ≤ length s
 tree-ends table records left inList s n e =
-    let h = shown-got (TreeSound table records left inList s) (readTree table records left inList s) n (sound table records left inList s) e in
-    omega (arith, ap length (h .1 .bytes) ∙ encode-length table (h .0) (drop n s), h .1 .long)
-
-pub all-ends : (table : List ℕ) (records : Bool) (left : ℕ) (inList : Bool) (k : ℕ) (s : List ℕ) (n : ℕ)
-    → shown (readAll (readTree table records left inList) k s) ≡ Ends n → n ≤ length s
-all-ends table records left inList k s n e =
-    let h = shown-got (TreesSound table records left inList s k) (readAll (readTree table records left inList) k s) n
-    (sound-all table records left inList (readTree table records left inList) (sound table records left inList) k s) e in
-    omega (arith, ap length (h .1 .bytes) ∙ encodes-length table (h .0) (drop n s), h .1 .long)
+    let x = ends-shown (readTree table records left inList s) n e in
+    let h = subst (Got (TreeSound table records left inList s)) (x .1) (sound table records left inList s) in
+    omega (arith, ap length (h .bytes) ∙ encode-length table (x .0) (drop n s), h .long)
 
 -- So many bytes before what was read
 
@@ -68,22 +63,19 @@ unfolding shown join
 shown-join t n (refused r) = refl
 shown-join t n (read ts m) = refl
 
-shown-chain : (a : Answer Tree) (g : ℕ → Answer Trees) (n : ℕ) → shown a ≡ Ends n → shown (chain a g) ≡ plus n (shown (g n))
-unfolding shown chain
-shown-chain (refused r) g n e = let z : _≡_ {A = ℕ} 0 1 = cc in absurd (omega arith)
-shown-chain (read t m) g n e = let z : m ≡ n = cc in rw z (shown-join t n (g n))
+-- and then what follows
+abbrev pub andThen : Read → (ℕ → Read) → Read
+andThen (Read.Refused r) g = Read.Refused r
+andThen (Ends n) g = plus n (g n)
 
-shown-chain-refused : (a : Answer Tree) (g : ℕ → Answer Trees) (r : Refusal) → shown a ≡ Read.Refused r → shown (chain a g) ≡ Read.Refused r
+pub shown-chain : (a : Answer Tree) (g : ℕ → Answer Trees) → shown (chain a g) ≡ andThen (shown a) (λ n. shown (g n))
 unfolding shown chain
-shown-chain-refused (refused q) g r e = e
-shown-chain-refused (read t m) g r e = let z : _≡_ {A = ℕ} 0 1 = cc in absurd (omega arith)
+shown-chain (refused r) g = refl
+shown-chain (read t n) g = shown-join t n (g n)
 
 -- a part to the end is what is left after so many elements
 pub rest-part : (a : ℕ) (s : List ℕ) → take (length s - a) (drop a s) ≡ drop a s
 rest-part a s = take-all (length s - a) (drop a s) (omega (arith, length-drop a s))
-
-pub part-length : (a : ℕ) (s : List ℕ) → length (take (length s - a) (drop a s)) ≡ length s - a
-part-length a s = ap length (rest-part a s) ∙ length-drop a s
 
 -- One tree
 
@@ -94,37 +86,24 @@ module _ (table : List ℕ) (records : Bool) (left : ℕ) (inList : Bool) (s : L
   tree-refused r e = ap shown (tree-unfold table records left inList s) ∙ rw e
 
   -- a node that is open goes on with its children
-  pub tree-rest : {size k : ℕ} {list : Bool} {low : ℕ} (rest : Read) → nodeAt table records inList left s ≡ Open size k list low
-      → rest ≡ shown (readAll (readTree table records low list) k (take (length s - size) (drop size s)))
-      → shown (readTree table records left inList s) ≡ plus size rest
+  pub tree-open : {size k : ℕ} {list : Bool} {low : ℕ} → nodeAt table records inList left s ≡ Open size k list low
+      → shown (readTree table records left inList s) ≡ plus size (shown (readAll (readTree table records low list) k (drop size s)))
   unfolding enter
-  tree-rest {size} {k} {list} {low} rest e r =
+  tree-open {size} {k} {list} {low} e =
       ap shown (tree-unfold table records left inList s)
       ∙ rw e (shown-grow (codeIn records (getD s 0 0)) size (readAll (readTree table records low list) k (drop size s)))
-      ∙ ap (λ (l : List ℕ). plus size (shown (readAll (readTree table records low list) k l))) (sym (rest-part size s)) ∙ ap (plus size) (sym r)
 
 -- So many trees
 
-module _ (f : List ℕ → Answer Tree) (k : ℕ) (s : List ℕ) where
-  pub all-none : k ≡ 0 → shown (readAll f k s) ≡ Ends 0
-  unfolding shown readAll
-  all-none e = rw e
+pub all-none : (f : List ℕ → Answer Tree) (k : ℕ) (s : List ℕ) → k ≡ 0 → shown (readAll f k s) ≡ Ends 0
+unfolding shown readAll
+all-none f k s e = rw e
 
 -- one more is the first, and then one fewer
-all-more : (f : List ℕ → Answer Tree) (k : ℕ) (s : List ℕ) → (k ≡ 0 → ⊥) → readAll f k s ≡ chain (f s) (λ n. readAll f (k - 1) (drop n s))
+pub all-more : (f : List ℕ → Answer Tree) (k : ℕ) (s : List ℕ) → (k ≡ 0 → ⊥) → readAll f k s ≡ chain (f s) (λ n. readAll f (k - 1) (drop n s))
 unfolding readAll
 all-more f zero s h = absurd (h refl)
 all-more f (suc k) s h = rw (sub-one (suc k))
-
-module _ (f : List ℕ → Answer Tree) (k : ℕ) (s : List ℕ) where
-  pub all-refused : (r : Refusal) → (k ≡ 0 → ⊥) → shown (f s) ≡ Read.Refused r → shown (readAll f k s) ≡ Read.Refused r
-  all-refused r h e = ap shown (all-more f k s h) ∙ shown-chain-refused (f s) (λ n. readAll f (k - 1) (drop n s)) r e
-
-  pub all-rest : (n : ℕ) (rest : Read) → (k ≡ 0 → ⊥) → shown (f s) ≡ Ends n
-      → rest ≡ shown (readAll f (k - 1) (take (length s - n) (drop n s))) → shown (readAll f k s) ≡ plus n rest
-  all-rest n rest h e r =
-      ap shown (all-more f k s h) ∙ shown-chain (f s) (λ m. readAll f (k - 1) (drop m s)) n e
-      ∙ ap (λ (l : List ℕ). plus n (shown (readAll f (k - 1) l))) (sym (rest-part n s)) ∙ ap (plus n) (sym r)
 
 -- The whole of the bytes
 
@@ -139,17 +118,15 @@ module _ (records : Bool) (table s : List ℕ) where
 
 pub whole-refused : (s : List ℕ) (a : Answer Tree) (r : Refusal) → shown a ≡ Read.Refused r → shown (whole s a) ≡ Read.Refused r
 unfolding shown whole
-whole-refused s (refused q) r e = e
-whole-refused s (read t n) r e = let z : _≡_ {A = ℕ} 0 1 = cc in absurd (omega arith)
+whole-refused s a r e = rw (refused-shown a r e)
 
 whole-ends : (s : List ℕ) (a : Answer Tree) (n : ℕ) → shown a ≡ Ends n → shown (whole s a) ≡ cond (eqb n (length s)) (Ends n) (Read.Refused Spare)
 unfolding shown whole
-whole-ends s (refused r) n e = let z : _≡_ {A = ℕ} 0 1 = cc in absurd (omega arith)
-whole-ends s (read t m) n e = let z : m ≡ n = cc in rw z (by (eqb n (length s)))
+whole-ends s a n e = let x = ends-shown a n e in rw (x .1) (by (x .0) (eqb n (length s)))
   where
-    by : (b : Bool) → shown (cond b (read t n) (refused Spare)) ≡ cond b (Ends n) (Read.Refused Spare)
-    by true = refl
-    by false = refl
+    by : (t : Tree) (b : Bool) → shown (cond b (read t n) (refused Spare)) ≡ cond b (Ends n) (Read.Refused Spare)
+    by t true = refl
+    by t false = refl
 
 pub whole-spare : (s : List ℕ) (a : Answer Tree) (n : ℕ) → shown a ≡ Ends n → n < length s → shown (whole s a) ≡ Read.Refused Spare
 whole-spare s a n e h = whole-ends s a n e ∙ simp (ne-eqb n (length s) (omega arith))

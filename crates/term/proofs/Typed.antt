@@ -14,7 +14,8 @@ use Rattle.term.specs.Limits.{Written, Shape, belowOf, Fits, FitAll, Oct
 use Rattle.term.specs.Reading.{Answer, refused, read, shown, mapAnswer, readWhole, readRecord, readPattern}
 use Rattle.term.specs.declared.Code.{Code}
 use Rattle.term.specs.declared.Code.the-variants.{Symbol, Name, Run, Complement}
-use Rattle.term.proofs.Inverse.{read-iff}
+use Rattle.term.proofs.Answers.{Got}
+use Rattle.term.proofs.Inverse.{Read-whole, whole-read, read-iff}
 
 mutual
   unfolding termOf byteOf
@@ -133,6 +134,14 @@ module _ {X : Type 0} (write : X → Tree) (make : Tree → X) (back : (x : X) �
       from : (encode table (write x) [] ≡ s) × Accepted table records (write x) → mapAnswer make (readWhole records table s) ≡ read x (length s)
       from h = ap (mapAnswer make) (read-iff table records s octets (write x) .1 h) ∙ ap (λ (y : X). read y (length s)) (back x)
 
+-- what is read are all the bytes
+read-length : {A : Type 0} (f : Tree → A) (records : Bool) (table s : List ℕ) (x : A) (n : ℕ) → mapAnswer f (readWhole records table s) ≡ read x n
+    → mapAnswer f (readWhole records table s) ≡ read x (length s)
+unfolding Read-whole
+read-length f records table s x n e =
+    let m = map-read f (readWhole records table s) x n e in
+    e ∙ ap (read x) (subst (Got (Read-whole table records s)) (m .1) (whole-read table records s) .1)
+
 module _ (table s : List ℕ) (octets : Octets s) where
   -- bytes are read as a term exactly if they are the term's and the term is within the limits; and so for a pattern
   pub record-iff : (t : Term) → (readRecord table s ≡ read t (length s)) ↔ ((termBytes table t [] ≡ s) × TermAccepted table t)
@@ -142,3 +151,12 @@ module _ (table s : List ℕ) (octets : Octets s) where
   pub pattern-iff : (q : Pattern) → (readPattern table s ≡ read q (length s)) ↔ ((patternBytes table q [] ≡ s) × PatternAccepted table q)
   unfolding readPattern
   pattern-iff q = typed-iff patternTree patternOf pattern-back false table s octets (λ u. pattern-tree table u 32) q
+
+  module _ (n : ℕ) where
+    pub record-read : (t : Term) → readRecord table s ≡ read t n → (termBytes table t [] ≡ s) × TermAccepted table t
+    unfolding readRecord
+    record-read t e = record-iff t .0 (read-length termOf true table s t n e)
+
+    pub pattern-read : (q : Pattern) → readPattern table s ≡ read q n → (patternBytes table q [] ≡ s) × PatternAccepted table q
+    unfolding readPattern
+    pattern-read q e = pattern-iff q .0 (read-length patternOf false table s q n e)

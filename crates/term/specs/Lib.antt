@@ -7,6 +7,7 @@ pub mod Pattern
 pub mod Limits
 pub mod Refusal
 pub mod Node
+pub mod Frame
 pub mod Reading
 pub mod Extent
 pub mod Same

@@ -1,7 +1,7 @@
 // Symbol tables, records and patterns: what their bytes stand for, which are accepted, where a term ends, and when two are the same.
 ghost use mathlib.Core.Path.{_≡_};
 ghost use mathlib.Core.Bool.{true, false};
-ghost use Prim.Native.Nat.{_≤_};
+ghost use Prim.Native.Nat.{_<_, _≤_};
 ghost use lib.ListN.{length};
 ghost use Rattle.term.specs.Table.{entryAccepted, tableAccepted};
 ghost use Rattle.term.specs.Code.{decodeOf, codeIn};
@@ -11,7 +11,8 @@ ghost use Rattle.term.specs.Node.{known, listNode, openNode, nodeAt};
 ghost use Rattle.term.specs.Extent.{entryOf, extentOf};
 ghost use Rattle.term.specs.Same.{samePart};
 ghost use Rattle.term.specs.Part.{boundPart, isAbsent, partBytes};
-ghost use Rattle.term.specs.Reading.{shown, readAll, readTree, nodeRefusal, readWhole, readRecord, readPattern};
+ghost use Rattle.term.specs.Frame.{frame, restOf};
+ghost use Rattle.term.specs.Reading.{shown, readTree, nodeRefusal, readWhole, readRecord, readPattern};
 
 // What a byte of a pattern stands for. A name or a run name holds its variable's number.
 pub enum Code {
@@ -43,9 +44,16 @@ pub enum Node {
         size: usize,
         kids: u8,
         list: bool,
-        low: usize,
+        low: u8,
     },
     Refused(Refusal),
+}
+
+// Trees that are still to be read: how many, the nesting left for them, and whether they are a list's children.
+struct Frame {
+    count: u8,
+    left: u8,
+    list: bool,
 }
 
 // A tree that was read ends after so many bytes.
@@ -138,7 +146,7 @@ fn is_known(table: &[u8], code: Code) -> bool
 }
 
 // A node of one byte.
-fn plain_node(kids: u8, low: usize) -> Node
+fn plain_node(kids: u8, low: u8) -> Node
     ensures { λ r. ⌜ r ≡ Node.Open 1 kids false low ⌝ }
 {
     Node::Open {
@@ -150,7 +158,7 @@ fn plain_node(kids: u8, low: usize) -> Node
 }
 
 // The node of a list symbol.
-fn list_node(s: &[u8], low: usize) -> Node
+fn list_node(s: &[u8], low: u8) -> Node
     ensures { λ r. ⌜ r ≡ listNode low (now (s .entry)) ⌝ }
 {
     if s.len() < 2 {
@@ -165,7 +173,7 @@ fn list_node(s: &[u8], low: usize) -> Node
 }
 
 // The node of a known code, with so much nesting left for its children.
-fn open_node(table: &[u8], s: &[u8], in_list: bool, low: usize, code: Code) -> Node
+fn open_node(table: &[u8], s: &[u8], in_list: bool, low: u8, code: Code) -> Node
     requires { ⌜ known (now table) code ≡ true ⌝ }
     ensures { λ r. ⌜ r ≡ openNode (now (table .entry)) «in_list» low (now (s .entry)) code ⌝ }
 {
@@ -190,7 +198,7 @@ fn open_node(table: &[u8], s: &[u8], in_list: bool, low: usize, code: Code) -> N
     }
 }
 
-fn node_at(table: &[u8], s: &[u8], records: bool, in_list: bool, left: usize) -> Node
+fn node_at(table: &[u8], s: &[u8], records: bool, in_list: bool, left: u8) -> Node
     ensures { λ r. ⌜ r ≡ nodeAt (now (table .entry)) records «in_list» left (now (s .entry)) ⌝ }
 {
     if s.len() == 0 {
@@ -204,6 +212,32 @@ fn node_at(table: &[u8], s: &[u8], records: bool, in_list: bool, left: usize) ->
         return Node::Refused(Refusal::Deep);
     }
     open_node(table, s, in_list, left - 1, code)
+}
+
+impl Frame {
+    const EMPTY: Frame = Frame {
+        count: 0,
+        left: 0,
+        list: false,
+    };
+
+    fn of(count: u8, left: u8, list: bool) -> Frame
+        ensures { λ r. ⌜ r ≡ frame count left list ⌝ }
+    {
+        Frame {
+            count: count,
+            left: left,
+            list: list,
+        }
+    }
+
+    // All but the first tree.
+    fn rest(self) -> Frame
+        requires { ⌜ 0 < self .count ⌝ }
+        ensures { λ r. ⌜ r ≡ restOf self ⌝ }
+    {
+        Frame::of(self.count - 1, self.left, self.list)
+    }
 }
 
 fn node_refusal(n: Node) -> Read
@@ -220,43 +254,45 @@ fn node_refusal(n: Node) -> Read
     }
 }
 
-// The tree at the start of s: its node, and then its children, which are handed on as a part of s.
-fn read_tree(table: &[u8], s: &[u8], records: bool, left: usize, in_list: bool) -> Read
-    ensures { λ r. ⌜ r ≡ shown (readTree (now (table .entry)) records left «in_list» (now (s .entry))) ⌝ }
+// The tree at the start of s. Still to be read are the trees of `top`, and then those of the frames around it, the innermost first.
+fn read_tree(table: &[u8], s: &[u8], records: bool) -> Read
+    ensures { λ r. ⌜ r ≡ shown (readTree (now (table .entry)) records 32 false (now (s .entry))) ⌝ }
 {
-    let node = node_at(table, s, records, in_list, left);
-    let Node::Open {
-        size,
-        kids,
-        list,
-        low,
-    } = node
-    else {
-        return node_refusal(node);
-    };
-    let inner = read_all(table, &s[size..], records, low, list, kids);
-    let Read::Ends(n) = inner else {
-        return inner;
-    };
-    Read::Ends(size + n)
-}
-
-// So many trees, one after the other.
-fn read_all(table: &[u8], s: &[u8], records: bool, left: usize, in_list: bool, count: u8) -> Read
-    ensures { λ r. ⌜ r ≡ shown (readAll (readTree (now (table .entry)) records left «in_list») count (now (s .entry))) ⌝ }
-{
-    if count == 0 {
-        return Read::Ends(0);
+    let mut around = [Frame::EMPTY; 32];
+    let mut depth: usize = 0;
+    let mut top = Frame::of(1, 32, false);
+    let mut at: usize = 0;
+    loop {
+        let node = node_at(table, &s[at..], records, top.list, top.left);
+        let Node::Open {
+            size,
+            kids,
+            list,
+            low,
+        } = node
+        else {
+            return node_refusal(node);
+        };
+        at = at + size;
+        let inner = Frame::of(kids, low, list);
+        let rest = top.rest();
+        if kids == 0 {
+            if 0 < rest.count {
+                top = rest;
+            } else if 0 < depth {
+                depth = depth - 1;
+                top = around[depth];
+            } else {
+                return Read::Ends(at);
+            }
+        } else if 0 < rest.count {
+            around[depth] = rest;
+            depth = depth + 1;
+            top = inner;
+        } else {
+            top = inner;
+        }
     }
-    let first = read_tree(table, s, records, left, in_list);
-    let Read::Ends(n) = first else {
-        return first;
-    };
-    let rest = read_all(table, &s[n..], records, left, in_list, count - 1);
-    let Read::Ends(m) = rest else {
-        return rest;
-    };
-    Read::Ends(n + m)
 }
 
 fn longest_of(records: bool) -> usize
@@ -272,7 +308,7 @@ fn read_whole(records: bool, table: &[u8], s: &[u8]) -> Read
     if longest_of(records) < s.len() {
         return Read::Refused(Refusal::Long);
     }
-    let tree = read_tree(table, s, records, 32, false);
+    let tree = read_tree(table, s, records);
     let Read::Ends(n) = tree else {
         return tree;
     };
