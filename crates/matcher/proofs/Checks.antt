@@ -1,47 +1,24 @@
 -- The checks pass exactly on accepted input.
 use Prim.Native.Nat.{ℕ, _<_, _≤_}
 use native.Mathlib.Omega.{arith}
-use mathlib.Core.Path.{_≡_, refl, sym, _∙_, ap}
+use mathlib.Core.Path.{_≡_, refl, _∙_, ap}
 use mathlib.Core.List.{List}
 use mathlib.Core.Bool.{Bool, true, false, cond}
-use lib.ListN.{length}
 use lib.Dec.{ltb}
 use borrow.Author.Tests.{ltb-false, lt-ltb, le-ltb}
 use Rattle.term.specs.Table.{tableAccepted}
-use Rattle.term.specs.Tree.{Tree}
 use Rattle.term.specs.Term.{Term}
 use Rattle.term.specs.Pattern.{Pattern}
 use Rattle.term.specs.Limits.{Octets}
-use Rattle.term.specs.Reading.{Answer as Reading, refused, read, shown, mapAnswer, readWhole, readRecord, readPattern}
+use Rattle.term.specs.Reading.{Answer as Reading, refused, read, shown, readRecord, readPattern}
 use Rattle.term.specs.declared.Refusal.{Refusal}
 use Rattle.term.specs.declared.Refusal.the-variants.{Table, Narrow}
 use Rattle.term.specs.declared.Read.{Read}
 use Rattle.term.specs.declared.Read.the-variants.{Ends}
-use Rattle.term.proofs.Answers.{Got}
-use Rattle.term.proofs.Inverse.{Read-whole, whole-read}
-use Rattle.term.proofs.Typed.{record-iff, pattern-iff}
+use Rattle.term.proofs.Answers.{refused-shown, ends-shown}
+use Rattle.term.proofs.Typed.{record-iff, pattern-iff, record-read, pattern-read}
 use Rattle.matcher.specs.Call.{Input, fault, trees, checkedBy, checked, checkOf}
 use Rattle.matcher.specs.declared.Check.the-variants.{Passed, Failed}
-
--- what is read is all there is
-
-read-whole-length : {A : Type 0} (f : Tree → A) (records : Bool) (table s : List ℕ) (x : A) (n : ℕ) → mapAnswer f (readWhole records table s) ≡ read x n
-    → n ≡ length s
-unfolding mapAnswer Read-whole
-read-whole-length f records table s x n e = go (readWhole records table s) (whole-read table records s) e
-  where
-    go : (a : Reading Tree) → Got (Read-whole table records s) a → mapAnswer f a ≡ read x n → n ≡ length s
-    go (refused r) h e = let z : _≡_ {A = ℕ} 0 1 = cc in absurd (omega arith)
-    go (read t m) h e = let z : m ≡ n = cc in sym z ∙ h .1
-
-module _ (table s : List ℕ) where
-  pattern-length : (q : Pattern) (n : ℕ) → readPattern table s ≡ read q n → readPattern table s ≡ read q (length s)
-  unfolding readPattern
-  pattern-length q n e = e ∙ ap (read q) (read-whole-length _ false table s q n e)
-
-  record-length : (t : Term) (n : ℕ) → readRecord table s ≡ read t n → readRecord table s ≡ read t (length s)
-  unfolding readRecord
-  record-length t n e = e ∙ ap (read t) (read-whole-length _ true table s t n e)
 
 fault-trees : {r : Refusal} {q : Pattern} {t : Term} → fault r ≡ trees q t → ⊥
 fault-trees e = let z : _≡_ {A = ℕ} 0 1 = cc in omega arith
@@ -71,8 +48,8 @@ module _ (table pattern bytes : List ℕ) (width : ℕ) (pattern-octets : Octets
       go false h true g (read p n) k (read u m) l e =
           let z : p ≡ q = cc in
           let y : u ≡ t = cc in
-          let a = pattern-iff table pattern pattern-octets q .0 (pattern-length table pattern q n (k ∙ ap (λ (w : Pattern). read w n) z)) in
-          let b = record-iff table bytes record-octets t .0 (record-length table bytes t m (l ∙ ap (λ (w : Term). read w m) y)) in (
+          let a = pattern-read table pattern pattern-octets n q (k ∙ ap (λ (w : Pattern). read w n) z) in
+          let b = record-read table bytes record-octets m t (l ∙ ap (λ (w : Term). read w m) y) in (
             ltb-false width 96 h,
             record {
               table-accepted = g;
@@ -84,16 +61,6 @@ module _ (table pattern bytes : List ℕ) (width : ℕ) (pattern-octets : Octets
           )
 
 -- each check by what is told of the ones before it
-
-refused-shown : {A : Type 0} (a : Reading A) (r : Refusal) → shown a ≡ Read.Refused r → a ≡ refused r
-unfolding shown
-refused-shown (refused x) r e = cc
-refused-shown (read x n) r e = let z : _≡_ {A = ℕ} 0 1 = cc in absurd (omega arith)
-
-ends-shown : {A : Type 0} (a : Reading A) (n : ℕ) → shown a ≡ Ends n → (x : A) × (a ≡ read x n)
-unfolding shown
-ends-shown (refused r) n e = let z : _≡_ {A = ℕ} 0 1 = cc in absurd (omega arith)
-ends-shown (read x m) n e = let z : m ≡ n = cc in (x, ap (read x) z)
 
 module _ (table pattern bytes : List ℕ) (width : ℕ) where
   pub narrow-fails : width < 96 → Failed Narrow ≡ checkOf (checked table pattern bytes width)

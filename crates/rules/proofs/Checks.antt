@@ -15,7 +15,8 @@ use Rattle.term.specs.declared.Refusal.{Refusal}
 use Rattle.term.specs.declared.Refusal.the-variants.{Narrow}
 use Rattle.term.specs.declared.Read.{Read}
 use Rattle.term.specs.declared.Read.the-variants.{Ends}
-use Rattle.term.proofs.Typed.{record-iff, pattern-iff}
+use Rattle.term.proofs.Answers.{refused-shown, ends-shown}
+use Rattle.term.proofs.Typed.{record-iff, pattern-iff, record-read, pattern-read}
 use Rattle.sheet.specs.Entry.{entries}
 use Rattle.sheet.specs.Contents.{readEntry, checkEach, checkRules}
 use Rattle.sheet.specs.declared.Checked.{Checked as SheetChecked}
@@ -24,7 +25,6 @@ use Rattle.sheet.proofs.Checks.{accepted-directed, directed-accepted}
 use Rattle.sheet.proofs.Contents.{contents-each, contents-passed}
 use Rattle.sheet.proofs.Readings.{accepted-reading}
 use Rattle.rules.specs.Call.{AllAccepted, rulesBytes, Input, fault, trees, rulesOf, checkedBy, checked, checkOf}
-use Rattle.rules.proofs.Readings.{pattern-read, record-read, refused-shown, ends-shown}
 use Rattle.rules.proofs.Rules.{entries-octets, input-directed, input-entries}
 
 -- the entries that pass are read, each as a rule

@@ -1,5 +1,4 @@
 -- The laws that lead from a rule sheet's bytes to its rules, and from there to the answer.
-pub mod Readings
 pub mod Rules
 pub mod Checks
 pub mod Turns
