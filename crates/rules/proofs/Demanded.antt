@@ -2,7 +2,7 @@
 use Prim.Native.Nat.{ℕ, _+_, _<_, _≤_}
 use native.Mathlib.Omega.{arith}
 use mathlib.Core.Path.{_≡_, refl, sym, _∙_, ap, subst}
-use mathlib.Core.List.{List, _∷_}
+use mathlib.Core.List.{List, [], _∷_}
 use lib.ListN.{length, getD, drop, length-append}
 use lib.Seq.{getD-at}
 use Rattle.term.specs.Term.{Term}
@@ -11,9 +11,10 @@ use Rattle.term.specs.Limits.{Octets}
 use Rattle.term.specs.declared.Refusal.{Refusal}
 use Rattle.anti_pattern.specs.Answer.{Answer as Outcome, countOf}
 use Rattle.anti_pattern.specs.Demands.{First}
-use Rattle.anti_pattern.specs.Meaning.{Assignment}
+use Rattle.anti_pattern.specs.Meaning.{Assignment, Satisfies}
 use Rattle.anti_pattern.specs.Place.{partsAt}
-use Rattle.anti_pattern.proofs.Demands.{answer-exact}
+use Rattle.anti_pattern.specs.Published.{assignment}
+use Rattle.anti_pattern.proofs.Demands.{answer-exact, published-agrees}
 use Rattle.sheet.specs.declared.Checked.{Checked as SheetChecked}
 use Rattle.sheet.specs.declared.Checked.the-variants.{Accepted}
 use Rattle.sheet.specs.Entry.{partAt}
@@ -23,7 +24,7 @@ use Rattle.matcher.proofs.Answered.{answered as own-answered}
 use Rattle.rules.specs.Answer.{ruleNumber}
 use Rattle.rules.specs.Trial.{Trial, boundAt, noneOf, spentAt, tryRules}
 use Rattle.rules.specs.Call.{Input, Checked, fault, trees, checked, checkOf, told, answerBy, answerOf, written, bufferBy, bufferOf}
-use Rattle.rules.specs.Demands.{EachNone, counts, Reached, Answered, Demanded, Matched}
+use Rattle.rules.specs.Demands.{EachNone, counts, Reached, Answered, EachUnsolved, Published, Demanded, Matched}
 use Rattle.rules.specs.declared.RuleAnswer.{RuleAnswer}
 use Rattle.rules.specs.declared.RuleAnswer.the-variants.{Bound, None, Spent, Refused}
 use Rattle.rules.proofs.Rules.{ruleAt, rule-input, part-octets}
@@ -84,6 +85,14 @@ module _ (table : List ℕ) (qs : List Pattern) (t : Term) (allowance : ℕ) whe
   none-there n (ends-bound r f) e = let z : _≡_ {A = ℕ} 0 1 = cc in absurd (omega arith)
   none-there n (ends-spent r f) e = let z : _≡_ {A = ℕ} 0 1 = cc in absurd (omega arith)
 
+-- a rule that is none has no solution
+unsolved : (table : List ℕ) (t : Term) (allowance : ℕ) (qs : List Pattern) → EachNone table t allowance qs → EachUnsolved t qs
+unsolved table t allowance [] h = tt
+unsolved table t allowance (q ∷ qs) h = (
+  λ w σ s. h .0 .1 (assignment σ) (published-agrees table q w t .solution-satisfies σ .0 s),
+  unsolved table t allowance qs (h .1),
+)
+
 module _ (table sheet bytes before : List ℕ) (allowance : ℕ) (sheet-octets : Octets sheet) (record-octets : Octets bytes) where
   module _ (wide : 96 ≤ length before) (qs : List Pattern) (t : Term) (i : Input table sheet bytes qs t) where
     -- a rule that is reached is a part of the sheet
@@ -125,6 +134,27 @@ module _ (table sheet bytes before : List ℕ) (allowance : ℕ) (sheet-octets :
       larger-allowance = λ more h k. same-call more (larger-trial table t allowance more k qs h);
     }
 
+    -- the first assignment of a rule without run names is its solution
+    published : (a : RuleAnswer) (after : List ℕ) → Answered table sheet bytes before allowance qs t a after → Published table bytes allowance qs t a after
+    published a after h = record {
+      none-unsolved = λ n e. unsolved table t allowance qs (h .none-exactly n .0 e .0);
+      bound-shows = λ k n e.
+          let b = h .bound-shows k n e in
+          let x = b .3 in (
+            b .0,
+            b .1,
+            b .2,
+            unsolved table t allowance (b .2 .earlier) (b .2 .passed),
+            λ w.
+                let p = published-agrees table (b .0) w t in
+                let s = p .satisfying-substitution (x .0) (x .1 .satisfies) in (
+                  s .0,
+                  p .solution-satisfies (s .0) .1 (subst (Satisfies (b .0) t) (s .1) (x .1 .satisfies)),
+                  subst (λ (y : Assignment). Shows table bytes (b .0) t y after) (s .1) (x .2),
+                ),
+          );
+    }
+
   refused-of : (c : Checked) → checked table sheet bytes (length before) ≡ c → (96 ≤ length before → (qs : List Pattern) (t : Term) → Input table sheet bytes qs t → ⊥)
       → (r : Refusal) × (i : ℕ) × (answerBy c table allowance ≡ Refused r i)
   refused-of (fault r i) e h = (r, i, refl)
@@ -147,6 +177,9 @@ module _ (table sheet bytes before : List ℕ) (allowance : ℕ) (sheet-octets :
         answered = λ wide qs t i.
             let z = same-call wide qs t i allowance refl in
             rw (e ∙ z .0, f ∙ z .1) (answered wide qs t i);
+        published = λ wide qs t i.
+            let z = same-call wide qs t i allowance refl in
+            rw (e ∙ z .0, f ∙ z .1) (published wide qs t i _ _ (answered wide qs t i));
         refused-exactly = (
           λ r wide qs t i.
               told-refused (tryRules table qs t allowance) (r .0) (r .1) (sym (e ∙ same-call wide qs t i allowance refl .0) ∙ r .2),

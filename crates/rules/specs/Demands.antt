@@ -8,9 +8,11 @@ use Rattle.term.specs.Term.{Term}
 use Rattle.term.specs.Pattern.{Pattern}
 use Rattle.term.specs.declared.Refusal.{Refusal}
 use Rattle.term.specs.declared.Refusal.the-variants.{Narrow}
+use Rattle.anti_pattern.specs.AntiTerm.{Substitution}
 use Rattle.anti_pattern.specs.Answer.{countOf}
 use Rattle.anti_pattern.specs.Demands.{First, Unsatisfied}
 use Rattle.anti_pattern.specs.Meaning.{Assignment}
+use Rattle.anti_pattern.specs.Published.{Solution, NoRuns, anti, assignment}
 use Rattle.matcher.specs.Demands.{Shows}
 use Rattle.rules.specs.Answer.{ruleNumber}
 use Rattle.rules.specs.Trial.{tryRules}
@@ -57,10 +59,24 @@ pub record Answered (table sheet bytes before : List ℕ) (allowance : ℕ) (qs 
   pub larger-allowance : (more : ℕ) → (ruleNumber a ≡ 11 → ⊥) → allowance ≤ more
       → (answerOf table sheet bytes more (length before) ≡ a) × (bufferOf table sheet bytes more before ≡ after)
 
+-- by the published definition none of these rules, as far as it has no run names, has a solution
+abbrev pub EachUnsolved : Term → List Pattern → Type 0
+EachUnsolved t [] = Unit {0}
+EachUnsolved t (q ∷ qs) = ((w : NoRuns q) (σ : Substitution) → Solution (anti q w) t σ → ⊥) × EachUnsolved t qs
+
+-- Demand 2, for rules without run names, by the published definition
+pub record Published (table bytes : List ℕ) (allowance : ℕ) (qs : List Pattern) (t : Term) (a : RuleAnswer) (after : List ℕ) : Type 0 where
+  pub none-unsolved : (n : ℕ) → a ≡ None n → EachUnsolved t qs
+  -- a rule is bound where those before it have no solution, and the buffer shows its own
+  pub bound-shows : (k n : ℕ) → a ≡ Bound k n
+      → (q : Pattern) × (sum : ℕ) × (r : Reached table qs t allowance k q sum) × EachUnsolved t (r .earlier)
+      × ((w : NoRuns q) → (σ : Substitution) × Solution (anti q w) t σ × Shows table bytes q t (assignment σ) after)
+
 -- All that is demanded
 pub record Demanded (table sheet bytes before : List ℕ) (allowance : ℕ) (a : RuleAnswer) (after : List ℕ) : Type 0 where
   pub answered : 96 ≤ length before → (qs : List Pattern) (t : Term) → Input table sheet bytes qs t
       → Answered table sheet bytes before allowance qs t a after
+  pub published : 96 ≤ length before → (qs : List Pattern) (t : Term) → Input table sheet bytes qs t → Published table bytes allowance qs t a after
   -- refused exactly when the buffer is narrow or the input is not accepted
   pub refused-exactly : ((r : Refusal) × (i : ℕ) × (a ≡ Refused r i))
       ↔ (96 ≤ length before → (qs : List Pattern) (t : Term) → Input table sheet bytes qs t → ⊥)
