@@ -1,0 +1,82 @@
+-- The line of a state of accepted files.
+use Prim.Native.Nat.{ℕ, zero, suc, _+_, _≤_, _<_}
+use native.Mathlib.Omega.{arith}
+use mathlib.Core.Path.{_≡_, refl, sym, ap, _∙_}
+use mathlib.Core.List.{List, [], _∷_}
+use mathlib.Core.Bool.{true}
+use lib.ListN.{length, getD}
+use Rattle.term.specs.Term.{Term}
+use Rattle.term.specs.Limits.{Octets}
+use Rattle.term.specs.Reading.{Answer as Reading, refused, read, shown, readRecord}
+use Rattle.sheet.specs.Entry.{entries, entryOf, partAt}
+use Rattle.sheet.specs.Contents.{readEntry, checkEach, checkRules}
+use Rattle.sheet.specs.declared.Checked.the-variants.{Accepted}
+use Rattle.sheet.proofs.Contents.{contents-passed}
+use Rattle.sheet.proofs.Entries.{part-is-entry, entry-of-entries, entries-count}
+use Rattle.rules.specs.Call.{Input, Checked as Inputs, trees, rulesOf, checked, told, answerOf, answerBy}
+use Rattle.rules.specs.Trial.{tryRules}
+use Rattle.rules.specs.Demands.{Matched}
+use Rattle.rules.specs.declared.RuleAnswer.{RuleAnswer}
+use Rattle.rules.proofs.Rules.{entries-octets}
+use Rattle.rules.proofs.Checks.{checked-input}
+use Rattle.report_lines.specs.Verdict.{verdict}
+use Rattle.report_lines.specs.Report.{allowance, Answers}
+use Rattle.report_lines.specs.declared.Verdict.the-variants.{Lines}
+use Rattle.report_lines.proofs.Verdicts.{lines-accepted}
+
+-- each entry of accepted states is read as a record
+
+each-read : (table : List ℕ) (es : List (List ℕ)) (i n k : ℕ) → checkEach true table i es ≡ Accepted n → k < length es
+    → (t : Term) × (m : ℕ) × (readRecord table (getD es k []) ≡ read t m)
+unfolding checkEach readEntry shown
+each-read table [] i n k a h = absurd (omega arith)
+each-read table (e ∷ es) i n k a h = go (readRecord table e) refl k h (each-read table es (i + 1) n)
+  where
+    go : (x : Reading Term) → readRecord table e ≡ x → (j : ℕ) → j < suc (length es)
+        → ((l : ℕ) → checkEach true table (i + 1) es ≡ Accepted n → l < length es → (t : Term) × (m : ℕ) × (readRecord table (getD es l []) ≡ read t m))
+        → (t : Term) × (m : ℕ) × (readRecord table (getD (e ∷ es) j []) ≡ read t m)
+    go (refused r) f j l rest = let z : _≡_ {A = ℕ} 0 1 = cc in absurd (omega arith)
+    go (read t m) f zero l rest = (t, m, f)
+    go (read t m) f (suc j) l rest = rest j (cc) (omega arith)
+
+-- accepted rules and a record that is read are checked input
+checked-trees : (table rules bytes : List ℕ) (m : ℕ) → checkRules table rules ≡ Accepted m → (t : Term) (k : ℕ) → readRecord table bytes ≡ read t k
+    → checked table rules bytes 96 ≡ trees (rulesOf table (entries rules)) t
+unfolding checked
+checked-trees table rules bytes m p t k e = rw (p, e)
+
+-- the record of a state, with the rules, is accepted input
+
+module _ (table rules states : List ℕ) (n k : ℕ) (v : verdict true table true rules true states ≡ Lines n) (h : k < n) where
+  pub record-entry : entryOf states k ≡ getD (entries states) k []
+  record-entry = entry-of-entries states n (contents-passed true table states n (lines-accepted table rules states n v .1) .sheet) k h
+
+  record-part : partAt states k ≡ getD (entries states) k []
+  record-part = part-is-entry states n k (contents-passed true table states n (lines-accepted table rules states n v .1) .sheet) h ∙ record-entry
+
+  state-checked : (t : Term) × (checked table rules (getD (entries states) k []) 96 ≡ trees (rulesOf table (entries rules)) t)
+  state-checked =
+      let both = lines-accepted table rules states n v in
+      let c = contents-passed true table states n (both .1) in
+      let x = each-read table (entries states) 0 n k (c .each) (omega (arith, entries-count states n (c .sheet))) in
+      (x .0, checked-trees table rules (getD (entries states) k []) (both .0 .0) (both .0 .1) (x .0) (x .1) (x .2))
+
+  pub state-input : Octets rules → Octets states
+      → (t : Term) × Input table rules (getD (entries states) k []) (rulesOf table (entries rules)) t
+      × (answerOf table rules (getD (entries states) k []) allowance 96 ≡ told (tryRules table (rulesOf table (entries rules)) t allowance))
+  unfolding answerOf
+  state-input ro so =
+      let c = state-checked in (
+        c .0,
+        checked-input table rules (getD (entries states) k []) 96 ro (entries-octets states so k) (rulesOf table (entries rules)) (c .0) (c .1) .1,
+        ap (λ (y : Inputs). answerBy y table allowance) (c .1),
+      )
+
+-- matching without the checks answers as with them
+pub matched-answers : (table rules states : List ℕ) (k : ℕ) → Octets rules → Octets states → (part before : List ℕ) → part ≡ partAt states k → 96 ≤ length before
+    → (a : RuleAnswer) (after : List ℕ) → Matched table rules part before allowance a after → Answers table rules states k a
+unfolding Answers
+matched-answers table rules states k ro so part before is-part wide a after matched n v h =
+    let x = state-input table rules states n k v h ro so in
+    let there : Matched table rules (getD (entries states) k []) before allowance a after = rw (← record-part table rules states n k v h, ← is-part) matched in
+    there .answered wide (rulesOf table (entries rules)) (x .0) (x .1) .0 ∙ sym (x .2)

@@ -1,0 +1,6 @@
+-- The report's text: numbers, lines, the checks of the files, the whole report and its pieces. In document 01's order.
+pub mod Decimal
+pub mod Line
+pub mod Verdict
+pub mod Report
+pub mod Demands

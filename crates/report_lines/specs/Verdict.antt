@@ -1,0 +1,33 @@
+-- The checks of the three files, in their order, 13 before a file's other checks. `true` says that a file could be read.
+use Prim.Native.Nat.{ℕ}
+use mathlib.Core.List.{List}
+use mathlib.Core.Bool.{Bool, cond}
+use Rattle.term.specs.Table.{tableAccepted}
+use Rattle.term.specs.declared.Refusal.{Refusal}
+use Rattle.term.specs.declared.Refusal.the-variants.{Unread}
+use Rattle.sheet.specs.Contents.{checkRules, checkStates}
+use Rattle.sheet.specs.declared.Checked.{Checked}
+use Rattle.sheet.specs.declared.Checked.the-variants.{Accepted}
+use Rattle.report_lines.specs.declared.File.{File}
+use Rattle.report_lines.specs.declared.File.the-variants.{Rules, States}
+use Rattle.report_lines.specs.declared.Verdict.{Verdict}
+use Rattle.report_lines.specs.declared.Verdict.the-variants.{Lines}
+
+-- 13, or what the further checks of a sheet show
+unfoldable pub readable : Bool → Checked → Checked
+readable read checks = cond read checks (Checked.Refused Unread 0)
+
+-- a refusal of a sheet, or what follows from the number of its entries
+abbrev pub sheetOf : File → Checked → (ℕ → Verdict) → Verdict
+sheetOf f (Accepted n) next = next n
+sheetOf f (Checked.Refused r i) next = Verdict.Refused r f i
+
+-- the number of states, or the first refusal
+unfoldable pub verdict : Bool → List ℕ → Bool → List ℕ → Bool → List ℕ → Verdict
+verdict tableRead table rulesRead rules statesRead states =
+    cond tableRead
+    (cond (tableAccepted table)
+    (sheetOf Rules (readable rulesRead (checkRules table rules)) (λ m.
+    sheetOf States (readable statesRead (checkStates table states)) (λ n. Lines n)))
+    (Verdict.Refused Refusal.Table File.Table 0))
+    (Verdict.Refused Unread File.Table 0)
