@@ -12,9 +12,11 @@ use Rattle.term.specs.declared.Refusal.{Refusal}
 use Rattle.term.specs.declared.Refusal.the-variants.{Directory}
 use Rattle.sheet.specs.Sheet.{pastPairs}
 use Rattle.sheet.specs.Check.{entryCount, offsetAt, lengthAt, checkSheet}
-use Rattle.sheet.specs.Entry.{entryAt, entriesFrom, entries, checkEntry, entryOf, partAt}
+use Rattle.sheet.specs.Entry.{entryAt, entriesFrom, entries, checkEntry, entryOf, partAt, placeOf}
 use Rattle.sheet.specs.declared.Checked.{Checked}
 use Rattle.sheet.specs.declared.Checked.the-variants.{Accepted}
+use Rattle.sheet.specs.declared.Place.{Place}
+use Rattle.sheet.specs.declared.Place.the-variants.{At}
 use Rattle.sheet.proofs.Checks.{Directed, accepted-directed, entry-within}
 
 module _ (s : List ℕ) (i : ℕ) where
@@ -67,17 +69,48 @@ module _ (s : List ℕ) (i : ℕ) where
   unfolding entryOf
   entry-refused r j e = rw e
 
-  pub entry-part : (n : ℕ) → checkEntry s i ≡ Accepted n → entryOf s i ≡ partAt s i
-  unfolding entryOf checkEntry
-  entry-part n e = go (checkSheet s) refl
+  -- what passes it
+  pub index-passed : (n : ℕ) → checkEntry s i ≡ Accepted n → (checkSheet s ≡ Accepted n) × (i < n)
+  index-passed n e = go (checkSheet s) refl
     where
-      go : (x : Checked) → checkSheet s ≡ x → entryOf s i ≡ partAt s i
+      go : (x : Checked) → checkSheet s ≡ x → (checkSheet s ≡ Accepted n) × (i < n)
       go (Checked.Refused r j) f = let z : _≡_ {A = ℕ} 0 1 = cc (index-of-refused r j f) in absurd (omega arith)
       go (Accepted m) f = pick (ltb i m) refl
         where
-          pick : (b : Bool) → ltb i m ≡ b → entryOf s i ≡ partAt s i
+          pick : (b : Bool) → ltb i m ≡ b → (checkSheet s ≡ Accepted n) × (i < n)
           pick false g = let z : _≡_ {A = ℕ} 0 1 = cc (index-past m f (ltb-false i m g)) in absurd (omega arith)
-          pick true g = sym (part-is-entry s m i f (ltb-true i m g))
+          pick true g =
+              let h = ltb-true i m g in
+              let k : m ≡ n = cc (index-below m f h) in
+              (f ∙ ap Accepted k, omega arith)
+
+  pub entry-part : (n : ℕ) → checkEntry s i ≡ Accepted n → entryOf s i ≡ partAt s i
+  entry-part n e = let a = index-passed n e in sym (part-is-entry s n i (a .0) (a .1))
+
+  -- the pair of an index that passes lies within the sheet
+  pub pair-within : (n : ℕ) → checkEntry s i ≡ Accepted n → 6 + 4 * i ≤ length s
+  pair-within n e = let a = index-passed n e in omega (arith, accepted-directed s n (a .0) .within, a .1)
+
+  -- where the entry lies
+
+  pub place-passed : (n : ℕ) → checkEntry s i ≡ Accepted n → placeOf s i ≡ At (offsetAt s i) (lengthAt s i)
+  unfolding placeOf
+  place-passed n e = rw e
+
+  pub place-refused : (r : Refusal) (j : ℕ) → checkEntry s i ≡ Checked.Refused r j → placeOf s i ≡ Place.Refused r
+  unfolding placeOf
+  place-refused r j e = rw e
+
+  pub place-is-entry : (offset n : ℕ) → placeOf s i ≡ At offset n → take n (drop offset s) ≡ entryOf s i
+  unfolding placeOf entryOf entryAt
+  place-is-entry offset n e = go (checkEntry s i) refl
+    where
+      go : (x : Checked) → checkEntry s i ≡ x → take n (drop offset s) ≡ entryOf s i
+      go (Checked.Refused r j) f = let z : _≡_ {A = ℕ} 0 1 = cc in absurd (omega arith)
+      go (Accepted m) f =
+          let a : offsetAt s i ≡ offset = cc in
+          let b : lengthAt s i ≡ n = cc in
+          rw (f, a, b)
 
 -- all entries, by their index
 

@@ -8,6 +8,8 @@ use Rattle.term.specs.declared.Refusal.the-variants.{Directory}
 use Rattle.sheet.specs.Check.{entryCount, offsetAt, lengthAt, checkSheet, andThen}
 use Rattle.sheet.specs.declared.Checked.{Checked}
 use Rattle.sheet.specs.declared.Checked.the-variants.{Accepted}
+use Rattle.sheet.specs.declared.Place.{Place}
+use Rattle.sheet.specs.declared.Place.the-variants.{At}
 
 unfoldable pub entryAt : List ℕ → ℕ → List ℕ
 entryAt s i = take (lengthAt s i) (drop (offsetAt s i) s)
@@ -36,3 +38,11 @@ entryOf s i = provided (checkEntry s i) (entryAt s i)
 -- the part that the pair of an index tells, of any bytes: empty where pair or part does not lie within them
 unfoldable pub partAt : List ℕ → ℕ → List ℕ
 partAt s i = cond (leb (6 + 4 * i) (length s)) (cond (leb (offsetAt s i + lengthAt s i) (length s)) (entryAt s i) []) []
+
+-- where an entry lies: the directory's offset and length where the check passes, or why it does not
+abbrev pub placeBy : Checked → ℕ → ℕ → Place
+placeBy (Accepted n) offset length = At offset length
+placeBy (Checked.Refused r i) offset length = Place.Refused r
+
+unfoldable pub placeOf : List ℕ → ℕ → Place
+placeOf s i = placeBy (checkEntry s i) (offsetAt s i) (lengthAt s i)

@@ -10,7 +10,7 @@ ghost use lib.Seq.{sets};
 ghost use Rattle.sheet.specs.Word.{word, wordAt};
 ghost use Rattle.sheet.specs.Sheet.{pastPairs, directory, sheetBytes};
 ghost use Rattle.sheet.specs.Check.{longestSheet, entryCount, offsetAt, lengthAt, followed, checkSheet};
-ghost use Rattle.sheet.specs.Entry.{entries, checkEntry, entryOf, partAt};
+ghost use Rattle.sheet.specs.Entry.{entries, checkEntry, entryOf, partAt, placeOf};
 ghost use Rattle.sheet.specs.Contents.{readEntry, checkEach, few, checkContents, checkStates, checkRules};
 ghost use Rattle.sheet.specs.Writing.{split, sum, lengthsAccepted, sheetLength, checkRecords, writing, outputAfter};
 ghost use Rattle.sheet.specs.Answer.{checkedNumber, checkedIndex, writingNumber, writingIndex, writingLength};
@@ -25,6 +25,12 @@ pub enum Checked {
 pub enum Writing {
     Written(usize),
     Refused(Refusal, usize),
+}
+
+// Where an entry lies in its sheet: offset and length in bytes, or why sheet or index is refused.
+pub enum Place {
+    At(u16, u16),
+    Refused(Refusal),
 }
 
 impl Checked {
@@ -197,6 +203,17 @@ pub fn entry(sheet: &[u8], index: usize) -> &[u8]
         return &sheet[..0];
     };
     part_at(sheet, index)
+}
+
+// Where an entry lies, or the refusal of the check of sheet and index.
+pub fn place_of(sheet: &[u8], index: usize) -> Place
+    ensures { λ r. ⌜ r ≡ placeOf (now (sheet .entry)) index ⌝ }
+{
+    let checked = check_entry(sheet, index);
+    match checked {
+        Checked::Accepted(_) => Place::At(offset_at(sheet, index), length_at(sheet, index)),
+        Checked::Refused(r, _) => Place::Refused(r),
+    }
 }
 
 fn read_entry(records: bool, table: &[u8], bytes: &[u8]) -> Read

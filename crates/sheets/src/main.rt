@@ -1,5 +1,6 @@
 // Checks, reads and writes sheets that are accepted, or refused in each way, and prints what was found.
 use sheet::Checked;
+use sheet::Place;
 use sheet::Writing;
 ghost use Prim.Native.Nat.{_≤_, _<_};
 
@@ -129,11 +130,22 @@ fn print_part(text: &[u8], part: &[u8]) {
     }
 }
 
+fn print_place(place: Place) {
+    match place {
+        Place::At(offset, length) => {
+            print_number(b"; place, offset ", offset as usize);
+            print_number(b", length ", length as usize);
+        }
+        Place::Refused(r) => print_number(b"; place, refused ", wide(r.number())),
+    }
+}
+
 // An entry of a sheet of two, by its index, with the checks and without.
 fn entry(index: usize) {
     print_number(b"index ", index);
     print_checked(sheet::check_entry(&TWO, index));
     print_part(b"; entry, bytes ", sheet::entry(&TWO, index));
+    print_place(sheet::place_of(&TWO, index));
     print_part(b"; part, bytes ", sheet::part_at(&TWO, index));
     io::write_all(1, b"\n");
 }

@@ -1,0 +1,134 @@
+-- Each index that the library shows is below a sheet's length, so 32 bits hold it.
+use Prim.Native.Nat.{ℕ, suc, _+_, _≤_}
+use native.Mathlib.Omega.{arith}
+use mathlib.Core.Path.{_≡_, refl, sym, ap, _∙_}
+use mathlib.Core.List.{List, [], _∷_}
+use mathlib.Core.Bool.{Bool, true, false, cond}
+use lib.ListN.{length}
+use lib.Dec.{leb, ltb}
+use borrow.Author.Tests.{leb-true}
+use Rattle.term.specs.Term.{Term}
+use Rattle.term.specs.Pattern.{Pattern}
+use Rattle.term.specs.Table.{tableAccepted}
+use Rattle.term.specs.Reading.{Answer as Reading, refused, read, readPattern, readRecord}
+use Rattle.term.specs.declared.Read.{Read}
+use Rattle.term.specs.declared.Read.the-variants.{Ends}
+use Rattle.term.specs.declared.Refusal.the-variants.{Table, Narrow, Long, Directory, Full}
+use Rattle.anti_pattern.specs.Answer.{Answer as Outcome, bound, nothing, spent, answer}
+use Rattle.sheet.specs.Answer.{checkedIndex, writingIndex}
+use Rattle.sheet.specs.Check.{longestSheet, entryCount, directoryAccepted, checkSheet, andThen}
+use Rattle.sheet.specs.Contents.{readEntry, stopAt, checkEach, few, checkContents, checkRules}
+use Rattle.sheet.specs.Entry.{entries}
+use Rattle.sheet.specs.Writing.{split, lengthsAccepted, sheetLength, checkRecords, withRoom, writing}
+use Rattle.sheet.specs.declared.Checked.{Checked}
+use Rattle.sheet.specs.declared.Checked.the-variants.{Accepted}
+use Rattle.sheet.specs.declared.Writing.{Writing}
+use Rattle.sheet.specs.declared.Writing.the-variants.{Written}
+use Rattle.sheet.proofs.Checks.{accepted-directed}
+use Rattle.sheet.proofs.Contents.{contents-passed}
+use Rattle.sheet.proofs.Entries.{entries-count}
+use Rattle.sheet.proofs.Lengths.{split-length}
+use Rattle.rules.specs.Answer.{ruleIndex}
+use Rattle.rules.specs.Call.{fault, withRule, rulesOf, checkedBy, checked, told, answerBy, answerOf}
+use Rattle.rules.specs.Trial.{tryOne, tryFrom}
+
+-- entries and records, which are checked one by one
+
+each-index : (records : Bool) (table : List ℕ) (i : ℕ) (es : List (List ℕ)) → checkedIndex (checkEach records table i es) ≤ i + length es
+unfolding checkEach
+each-index records table i [] = omega arith
+each-index records table i (e ∷ es) = go (readEntry records table e) (each-index records table (i + 1) es)
+  where
+    go : (x : Read) → checkedIndex (checkEach records table (i + 1) es) ≤ i + 1 + length es
+        → checkedIndex (stopAt i x (checkEach records table (i + 1) es)) ≤ i + suc (length es)
+    go (Ends m) rest = omega arith
+    go (Read.Refused r) rest = omega arith
+
+sheet-index : (s : List ℕ) → checkedIndex (checkSheet s) ≡ 0
+unfolding checkSheet
+sheet-index s = go (leb (length s) longestSheet) (directoryAccepted s)
+  where
+    go : (a b : Bool) → checkedIndex (cond a (cond b (Accepted (entryCount s)) (Checked.Refused Directory 0)) (Checked.Refused Long 0)) ≡ 0
+    go true true = refl
+    go true false = refl
+    go false b = refl
+
+entries-few : (s : List ℕ) (n : ℕ) → checkSheet s ≡ Accepted n → length (entries s) ≤ longestSheet
+entries-few s n e = let d = accepted-directed s n e in omega (arith, entries-count s n e, d .within, d .short)
+
+pub contents-index : (records : Bool) (table s : List ℕ) → checkedIndex (checkContents records table s) ≤ longestSheet
+unfolding checkContents
+contents-index records table s = go (tableAccepted table) (checkSheet s) refl
+  where
+    go : (t : Bool) (x : Checked) → checkSheet s ≡ x
+        → checkedIndex (cond t (andThen x (λ n. cond (few records n) (checkEach records table 0 (entries s)) (Checked.Refused Long 0))) (Checked.Refused Table 0))
+        ≤ longestSheet
+    go false x e = omega arith
+    go true (Checked.Refused r i) e = let z : i ≡ 0 = ap checkedIndex (sym e) ∙ sheet-index s in omega arith
+    go true (Accepted n) e = fits (few records n)
+      where
+        fits : (b : Bool) → checkedIndex (cond b (checkEach records table 0 (entries s)) (Checked.Refused Long 0)) ≤ longestSheet
+        fits false = omega arith
+        fits true = omega (arith, each-index records table 0 (entries s), entries-few s n e)
+
+-- a writing
+
+records-index : (table bs ns : List ℕ) → checkedIndex (checkRecords table bs ns) ≤ longestSheet
+unfolding checkRecords
+records-index table bs ns = go (tableAccepted table) (lengthsAccepted ns (length bs)) (leb (sheetLength (length ns) (length bs)) longestSheet) refl
+  where
+    go : (t l f : Bool) → leb (sheetLength (length ns) (length bs)) longestSheet ≡ f
+        → checkedIndex (cond t (cond l (cond f (checkEach true table 0 (split bs ns)) (Checked.Refused Long 0)) (Checked.Refused Directory 0)) (Checked.Refused Table 0))
+        ≤ longestSheet
+    go false l f e = omega arith
+    go true false f e = omega arith
+    go true true false e = omega arith
+    go true true true e =
+        omega (arith, each-index true table 0 (split bs ns), split-length bs ns, leb-true (sheetLength (length ns) (length bs)) longestSheet e)
+
+pub writing-index : (table bs ns : List ℕ) (room : ℕ) → writingIndex (writing table bs ns room) ≤ longestSheet
+unfolding writing
+writing-index table bs ns room = go (checkRecords table bs ns) (records-index table bs ns)
+  where
+    go : (x : Checked) → checkedIndex x ≤ longestSheet → writingIndex (withRoom x (sheetLength (length ns) (length bs)) room) ≤ longestSheet
+    go (Checked.Refused r i) h = h
+    go (Accepted n) h = fits (leb (sheetLength (length ns) (length bs)) room)
+      where
+        fits : (b : Bool) → writingIndex (cond b (Written (sheetLength (length ns) (length bs))) (Writing.Refused Full 0)) ≤ longestSheet
+        fits true = omega arith
+        fits false = omega arith
+
+-- the rules of a sheet, which are tried one by one
+
+rules-few : (table : List ℕ) (es : List (List ℕ)) → length (rulesOf table es) ≤ length es
+unfolding rulesOf
+rules-few table [] = omega arith
+rules-few table (e ∷ es) = go (readPattern table e) (rules-few table es)
+  where
+    go : (x : Reading Pattern) → length (rulesOf table es) ≤ length es → length (withRule x (rulesOf table es)) ≤ suc (length es)
+    go (refused r) rest = omega arith
+    go (read q n) rest = omega arith
+
+trial-index : (table : List ℕ) (t : Term) (allowance i sum : ℕ) (qs : List Pattern) → ruleIndex (told (tryFrom table t allowance i sum qs)) ≤ i + length qs
+unfolding tryFrom
+trial-index table t allowance i sum [] = omega arith
+trial-index table t allowance i sum (q ∷ qs) = go (answer table q t allowance) (λ s. trial-index table t allowance (i + 1) s qs)
+  where
+    go : (x : Outcome) → ((s : ℕ) → ruleIndex (told (tryFrom table t allowance (i + 1) s qs)) ≤ i + 1 + length qs)
+        → ruleIndex (told (tryOne i sum x (λ s. tryFrom table t allowance (i + 1) s qs))) ≤ i + suc (length qs)
+    go (bound parts n) rest = omega arith
+    go (nothing n) rest = omega (arith, rest (sum + n))
+    go (spent n) rest = omega arith
+
+pub rules-index : (table sheet bytes : List ℕ) (allowance width : ℕ) → ruleIndex (answerOf table sheet bytes allowance width) ≤ longestSheet
+unfolding answerOf checked
+rules-index table sheet bytes allowance width = go (ltb width 96) (checkRules table sheet) refl (readRecord table bytes)
+  where
+    go : (a : Bool) (x : Checked) → checkRules table sheet ≡ x → (y : Reading Term)
+        → ruleIndex (answerBy (cond a (fault Narrow 0) (checkedBy x (rulesOf table (entries sheet)) y)) table allowance) ≤ longestSheet
+    go true x e y = omega arith
+    go false (Checked.Refused r i) e y = omega (arith, rw e at (contents-index false table sheet))
+    go false (Accepted n) e (refused r) = omega arith
+    go false (Accepted n) e (read t m) =
+        let s = contents-passed false table sheet n e .sheet in
+        omega (arith, trial-index table t allowance 0 0 (rulesOf table (entries sheet)), rules-few table (entries sheet), entries-few sheet n s)

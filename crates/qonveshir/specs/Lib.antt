@@ -1,0 +1,2 @@
+-- What the C interface shows.
+pub mod Shown

@@ -1,0 +1,44 @@
+-- What the interface shows of each answer of the library: its number, its index, its count.
+use Prim.Native.Nat.{ℕ}
+use Rattle.term.specs.Refusal.{numberOf}
+use Rattle.matcher.specs.Call.{answerNumber, answerCount}
+use Rattle.matcher.specs.declared.Answer.{Answer}
+use Rattle.rules.specs.Answer.{ruleNumber, ruleIndex, ruleCount}
+use Rattle.rules.specs.declared.RuleAnswer.{RuleAnswer}
+use Rattle.sheet.specs.Answer.{checkedNumber, checkedIndex, writingNumber, writingIndex, writingLength}
+use Rattle.sheet.specs.declared.Checked.{Checked}
+use Rattle.sheet.specs.declared.Place.{Place}
+use Rattle.sheet.specs.declared.Place.the-variants.{At}
+use Rattle.sheet.specs.declared.Writing.{Writing}
+use Rattle.qonveshir.specs.declared.Outcome.{Outcome}
+use Rattle.qonveshir.specs.declared.Part.{Part}
+
+-- the largest index that can be shown
+abbrev pub largest : ℕ
+largest = 4294967295
+
+abbrev pub outcome : ℕ → ℕ → ℕ → Outcome
+outcome number index count = record { number = number; index = index; count = count }
+
+abbrev pub part : ℕ → ℕ → ℕ → Part
+part number offset length = record { number = number; offset = offset; length = length }
+
+-- one pattern has no index
+abbrev pub answerShown : Answer → Outcome
+answerShown a = outcome (answerNumber a) 0 (answerCount a)
+
+abbrev pub rulesShown : RuleAnswer → Outcome
+rulesShown a = outcome (ruleNumber a) (ruleIndex a) (ruleCount a)
+
+-- the count of a writing is the sheet's length
+abbrev pub writingShown : Writing → Outcome
+writingShown w = outcome (writingNumber w) (writingIndex w) (writingLength w)
+
+-- a check has no count
+abbrev pub checkShown : Checked → Outcome
+checkShown c = outcome (checkedNumber c) (checkedIndex c) 0
+
+-- an entry that is refused shows offset and length 0
+abbrev pub placeShown : Place → Part
+placeShown (At offset length) = part 0 offset length
+placeShown (Place.Refused r) = part (numberOf r) 0 0

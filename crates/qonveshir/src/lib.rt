@@ -1,0 +1,134 @@
+// The C interface, `include/qonveshir.h`: the library's calls, with their answers as numbers.
+use sheet::Checked;
+use sheet::Place;
+ghost use mathlib.Core.Path.{_≡_};
+ghost use Prim.Native.Nat.{_≤_};
+ghost use lib.ListN.{length};
+ghost use Rattle.matcher.specs.Call.{answerOf, bufferOf};
+ghost use Rattle.matcher.specs.Demands.{Demanded};
+ghost use Rattle.rules.specs.Call.{answerOf as rulesAnswer, bufferOf as rulesBuffer};
+ghost use Rattle.rules.specs.Demands.{Demanded as RulesDemanded};
+ghost use Rattle.sheet.specs.Answer.{checkedIndex};
+ghost use Rattle.sheet.specs.Entry.{placeOf};
+ghost use Rattle.sheet.specs.Contents.{checkRules, checkStates};
+ghost use Rattle.sheet.specs.Writing.{writing, outputAfter};
+ghost use Rattle.qonveshir.specs.Shown.{largest, outcome, answerShown, rulesShown, writingShown, checkShown, placeShown};
+
+// Document 01's number, 0 where nothing is refused; the index of the rule shown or of the entry at fault, else 0; and the count.
+#[repr(C)]
+pub struct Outcome {
+    pub number: u32,
+    pub index: u32,
+    pub count: u64,
+}
+
+// Where an entry lies in its sheet, or the number of the refusal.
+#[repr(C)]
+pub struct Part {
+    pub number: u32,
+    pub offset: u32,
+    pub length: u32,
+}
+
+fn shown(number: u8, index: usize, count: u64) -> Outcome
+    requires { ⌜ index ≤ largest ⌝ }
+    ensures { λ r. ⌜ r ≡ outcome number index count ⌝ }
+{
+    Outcome {
+        number: number as u32,
+        index: index as u32,
+        count: count,
+    }
+}
+
+fn check_shown(c: Checked) -> Outcome
+    requires { ⌜ checkedIndex c ≤ largest ⌝ }
+    ensures { λ r. ⌜ r ≡ checkShown c ⌝ }
+{
+    shown(c.number(), c.index(), 0)
+}
+
+// One pattern against one record.
+#[no_mangle]
+pub extern "C" fn qonveshir_match(
+    table: &[u8],
+    pattern: &[u8],
+    record: &[u8],
+    allowance: u32,
+    answer: &mut [u16],
+) -> Outcome
+    ensures shown { λ r. ⌜ r ≡ answerShown (answerOf (now (table .entry)) (now (pattern .entry)) (now («record» .entry)) allowance (length (now (answer .entry)))) ⌝ }
+    ensures buffer { λ _. ⌜ now (answer .exit) ≡ bufferOf (now (table .entry)) (now (pattern .entry)) (now («record» .entry)) allowance (now (answer .entry)) ⌝ }
+    ensures demand { λ _. ⌜ Demanded (now (table .entry)) (now (pattern .entry)) (now («record» .entry)) (now (answer .entry)) allowance (answerOf (now (table .entry)) (now (pattern .entry)) (now («record» .entry)) allowance (length (now (answer .entry)))) (now (answer .exit)) ⌝ }
+{
+    let a = matcher::match_one(table, pattern, record, allowance, answer);
+    shown(a.number(), 0, a.count() as u64)
+}
+
+// A rule sheet against one record.
+#[no_mangle]
+pub extern "C" fn qonveshir_match_rules(
+    table: &[u8],
+    rules: &[u8],
+    record: &[u8],
+    allowance: u32,
+    answer: &mut [u16],
+) -> Outcome
+    ensures shown { λ r. ⌜ r ≡ rulesShown (rulesAnswer (now (table .entry)) (now (rules .entry)) (now («record» .entry)) allowance (length (now (answer .entry)))) ⌝ }
+    ensures buffer { λ _. ⌜ now (answer .exit) ≡ rulesBuffer (now (table .entry)) (now (rules .entry)) (now («record» .entry)) allowance (now (answer .entry)) ⌝ }
+    ensures demand { λ _. ⌜ RulesDemanded (now (table .entry)) (now (rules .entry)) (now («record» .entry)) (now (answer .entry)) allowance (rulesAnswer (now (table .entry)) (now (rules .entry)) (now («record» .entry)) allowance (length (now (answer .entry)))) (now (answer .exit)) ⌝ }
+{
+    let a = rules::match_rules(table, rules, record, allowance, answer);
+    shown(a.number(), a.index(), a.count())
+}
+
+// Writes a sheet of joined records.
+#[no_mangle]
+pub extern "C" fn qonveshir_write_sheet(
+    table: &[u8],
+    records: &[u8],
+    lengths: &[u16],
+    output: &mut [u8],
+) -> Outcome
+    ensures shown { λ r. ⌜ r ≡ writingShown (writing (now (table .entry)) (now (records .entry)) (now (lengths .entry)) (length (now (output .entry)))) ⌝ }
+    ensures contents { λ _. ⌜ now (output .exit) ≡ outputAfter (now (table .entry)) (now (records .entry)) (now (lengths .entry)) (now (output .entry)) ⌝ }
+{
+    let w = sheet::write_sheet(table, records, lengths, output);
+    shown(w.number(), w.index(), w.length() as u64)
+}
+
+// Where an entry lies in its sheet.
+#[no_mangle]
+pub extern "C" fn qonveshir_entry(sheet: &[u8], index: u32) -> Part
+    ensures { λ r. ⌜ r ≡ placeShown (placeOf (now (sheet .entry)) index) ⌝ }
+{
+    let place = sheet::place_of(sheet, index as usize);
+    match place {
+        Place::At(offset, length) => Part {
+            number: 0,
+            offset: offset as u32,
+            length: length as u32,
+        },
+        Place::Refused(r) => Part {
+            number: r.number() as u32,
+            offset: 0,
+            length: 0,
+        },
+    }
+}
+
+// Checks a sheet of at most 64 patterns.
+#[no_mangle]
+pub extern "C" fn qonveshir_check_rules(table: &[u8], sheet: &[u8]) -> Outcome
+    ensures { λ r. ⌜ r ≡ checkShown (checkRules (now (table .entry)) (now (sheet .entry))) ⌝ }
+{
+    check_shown(sheet::check_rules(table, sheet))
+}
+
+// Checks a sheet of records.
+#[no_mangle]
+pub extern "C" fn qonveshir_check_states(table: &[u8], sheet: &[u8]) -> Outcome
+    ensures { λ r. ⌜ r ≡ checkShown (checkStates (now (table .entry)) (now (sheet .entry))) ⌝ }
+{
+    check_shown(sheet::check_states(table, sheet))
+}

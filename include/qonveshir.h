@@ -1,0 +1,106 @@
+/* qonveshir: matches rules (patterns with names, run names and complements)
+   against states (records of one term), and reads and writes sheets of either.
+   Formats, meaning and numbers are those of document 01.
+
+   Link with target/staticlib/libqonveshir.a (x86-64 Linux), which
+   `rt staticlib qonveshir` builds. The calls keep no state, take no memory
+   and may run in several threads at once.
+
+   Every buffer is a pointer and its length in elements (not in bytes). A
+   pointer must not be null, even where its length is 0, and the buffer that a
+   call writes must not overlap one that it reads. Any contents are allowed:
+   what breaks a rule is refused by its number.
+
+   Limits: table 200 bytes, pattern 256 bytes, record 4,096 bytes, sheet 32,768
+   bytes, rule sheet 64 patterns, nesting 32. */
+#ifndef QONVESHIR_H
+#define QONVESHIR_H
+
+#include <stddef.h>
+#include <stdint.h>
+
+#ifdef __cplusplus
+extern "C" {
+#endif
+
+/* The numbers of document 01. 13, unread, belongs to the report program. */
+enum {
+  QONVESHIR_DONE = 0,       /* bound, written or accepted */
+  QONVESHIR_TABLE = 1,      /* over 200 bytes, or a byte neither 0 to 8 nor 255 */
+  QONVESHIR_SHORT = 2,      /* pattern or record ends before its last node */
+  QONVESHIR_SPARE = 3,      /* bytes after the last node */
+  QONVESHIR_CODE = 4,       /* a code not allowed there, or not in the table */
+  QONVESHIR_DEEP = 5,       /* nesting over 32 */
+  QONVESHIR_LONG = 6,       /* pattern, record or sheet over its limit, over 64 rules */
+  QONVESHIR_STRAY = 7,      /* run name elsewhere than as a list's child */
+  QONVESHIR_NARROW = 8,     /* answer buffer under 96 numbers */
+  QONVESHIR_DIRECTORY = 9,  /* a sheet breaks its rules, or no such entry */
+  QONVESHIR_NONE = 10,      /* no assignment satisfies the pattern */
+  QONVESHIR_SPENT = 11,     /* the count is over the allowance */
+  QONVESHIR_FULL = 12       /* output too short for the sheet */
+};
+
+/* Numbers that an answer holds: offset and length of ?0 to ?31, then of @0 to
+   @15, in the record's bytes. */
+#define QONVESHIR_ANSWER 96
+/* Offset of a name that is not free in the pattern; its length is 0. */
+#define QONVESHIR_ABSENT 65535
+
+/* number: 0 bound, written or accepted; else document 01's number.
+   index: the rule shown or the entry at fault, else 0.
+   count: bound, none, spent: the count or sum; written: the sheet's length; else 0. */
+typedef struct { uint32_t number; uint32_t index; uint64_t count; } qonveshir_outcome;
+
+/* number: 0, or 6 or 9; offset and length are in the sheet's bytes, and both 0
+   unless number is 0. */
+typedef struct { uint32_t number; uint32_t offset; uint32_t length; } qonveshir_part;
+
+/* Matches one pattern against one record. Bound (0) writes the first
+   QONVESHIR_ANSWER numbers of the answer; what lies past them stays, and every
+   other number leaves the whole answer as it was. Spent (11) shows the
+   allowance as the count. Checks: 8, 1, the pattern, the record. */
+qonveshir_outcome qonveshir_match(const uint8_t *table, size_t table_length,
+                                  const uint8_t *pattern, size_t pattern_length,
+                                  const uint8_t *record, size_t record_length,
+                                  uint32_t allowance,
+                                  uint16_t *answer, size_t answer_length);
+
+/* Tries the rules of a sheet in order, each with the whole allowance, up to the
+   first that is bound or spent, whose index is shown. The count is the sum so
+   far; a spent rule adds the allowance to it. The answer is written as by
+   qonveshir_match. Checks: 8, 1, 6 of the sheet, 9, 6 of 64 rules, each pattern
+   (its index is shown), the record (index 0). */
+qonveshir_outcome qonveshir_match_rules(const uint8_t *table, size_t table_length,
+                                        const uint8_t *rules, size_t rules_length,
+                                        const uint8_t *record, size_t record_length,
+                                        uint32_t allowance,
+                                        uint16_t *answer, size_t answer_length);
+
+/* Writes a sheet of joined records, whose lengths are given, and shows the
+   sheet's length as the count. Output past that stays; a refusal leaves all of
+   it as it was. Checks: 1, 9 (a length 0 or a wrong sum), 6 of the sheet, each
+   record (its index is shown), 12. */
+qonveshir_outcome qonveshir_write_sheet(const uint8_t *table, size_t table_length,
+                                        const uint8_t *records, size_t records_length,
+                                        const uint16_t *lengths, size_t lengths_length,
+                                        uint8_t *output, size_t output_length);
+
+/* Shows where an entry lies in the sheet. Checks: 6 of the sheet, 9 of its
+   directory, 9 of the index; the entry's contents are not read. */
+qonveshir_part qonveshir_entry(const uint8_t *sheet, size_t sheet_length, uint32_t index);
+
+/* Accepts a sheet of patterns. Checks: 1, 6 of the sheet, 9, 6 of 64 rules,
+   each pattern (its index is shown). */
+qonveshir_outcome qonveshir_check_rules(const uint8_t *table, size_t table_length,
+                                        const uint8_t *sheet, size_t sheet_length);
+
+/* Accepts a sheet of records. Checks: 1, 6 of the sheet, 9, each record (its
+   index is shown). */
+qonveshir_outcome qonveshir_check_states(const uint8_t *table, size_t table_length,
+                                         const uint8_t *sheet, size_t sheet_length);
+
+#ifdef __cplusplus
+}
+#endif
+
+#endif

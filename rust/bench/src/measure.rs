@@ -1,0 +1,65 @@
+//! The measuring: both implementations in turn, round by round.
+
+use crate::workloads::{self, Workload};
+use interface::Library;
+use proved::Proved;
+use reference::Reference;
+use std::time::Instant;
+
+/// How many rounds, and how long a workload runs in each, in ns.
+#[derive(Clone, Copy)]
+pub struct Effort {
+    rounds: usize,
+    batch: f64,
+}
+
+impl Effort {
+    pub const FULL: Effort = Effort { rounds: 41, batch: 1e6 };
+    pub const QUICK: Effort = Effort { rounds: 5, batch: 5e5 };
+}
+
+/// A workload's cost in ns a run: the best round, since whatever else the machine does only adds.
+pub struct Measured {
+    pub workload: Workload,
+    pub proved: f64,
+    pub independent: f64,
+}
+
+impl Measured {
+    fn new(workload: Workload) -> Self {
+        let independent = timed(&workload, &Reference, 3);
+        Measured { workload, proved: f64::INFINITY, independent }
+    }
+
+    fn round(&mut self, batch: f64) {
+        let runs = (batch / self.independent).ceil() as u64;
+        self.proved = self.proved.min(timed(&self.workload, &Proved, runs));
+        self.independent = self.independent.min(timed(&self.workload, &Reference, runs));
+    }
+
+    pub fn ratio(&self) -> f64 {
+        self.proved / self.independent
+    }
+}
+
+/// Measures every workload in each round, so that a busy moment falls on all of them.
+pub fn all(effort: Effort) -> Vec<Measured> {
+    let mut measured: Vec<Measured> = workloads::all().into_iter().map(Measured::new).collect();
+    for _ in 0..effort.rounds {
+        measured.iter_mut().for_each(|one| one.round(effort.batch));
+    }
+    measured
+}
+
+/// The sizes of each workload, side by side.
+pub fn groups(measured: &[Measured]) -> impl Iterator<Item = &[Measured]> {
+    measured.chunk_by(|a, b| a.workload.name == b.workload.name)
+}
+
+/// The cost of a run in ns; a profiler may count within this function alone.
+#[inline(never)]
+pub fn timed(workload: &Workload, library: &dyn Library, runs: u64) -> f64 {
+    let start = Instant::now();
+    (0..runs).for_each(|_| (workload.run)(library));
+    start.elapsed().as_nanos() as f64 / runs as f64
+}

@@ -1,0 +1,220 @@
+//! The named workloads.
+
+use interface::{sheet_of, Library, ANSWER};
+use notation::Symbols;
+use reference::Reference;
+use std::cell::RefCell;
+
+/// One call, or a fixed number of calls, at one size. Buffers are not cleared between runs.
+pub struct Workload {
+    pub name: &'static str,
+    pub n: usize,
+    /// What the cost is divided by, and how many of them one run has.
+    pub unit: &'static str,
+    pub units: u64,
+    pub run: Run,
+}
+
+type Run = Box<dyn Fn(&dyn Library)>;
+
+/// Every workload at every size, sizes of one name side by side.
+pub fn all() -> Vec<Workload> {
+    let lists = [10, 20, 40, 80, 120, 255];
+    let bytes = [1_024, 4_096, 16_384, 32_768];
+    let rules = [1, 4, 16, 64];
+    let mut all = vec![smallest_call()];
+    all.extend(lists.map(all_different));
+    all.extend(lists.map(list_search));
+    all.extend([4, 8, 16, 31].map(deep_term));
+    all.extend([4, 8, 16, 31].map(deep_complement));
+    all.extend([256, 1_024, 4_096].map(record));
+    all.extend([256, 1_024, 4_096].map(record_search));
+    all.extend(rules.map(rule_sheet));
+    all.extend(bytes.map(read_states));
+    all.extend(rules.map(read_rules));
+    all.extend(bytes.map(read_entry));
+    all.extend(bytes.map(write_sheet));
+    all
+}
+
+fn symbols() -> Symbols {
+    let leaves: Vec<String> = (0..16).map(|i| format!("g{i}")).collect();
+    let text = format!("{} open shut held gate/1 row/2 gates/*", leaves.join(" "));
+    Symbols::parse(&text).expect("the table is right")
+}
+
+/// A match under no allowance that it could spend, as so many units.
+fn one_match(
+    name: &'static str,
+    n: usize,
+    (unit, units): (&'static str, Option<u64>),
+    [table, pattern, record]: [Vec<u8>; 3],
+) -> Workload {
+    let answer = RefCell::new([0; ANSWER]);
+    let find = move |library: &dyn Library| {
+        library.match_one(&table, &pattern, &record, u32::MAX, &mut *answer.borrow_mut())
+    };
+    let units = units.unwrap_or_else(|| find(&Reference).count);
+    let run = Box::new(move |library: &dyn Library| {
+        find(library);
+    });
+    Workload { name, n, unit, units, run }
+}
+
+/// A match of texts, measured by counted steps.
+fn matching(name: &'static str, n: usize, pattern: &str, record: &str) -> Workload {
+    let symbols = symbols();
+    let pattern = symbols.pattern(pattern).expect("the pattern is right");
+    let record = symbols.term(record).expect("the record is right");
+    one_match(name, n, ("step", None), [symbols.table().to_vec(), pattern, record])
+}
+
+fn smallest_call() -> Workload {
+    one_match("smallest call", 1, ("call", Some(1)), [vec![0], vec![0], vec![0]])
+}
+
+fn all_different(n: usize) -> Workload {
+    let gates: Vec<String> = (0..n).map(|i| format!("row(g{}, g{})", i / 16, i % 16)).collect();
+    let record = format!("gates({})", gates.join(", "));
+    matching("all different", n, "!gates(@0, ?0, @1, ?0, @2)", &record)
+}
+
+fn list_search(n: usize) -> Workload {
+    let record = format!("gates({}shut)", "open, ".repeat(n - 1));
+    matching("list search with a complement", n, "gates(@0, !open, @1)", &record)
+}
+
+fn deep_term(n: usize) -> Workload {
+    let nested = |last: &str| format!("{}{last}{}", "gate(".repeat(n), ")".repeat(n));
+    matching("deep term", n, &nested("?0"), &nested("open"))
+}
+
+fn deep_complement(n: usize) -> Workload {
+    matching("deep complement", n, &format!("{}?0", "!".repeat(n)), "open")
+}
+
+/// Reading a record of n bytes, which a lone name takes whole.
+fn record(n: usize) -> Workload {
+    let table = symbols().table().to_vec();
+    one_match("long record, one name", n, ("byte", Some(n as u64)), [table, vec![200], full(n)])
+}
+
+/// Going through the lists of a record of n bytes for what is in none of them.
+fn record_search(n: usize) -> Workload {
+    let symbols = symbols();
+    let pattern = symbols.pattern("gates(@0, gates(@1, row(shut, ?0), @2), @3)").expect("a rule");
+    let inputs = [symbols.table().to_vec(), pattern, full(n)];
+    one_match("long record, list within a list", n, ("step", None), inputs)
+}
+
+/// A record of n bytes: lists of leaves and pairs within a list.
+fn full(n: usize) -> Vec<u8> {
+    let symbols = symbols();
+    let code = |name| symbols.code(name).expect("the table has the symbol");
+    let (open, row, gates) = (code("open"), code("row"), code("gates"));
+    let mut record = vec![gates, 0];
+    while record.len() < n {
+        record[1] += 1;
+        let rest = n - record.len();
+        match rest {
+            1 => record.push(open),
+            2 => record.extend([gates, 0]),
+            _ if rest < 65 => {
+                record.extend([gates, (rest - 2) as u8]);
+                record.extend(vec![open; rest - 2]);
+            }
+            _ => {
+                record.extend([gates, 30]);
+                record.extend([row, open, open].repeat(15));
+                record.extend([open; 15]);
+            }
+        }
+    }
+    record
+}
+
+/// A sheet of n rules over 1,000 states.
+fn rule_sheet(n: usize) -> Workload {
+    let symbols = symbols();
+    let table = symbols.table().to_vec();
+    let kinds =
+        ["row(!?0, ?0)", "gates(@0, gA, @1, gB, @2)", "row(gA, !gB)", "gates(@0, ?0, ?0, @1)"];
+    let rules: Vec<_> = (0..n)
+        .map(|i| {
+            let text = kinds[i % 4].replace("gA", &format!("g{}", i / 4));
+            symbols.pattern(&text.replace("gB", &format!("g{}", 15 - i / 4))).expect("a rule")
+        })
+        .collect();
+    let states: Vec<_> = (0..1_000).map(|i| symbols.term(&state(i)).expect("a state")).collect();
+    let rules = sheet_of(&rules);
+    let answer = RefCell::new([0; ANSWER]);
+    let steps = move |library: &dyn Library| {
+        let answer = &mut *answer.borrow_mut();
+        let one = |state: &Vec<u8>| library.match_rules(&table, &rules, state, 100_000, answer);
+        states.iter().map(one).map(|outcome| outcome.count).sum::<u64>()
+    };
+    let units = steps(&Reference);
+    let run = Box::new(move |library: &dyn Library| assert_eq!(steps(library), units));
+    Workload { name: "rule sheet over 1,000 states", n, unit: "step", units, run }
+}
+
+/// One of many small states, most of which few rules hold of.
+fn state(i: usize) -> String {
+    let gate = |k: usize| format!("g{}", (i * 7 + k * 5 + i / 16) % 16);
+    match i % 3 {
+        0 => format!("row({0}, {0})", gate(0)),
+        1 => format!("gates({}, {}, {}, {})", gate(0), gate(1), gate(2), gate(3)),
+        _ => format!("gate({})", gate(0)),
+    }
+}
+
+/// Records whose sheet takes n bytes.
+fn records(n: usize) -> Vec<Vec<u8>> {
+    let number = n / 128;
+    let mut records = vec![full(124); number];
+    records[number - 1] = full(122);
+    records
+}
+
+fn read_states(n: usize) -> Workload {
+    let (table, sheet) = (symbols().table().to_vec(), sheet_of(&records(n)));
+    assert_eq!(sheet.len(), n);
+    let run = Box::new(move |library: &dyn Library| {
+        assert_eq!(library.check_states(&table, &sheet).number, 0);
+    });
+    Workload { name: "state sheet reader", n, unit: "byte", units: n as u64, run }
+}
+
+fn read_rules(n: usize) -> Workload {
+    let symbols = symbols();
+    let rule = format!("gates({}@1)", "@0, row(!?0, ?1), !gates(g1, @2), ".repeat(15));
+    let rule = symbols.pattern(&rule).expect("a rule");
+    let (table, sheet) = (symbols.table().to_vec(), sheet_of(&vec![rule; n]));
+    let units = sheet.len() as u64;
+    let run = Box::new(move |library: &dyn Library| {
+        assert_eq!(library.check_rules(&table, &sheet).number, 0);
+    });
+    Workload { name: "rule sheet reader", n, unit: "byte", units, run }
+}
+
+/// The place of the last entry, for which the whole directory is checked.
+fn read_entry(n: usize) -> Workload {
+    let records = records(n);
+    let (last, sheet) = (records.len() as u32 - 1, sheet_of(&records));
+    let run = Box::new(move |library: &dyn Library| {
+        assert_eq!(library.entry(&sheet, last).number, 0);
+    });
+    Workload { name: "entry reader", n, unit: "entry", units: u64::from(last) + 1, run }
+}
+
+fn write_sheet(n: usize) -> Workload {
+    let records = records(n);
+    let lengths: Vec<u16> = records.iter().map(|record| record.len() as u16).collect();
+    let (table, records) = (symbols().table().to_vec(), records.concat());
+    let output = RefCell::new(vec![0; n]);
+    let run = Box::new(move |library: &dyn Library| {
+        let output = &mut output.borrow_mut();
+        assert_eq!(library.write_sheet(&table, &records, &lengths, output).number, 0);
+    });
+    Workload { name: "writer", n, unit: "byte", units: n as u64, run }
+}

@@ -1,0 +1,176 @@
+//! The random cases of each call.
+
+use crate::case::{Call, Case, Side};
+use crate::make::{damaged_sheet, table, Maker};
+use crate::rng::Rng;
+use interface::{sheet_of, Library, Word, ANSWER, SHEET_LIMIT};
+
+/// A case; `library` gives the count that allowances are taken around.
+pub fn case(rng: &mut Rng, library: &dyn Library) -> Case {
+    let table = table(rng);
+    match rng.below(100) {
+        0..=49 => match_case(rng, table, library),
+        50..=69 => rules_case(rng, table, library),
+        70..=79 => write_case(rng, table),
+        80..=85 => entry_case(rng, table),
+        86..=92 => {
+            let rules = rules(rng, &table, &[0]);
+            let sheet = perhaps_damaged(rng, sheet_of(&rules));
+            Case::new(Call::CheckRules, vec![table, sheet])
+        }
+        _ => {
+            let records = records(rng, &table);
+            let sheet = perhaps_damaged(rng, sheet_of(&records));
+            Case::new(Call::CheckStates, vec![table, sheet])
+        }
+    }
+}
+
+fn match_case(rng: &mut Rng, table: Vec<u8>, library: &dyn Library) -> Case {
+    let (pattern, record) = match rng.below(100) {
+        0..=3 => long_search(rng, &table, library),
+        _ => {
+            let mut maker = Maker::new(rng, &table);
+            let record = maker.record();
+            (maker.pattern(&record), record)
+        }
+    };
+    let (number, side) = allowance(rng, library, &table, &pattern, &record);
+    let case = Case::new(Call::Match, vec![table, pattern, record]);
+    Case { number, side, room: room(rng), ..case }
+}
+
+/// A pattern and a record whose count is over 1,000, where some tries find one.
+fn long_search(rng: &mut Rng, table: &[u8], library: &dyn Library) -> (Vec<u8>, Vec<u8>) {
+    let mut maker = Maker::new(rng, table);
+    let mut pair = || (maker.search(), maker.row(80));
+    let long = |(pattern, record): &(Vec<u8>, Vec<u8>)| {
+        library.find(table, pattern, record, MOST).0.count > 1_000
+    };
+    (0..8).map(|_| pair()).find(long).unwrap_or_else(pair)
+}
+
+fn rules_case(rng: &mut Rng, table: Vec<u8>, library: &dyn Library) -> Case {
+    let record = Maker::new(rng, &table).record();
+    let rules = rules(rng, &table, &record);
+    let one = rng.below(rules.len().max(1));
+    let none = Vec::new();
+    let pattern = rules.get(one).unwrap_or(&none);
+    let (number, side) = allowance(rng, library, &table, pattern, &record);
+    let rules = perhaps_damaged(rng, sheet_of(&rules));
+    let case = Case::new(Call::Rules, vec![table, rules, record]);
+    Case { number, side, room: room(rng), ..case }
+}
+
+fn write_case(rng: &mut Rng, table: Vec<u8>) -> Case {
+    let records = records(rng, &table);
+    let mut lengths: Vec<u16> = records.iter().map(|record| record.len() as u16).collect();
+    let mut records = records.concat();
+    match rng.below(400) {
+        0 => (records, lengths) = (vec![0; 65_537], vec![1; 65_537]),
+        1..=20 if !lengths.is_empty() => {
+            let at = rng.below(lengths.len());
+            lengths[at] = lengths[at].wrapping_add(rng.pick(&[1, u16::MAX, 256]));
+        }
+        21..=24 => lengths.extend([32_768, 32_768]),
+        25..=32 => lengths.push(0),
+        33..=40 => records.push(0),
+        _ => {}
+    }
+    let size = 2 + 4 * lengths.len() + records.len();
+    let room = match rng.below(10) {
+        0 => size.saturating_sub(rng.between(1, 3)),
+        1 => rng.below(size),
+        2..=5 => size,
+        _ => size + rng.below(40),
+    };
+    Case { lengths, room, ..Case::new(Call::Write, vec![table, records]) }
+}
+
+fn entry_case(rng: &mut Rng, table: Vec<u8>) -> Case {
+    let entries = records(rng, &table);
+    let number = match rng.below(10) {
+        0 => entries.len(),
+        1 => rng.pick(&[u32::MAX as usize, 65_535, 65_536, 1 << 24]),
+        _ => rng.below(entries.len().max(1)),
+    };
+    let sheet = perhaps_damaged(rng, sheet_of(&entries));
+    Case { number: number as u32, ..Case::new(Call::Entry, vec![sheet]) }
+}
+
+/// Patterns of a rule sheet, most of them for a record.
+fn rules(rng: &mut Rng, table: &[u8], record: &[u8]) -> Vec<Vec<u8>> {
+    let number = match rng.below(40) {
+        0 => 64,
+        1..=2 => rng.between(65, 70),
+        _ => rng.below(5),
+    };
+    let mut maker = Maker::new(rng, table);
+    let mut rules: Vec<_> = (0..number.min(3)).map(|_| maker.pattern(record)).collect();
+    rules.resize_with(number, || maker.term(3));
+    rules
+}
+
+/// Records of a sheet, now and then as many as it holds.
+fn records(rng: &mut Rng, table: &[u8]) -> Vec<Vec<u8>> {
+    let mut maker = Maker::new(rng, table);
+    match maker.rng.below(100) {
+        0..=3 => {
+            // Seven records of 4,096 bytes and one that fills the sheet or goes one over it.
+            let last = SHEET_LIMIT - (2 + 4 * 8 + 7 * 4_096) + maker.rng.below(2);
+            let mut records = vec![maker.full(4_096); 7];
+            records.push(maker.full(last));
+            records
+        }
+        4..=6 => (0..maker.rng.between(100, 300)).map(|_| maker.term(12)).collect(),
+        _ => {
+            let number = maker.rng.below(5);
+            let mut records: Vec<_> = (0..number).map(|_| maker.term(20)).collect();
+            records.extend((maker.rng.chance(40)).then(|| maker.record()));
+            records
+        }
+    }
+}
+
+fn perhaps_damaged(rng: &mut Rng, sheet: Vec<u8>) -> Vec<u8> {
+    if rng.chance(15) {
+        damaged_sheet(rng, sheet)
+    } else {
+        sheet
+    }
+}
+
+/// The length of an answer buffer.
+fn room(rng: &mut Rng) -> usize {
+    match rng.below(40) {
+        0 => rng.below(ANSWER),
+        1 => ANSWER - 1,
+        2..=25 => ANSWER,
+        _ => ANSWER + rng.below(40),
+    }
+}
+
+/// A count that is found out before a case is made.
+const MOST: u32 = 20_000;
+
+/// An allowance at, around or far from the count.
+fn allowance(
+    rng: &mut Rng,
+    library: &dyn Library,
+    table: &[u8],
+    pattern: &[u8],
+    record: &[u8],
+) -> (u32, Side) {
+    let outcome = library.find(table, pattern, record, MOST).0;
+    let (count, known) = (outcome.count as u32, outcome.word() != Some(Word::Spent));
+    match rng.below(20) {
+        0 => (0, Side::Other),
+        1..=3 => (rng.below(count as usize + 1) as u32, Side::Other),
+        _ if !known => (rng.pick(&[100, 2_000, MOST]), Side::Other),
+        4..=7 => (count.saturating_sub(1), Side::OneBelow),
+        8..=12 => (count, Side::At),
+        13..=14 => (count + 1, Side::Other),
+        15..=16 => (rng.pick(&[u32::MAX, u32::MAX - 1, 1 << 31, 1 << 16]), Side::FarAbove),
+        _ => (100_000, Side::FarAbove),
+    }
+}

@@ -1,0 +1,42 @@
+//! Runs two implementations of the interface on the same random cases and compares all that they
+//! show and write.
+
+mod case;
+mod cases;
+mod histogram;
+mod make;
+mod rng;
+
+pub use histogram::Histogram;
+
+use interface::Library;
+use rng::Rng;
+
+/// Which cases are compared: so many of a seed, from case `first` on.
+#[derive(Clone, Copy, Debug)]
+pub struct Cases {
+    pub seed: u64,
+    pub first: u64,
+    pub number: u64,
+    /// Elements of random contents on each side of every buffer. A tool that watches the memory
+    /// sees more without them.
+    pub margin: usize,
+}
+
+/// Compares two implementations; an error describes the first difference.
+pub fn compare(one: &dyn Library, other: &dyn Library, cases: Cases) -> Result<Histogram, String> {
+    let Cases { seed, first, number, margin } = cases;
+    let mut histogram = Histogram::default();
+    for number in first..first + number {
+        let mut rng = Rng::new(seed, number);
+        let case = cases::case(&mut rng, other);
+        let fill = rng.next();
+        let (shown, expected) = (case.run(one, margin, fill), case.run(other, margin, fill));
+        if shown != expected {
+            let difference = shown.difference(&expected);
+            return Err(format!("seed {seed}, case {number}: {case}\n{difference}"));
+        }
+        histogram.add(&case, expected.result);
+    }
+    Ok(histogram)
+}

@@ -1,0 +1,252 @@
+//! The six calls of `include/qonveshir.h` as a trait, so that the proved library and the
+//! independent implementation can stand in each other's place.
+
+use std::ops::Range;
+
+/// Most bytes of a table.
+pub const TABLE_LIMIT: usize = 200;
+/// Most bytes of a pattern.
+pub const PATTERN_LIMIT: usize = 256;
+/// Most bytes of a record.
+pub const RECORD_LIMIT: usize = 4_096;
+/// Most bytes of a sheet.
+pub const SHEET_LIMIT: usize = 32_768;
+/// Most patterns of a rule sheet.
+pub const RULES_LIMIT: usize = 64;
+/// Most nodes from the root to a node, both counted.
+pub const NESTING_LIMIT: usize = 32;
+/// Table byte of a list symbol.
+pub const LIST: u8 = 255;
+/// Most children of a symbol that is not a list.
+pub const CHILDREN_LIMIT: u8 = 8;
+/// Code of the name `?0`.
+pub const FIRST_NAME: u8 = 200;
+/// Code of the run name `@0`.
+pub const FIRST_RUN: u8 = 232;
+/// Code of the complement.
+pub const COMPLEMENT: u8 = 248;
+/// Number of names, ?0 to ?31.
+pub const NAMES: usize = 32;
+/// Number of run names, @0 to @15.
+pub const RUNS: usize = 16;
+/// Numbers that an answer holds, two for each name and run name.
+pub const ANSWER: usize = 2 * (NAMES + RUNS);
+/// Offset shown for a name that is not free.
+pub const ABSENT: u16 = u16::MAX;
+
+/// Document 01's numbers and words; 0 is bound, written or accepted.
+#[derive(Clone, Copy, Debug, PartialEq, Eq, PartialOrd, Ord)]
+#[repr(u8)]
+pub enum Word {
+    Bound = 0,
+    Table,
+    Short,
+    Spare,
+    Code,
+    Deep,
+    Long,
+    Stray,
+    Narrow,
+    Directory,
+    None,
+    Spent,
+    Full,
+    Unread,
+}
+
+impl Word {
+    /// Every word, in the order of the numbers.
+    pub const ALL: [Word; 14] = {
+        use Word::*;
+        [
+            Bound, Table, Short, Spare, Code, Deep, Long, Stray, Narrow, Directory, None, Spent,
+            Full, Unread,
+        ]
+    };
+
+    /// The word's number.
+    pub fn number(self) -> u32 {
+        self as u32
+    }
+
+    /// The word of a number.
+    pub fn of(number: u32) -> Option<Word> {
+        Self::ALL.get(number as usize).copied()
+    }
+
+    /// The word as it is written.
+    pub fn text(self) -> &'static str {
+        match self {
+            Word::Bound => "bound",
+            Word::Table => "table",
+            Word::Short => "short",
+            Word::Spare => "spare",
+            Word::Code => "code",
+            Word::Deep => "deep",
+            Word::Long => "long",
+            Word::Stray => "stray",
+            Word::Narrow => "narrow",
+            Word::Directory => "directory",
+            Word::None => "none",
+            Word::Spent => "spent",
+            Word::Full => "full",
+            Word::Unread => "unread",
+        }
+    }
+
+    /// When the word is given.
+    pub fn meaning(self) -> &'static str {
+        match self {
+            Word::Bound => "bound, written or accepted",
+            Word::Table => "over 200 bytes, or a byte neither 0 to 8 nor 255",
+            Word::Short => "pattern or record ends before its last node; empty too",
+            Word::Spare => "bytes after the last node",
+            Word::Code => "a code not allowed there, or a symbol not in the table",
+            Word::Deep => "nesting over 32",
+            Word::Long => "pattern, record or sheet over its limit, over 64 rules",
+            Word::Stray => "run name elsewhere than as a list's child",
+            Word::Narrow => "answer buffer under 96 numbers",
+            Word::Directory => "a sheet breaks its rules, or no such entry",
+            Word::None => "no assignment satisfies the pattern",
+            Word::Spent => "the count is over the allowance",
+            Word::Full => "output too short for the sheet",
+            Word::Unread => "the program can't open or read a file",
+        }
+    }
+}
+
+/// `qonveshir_outcome`: the number, the rule shown or the entry at fault, and the count.
+#[repr(C)]
+#[derive(Clone, Copy, Debug, PartialEq, Eq)]
+pub struct Outcome {
+    pub number: u32,
+    pub index: u32,
+    pub count: u64,
+}
+
+impl Outcome {
+    /// An outcome that shows a count: bound, none, spent or written.
+    pub fn counted(word: Word, index: usize, count: u64) -> Self {
+        Outcome { number: word.number(), index: index as u32, count }
+    }
+
+    /// A refusal, which shows no count.
+    pub fn refused(word: Word, index: usize) -> Self {
+        Self::counted(word, index, 0)
+    }
+
+    /// Accepted input.
+    pub const ACCEPTED: Outcome = Outcome { number: 0, index: 0, count: 0 };
+
+    /// The outcome's word, if its number is one of document 01's.
+    pub fn word(&self) -> Option<Word> {
+        Word::of(self.number)
+    }
+}
+
+/// `qonveshir_part`: where an entry lies in its sheet.
+#[repr(C)]
+#[derive(Clone, Copy, Debug, PartialEq, Eq)]
+pub struct Part {
+    pub number: u32,
+    pub offset: u32,
+    pub length: u32,
+}
+
+impl Part {
+    /// The part's bytes in its sheet.
+    pub fn range(&self) -> Range<usize> {
+        self.offset as usize..(self.offset as usize + self.length as usize)
+    }
+}
+
+/// Where a bound pattern's free names and run names lie in the record.
+#[derive(Clone, Copy, Debug, PartialEq, Eq)]
+pub struct Answer(pub [u16; ANSWER]);
+
+impl Answer {
+    /// The part of `?i`, if it is free in the pattern.
+    pub fn name(&self, i: usize) -> Option<Range<usize>> {
+        assert!(i < NAMES, "names are ?0 to ?31");
+        self.pair(i)
+    }
+
+    /// The part of `@j`, if it is free in the pattern.
+    pub fn run(&self, j: usize) -> Option<Range<usize>> {
+        assert!(j < RUNS, "run names are @0 to @15");
+        self.pair(NAMES + j)
+    }
+
+    fn pair(&self, place: usize) -> Option<Range<usize>> {
+        let (offset, length) = (self.0[2 * place], self.0[2 * place + 1]);
+        (offset != ABSENT).then(|| offset as usize..offset as usize + length as usize)
+    }
+}
+
+/// A sheet of entries, whose directory is right if the sheet is within its limit.
+pub fn sheet_of(entries: &[Vec<u8>]) -> Vec<u8> {
+    let mut sheet = (entries.len() as u16).to_le_bytes().to_vec();
+    let mut offset = 2 + 4 * entries.len();
+    for entry in entries {
+        sheet.extend((offset as u16).to_le_bytes());
+        sheet.extend((entry.len() as u16).to_le_bytes());
+        offset += entry.len();
+    }
+    sheet.extend(entries.concat());
+    sheet
+}
+
+/// The six calls; `include/qonveshir.h` says what each checks, shows and writes.
+pub trait Library {
+    /// Matches one pattern against one record.
+    fn match_one(
+        &self,
+        table: &[u8],
+        pattern: &[u8],
+        record: &[u8],
+        allowance: u32,
+        answer: &mut [u16],
+    ) -> Outcome;
+
+    /// Tries the rules of a sheet up to the first that is bound or spent.
+    fn match_rules(
+        &self,
+        table: &[u8],
+        rules: &[u8],
+        record: &[u8],
+        allowance: u32,
+        answer: &mut [u16],
+    ) -> Outcome;
+
+    /// Writes a sheet of joined records.
+    fn write_sheet(
+        &self,
+        table: &[u8],
+        records: &[u8],
+        lengths: &[u16],
+        output: &mut [u8],
+    ) -> Outcome;
+
+    /// Shows where an entry lies in a sheet.
+    fn entry(&self, sheet: &[u8], index: u32) -> Part;
+
+    /// Checks a sheet of patterns.
+    fn check_rules(&self, table: &[u8], sheet: &[u8]) -> Outcome;
+
+    /// Checks a sheet of records.
+    fn check_states(&self, table: &[u8], sheet: &[u8]) -> Outcome;
+
+    /// [`match_one`](Self::match_one) with a buffer of its own, in which every name is absent
+    /// unless the outcome is bound.
+    fn find(
+        &self,
+        table: &[u8],
+        pattern: &[u8],
+        record: &[u8],
+        allowance: u32,
+    ) -> (Outcome, Answer) {
+        let mut answer = Answer([ABSENT; ANSWER]);
+        let outcome = self.match_one(table, pattern, record, allowance, &mut answer.0);
+        (outcome, answer)
+    }
+}

@@ -1,0 +1,127 @@
+//! Reading and writing of the notation, and the places that errors name.
+
+use notation::Symbols;
+
+fn symbols() -> Symbols {
+    Symbols::parse("open shut held gate/1 row/2 gates/*").unwrap()
+}
+
+#[test]
+fn patterns_read_and_print() {
+    for (text, bytes) in [
+        ("?0", vec![200]),
+        ("row(!?0, ?31)", vec![4, 248, 200, 231]),
+        ("gates(@0, !open, @15)", vec![5, 3, 232, 248, 0, 247]),
+        ("gates()", vec![5, 0]),
+        ("!!gate(held)", vec![248, 248, 3, 2]),
+    ] {
+        assert_eq!(symbols().pattern(text).unwrap(), bytes);
+        assert_eq!(symbols().show_pattern(&bytes).unwrap(), text);
+    }
+    assert_eq!(symbols().pattern(" row ( ! ?0 ,\n?0 ) ").unwrap(), [4, 248, 200, 200]);
+}
+
+#[test]
+fn terms_and_runs_print() {
+    assert_eq!(symbols().show_term(&[4, 0, 5, 2, 1, 1]).unwrap(), "row(open, gates(shut, shut))");
+    assert_eq!(symbols().show_run(&[0, 3, 1]).unwrap(), "open, gate(shut)");
+    assert_eq!(symbols().show_run(&[]).unwrap(), "");
+}
+
+#[test]
+fn tables_read_and_print() {
+    let text = "open # first\n  gate/1\ngates/*";
+    assert_eq!(Symbols::parse(text).unwrap().table(), [0, 1, 255]);
+    assert_eq!(Symbols::parse(text).unwrap().to_string(), "open gate/1 gates/*");
+    assert_eq!(symbols().to_string(), "open shut held gate/1 row/2 gates/*");
+}
+
+#[test]
+fn errors_of_texts_name_the_place() {
+    for (text, error) in [
+        ("", "column 1: expected a symbol, ?name, @run or !, found the end"),
+        ("row(open)", "column 9: row takes 2 children, this is 1"),
+        ("gate()", "column 6: gate takes 1 child, this is 0"),
+        ("row", "column 4: expected ( after row"),
+        ("row(open shut)", "column 10: expected , or ) within row"),
+        ("open()", "column 5: expected the end, found '('"),
+        ("gates(door)", "column 7: door is not in the table"),
+        ("?32", "column 1: expected ?0 to ?31"),
+        ("gates(@16)", "column 7: expected @0 to @15"),
+        ("@0", "column 1: a run name may only be a direct child of a list"),
+        ("gates(!@0)", "column 8: a run name may only be a direct child of a list"),
+        ("row(open,\n  é)", "line 2, column 3: expected a symbol, ?name, @run or !, found 'é'"),
+    ] {
+        assert_eq!(symbols().pattern(text).unwrap_err().to_string(), error, "{text}");
+    }
+    let error = symbols().term("row(open, ?0)").unwrap_err().to_string();
+    assert_eq!(error, "column 11: expected a symbol, found '?'");
+    let list = |n| format!("gates({})", vec!["open"; n].join(", "));
+    assert_eq!(symbols().term(&list(255)).unwrap().len(), 257);
+    let error = symbols().term(&list(256)).unwrap_err().to_string();
+    assert_eq!(error, "column 6: a list holds at most 255 children, not 256");
+    let error = symbols().pattern(&list(255)).unwrap_err().to_string();
+    assert_eq!(error, "column 1: the pattern takes 257 bytes, its limit is 256");
+    let error = symbols().pattern(&"!".repeat(99)).unwrap_err().to_string();
+    assert_eq!(error, "column 33: nesting over 32");
+}
+
+#[test]
+fn errors_of_tables_name_the_place() {
+    for (text, error) in [
+        ("open\n gate/9", "line 2, column 2: expected 0 to 8 children or *, found \"9\""),
+        ("open shut open", "column 11: open is named twice"),
+        ("7", "column 1: expected a name of letters, digits, _ and -, found \"7\""),
+    ] {
+        assert_eq!(Symbols::parse(text).unwrap_err().to_string(), error);
+    }
+}
+
+#[test]
+fn errors_of_bytes_name_the_place() {
+    for (bytes, error) in [
+        (&[][..], "byte 0: the bytes end before the last node"),
+        (&[4, 0], "byte 2: the bytes end before the last node"),
+        (&[0, 0], "byte 1: bytes after the last node"),
+        (&[3, 200], "byte 1: 200 is not in the table"),
+    ] {
+        assert_eq!(symbols().show_term(bytes).unwrap_err().to_string(), error);
+    }
+}
+
+/// A pattern over the symbols, chosen by a sequence of numbers.
+fn random(next: &mut impl FnMut(usize) -> usize, nesting: usize, in_list: bool) -> Vec<u8> {
+    let leaf = nesting >= 6;
+    match next(if leaf { 5 } else { 9 }) {
+        0..=2 => vec![next(3) as u8],
+        3 => vec![200 + next(32) as u8],
+        4 if in_list => vec![232 + next(16) as u8],
+        4 => vec![231],
+        5 => [vec![248], random(next, nesting + 1, false)].concat(),
+        6 => [vec![3], random(next, nesting + 1, false)].concat(),
+        7 => [vec![4], random(next, nesting + 1, false), random(next, nesting + 1, false)].concat(),
+        _ => {
+            let number = next(5);
+            let children = (0..number).map(|_| random(next, nesting + 1, true)).collect::<Vec<_>>();
+            [vec![5, number as u8], children.concat()].concat()
+        }
+    }
+}
+
+#[test]
+fn printing_and_reading_are_inverse() {
+    let (symbols, mut state) = (symbols(), 1u64);
+    let mut next = |limit: usize| {
+        state =
+            state.wrapping_mul(6_364_136_223_846_793_005).wrapping_add(1_442_695_040_888_963_407);
+        (state >> 33) as usize % limit
+    };
+    for _ in 0..20_000 {
+        let bytes = random(&mut next, 1, false);
+        let text = symbols.show_pattern(&bytes).unwrap();
+        match symbols.pattern(&text) {
+            Ok(read) => assert_eq!(read, bytes, "{text}"),
+            Err(error) => assert!(bytes.len() > 256, "{text}: {error}"),
+        }
+    }
+}

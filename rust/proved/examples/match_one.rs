@@ -1,0 +1,22 @@
+//! Matches one rule against one state and shows what its names stand for.
+//!
+//! `cargo run --example match_one`
+
+use interface::Library;
+use notation::Symbols;
+use proved::Proved;
+
+fn main() -> Result<(), notation::Error> {
+    let symbols = Symbols::parse("open shut held gate/1 row/2 gates/*")?;
+    let rule = symbols.pattern("gates(@0, !open, @1)")?;
+    let state = symbols.term("gates(open, gate(shut), held)")?;
+
+    let (outcome, answer) = Proved.find(symbols.table(), &rule, &state, 100_000);
+    println!("{} after {} steps", outcome.word().map_or("?", |word| word.text()), outcome.count);
+    for j in 0..2 {
+        if let Some(part) = answer.run(j) {
+            println!("@{j} = [{}]", symbols.show_run(&state[part])?);
+        }
+    }
+    Ok(())
+}

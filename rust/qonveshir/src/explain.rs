@@ -1,0 +1,119 @@
+//! `explain`: the readers of the independent implementation find the place.
+
+use crate::{read, trouble, Reply, Stop};
+use interface::*;
+use reference::{pattern::Steps, record::Record, sheet::Sheet, table::Table, Refusal};
+
+/// Explains what the arguments name: a number, or a table and inputs over it.
+pub fn explain(arguments: &[&str]) -> Reply {
+    if let [Ok(number)] = arguments.iter().map(|text| text.parse()).collect::<Vec<_>>()[..] {
+        return meaning(number);
+    }
+    let (path, mut rest) = (arguments[0], &arguments[1..]);
+    let table = read(path)?;
+    let mut text = input("table", path, &table, &table)?;
+    while let [option, path, later @ ..] = rest {
+        let kind = match *option {
+            "--rules" => "rules",
+            "--states" => "states",
+            "--pattern" => "pattern",
+            "--record" => "record",
+            _ => return trouble(format!("{option}: see qonveshir --help")),
+        };
+        text += &input(kind, path, &read(path)?, &table)?;
+        rest = later;
+    }
+    match rest {
+        [] => Ok(text),
+        _ => trouble("a wrong call; see qonveshir --help"),
+    }
+}
+
+fn meaning(number: u32) -> Reply {
+    match Word::of(number) {
+        Some(word) => Ok(format!("{number} {}: {}\n", word.text(), word.meaning())),
+        None => trouble(format!("{number}: numbers are 0 to {}", Word::Unread.number())),
+    }
+}
+
+/// Checks one input.
+fn input(kind: &str, path: &str, bytes: &[u8], table: &[u8]) -> Reply {
+    match check(kind, bytes, table) {
+        Ok(()) => Ok(format!("{path}: accepted as {kind}\n")),
+        Err(refusal) => Err(Stop::No(refused(kind, path, bytes, table.len(), refusal))),
+    }
+}
+
+fn check(kind: &str, bytes: &[u8], table: &[u8]) -> Result<(), Refusal> {
+    let symbols = Table::read(table)?;
+    match kind {
+        "rules" => reference::check_rules(table, bytes)?,
+        "states" => reference::check_states(table, bytes)?,
+        "pattern" => Steps::new().read(symbols, bytes).map(|_| ())?,
+        "record" => Record::check(symbols, bytes)?,
+        _ => {}
+    }
+    Ok(())
+}
+
+/// Number, word, input, byte and what was expected there.
+fn refused(kind: &str, path: &str, bytes: &[u8], symbols: usize, refusal: Refusal) -> String {
+    let (word, within) = (refusal.fault.word, refusal.fault.at as usize);
+    let start = refusal.entry.and_then(|entry| Sheet::read(bytes).ok()?.range(entry));
+    let at = start.map_or(0, |range| range.start) + within;
+    let mut text = format!("{path}: refused {} {}\ninput: {kind}", word.number(), word.text());
+    if let Some(entry) = refusal.entry {
+        text += &format!(", entry {entry}");
+    }
+    text += &format!("\nbyte: {at}");
+    if refusal.entry.is_some() {
+        text += &format!(", byte {within} of the entry");
+    }
+    match bytes.get(at) {
+        Some(byte) => text += &format!(", which is {byte}"),
+        None => text += ", past the end",
+    }
+    let in_entry = refusal.entry.is_some();
+    text + "\nexpected: "
+        + &match word {
+            Word::Code => codes(kind, symbols),
+            Word::Directory => directory(bytes, at).into(),
+            _ => expected(kind, word, in_entry, at).into(),
+        }
+}
+
+fn expected(kind: &str, word: Word, in_entry: bool, at: usize) -> &'static str {
+    match word {
+        Word::Table if at >= TABLE_LIMIT => "at most 200 bytes",
+        Word::Table => "0 to 8 children, or 255 for a list",
+        Word::Short => "a further node, or a list's number of children",
+        Word::Spare => "the end, since the last node ends before",
+        Word::Deep => "nesting of at most 32",
+        Word::Long if kind == "pattern" || kind == "rules" && in_entry => "at most 256 bytes",
+        Word::Long if kind == "record" || in_entry => "at most 4,096 bytes",
+        Word::Long if at == 0 => "at most 64 rules",
+        Word::Long => "at most 32,768 bytes",
+        Word::Stray => "a run name only as a direct child of a list",
+        _ => word.meaning(),
+    }
+}
+
+fn codes(kind: &str, symbols: usize) -> String {
+    let symbols = match symbols {
+        0 => "no symbol, since the table is empty".into(),
+        _ => format!("a symbol from 0 to {}", symbols - 1),
+    };
+    let more = ", a name 200 to 231, a run name 232 to 247 or the complement 248";
+    symbols + if kind == "pattern" || kind == "rules" { more } else { "" }
+}
+
+/// What a sheet's directory should have at a place.
+fn directory(bytes: &[u8], at: usize) -> &'static str {
+    let entries = bytes.get(..2).map_or(0, |pair| u16::from_le_bytes([pair[0], pair[1]]).into());
+    match at {
+        _ if at >= bytes.len() => "a further number of the directory, in two bytes",
+        _ if at >= 2 + 4 * entries => "the end of the sheet, where its last entry ends",
+        _ if at % 4 == 2 => "the offset at which the entry before ends, or the directory",
+        _ => "a length over 0 that stays within the sheet",
+    }
+}

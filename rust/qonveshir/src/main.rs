@@ -1,0 +1,117 @@
+//! The command line: `pack`, `unpack`, `match`, `explain`.
+
+mod explain;
+mod matching;
+mod sheets;
+
+use interface::Library;
+use std::io::{ErrorKind, Write};
+use std::{env, fmt, fs, process::ExitCode};
+
+const HELP: &str = "\
+qonveshir: matches rules against states
+
+usage:
+  qonveshir pack table SYMBOLS OUT          write a table
+  qonveshir pack rules SYMBOLS TEXT OUT     write a rule sheet, a line of text for each rule
+  qonveshir pack states SYMBOLS TEXT OUT    write a state sheet, a line of text for each state
+  qonveshir unpack rules SYMBOLS SHEET      print the rules of a sheet, a line for each
+  qonveshir unpack states SYMBOLS SHEET     print the states of a sheet, a line for each
+  qonveshir match [--allowance N] SYMBOLS RULE STATE
+                                            match a rule against a state, both given as text
+  qonveshir explain TABLE [--rules SHEET] [--states SHEET] [--pattern FILE] [--record FILE]
+                                            say why an input is refused
+  qonveshir explain NUMBER                  say what a number means
+  qonveshir --help, qonveshir --version
+
+SYMBOLS is a text file of names in order, such as `open shut gate/1 row/2 gates/*`: a number of
+children follows /, and * is a list. Rules and states are written as in `gates(@0, !open, @1)` and
+`gates(open, shut)`; in a TEXT file # starts a comment and empty lines are passed over. TABLE,
+SHEET and FILE are in bytes.
+
+exit status: 0 done, bound or accepted; 1 none, spent or refused; 2 a wrong call, a file that
+can't be read or written, or text that can't be read
+";
+
+/// The library that the commands call, and its name.
+#[cfg(feature = "link")]
+const ENGINE: (&dyn Library, &str) = (&proved::Proved, "the proved library");
+#[cfg(not(feature = "link"))]
+const ENGINE: (&dyn Library, &str) =
+    (&reference::Reference, "the independent implementation; the proved library is not linked");
+
+/// Why a command stops: refused or not found, which is status 1, or trouble, which is status 2.
+enum Stop {
+    No(String),
+    Trouble(String),
+}
+
+/// What a command prints on success.
+type Reply = Result<String, Stop>;
+
+fn trouble<T>(error: impl fmt::Display) -> Result<T, Stop> {
+    Err(Stop::Trouble(error.to_string()))
+}
+
+fn main() -> ExitCode {
+    let arguments: Vec<String> = env::args().skip(1).collect();
+    let arguments: Vec<&str> = arguments.iter().map(String::as_str).collect();
+    match reply(&arguments) {
+        Ok(text) => show(&text, ExitCode::SUCCESS),
+        Err(Stop::No(text)) => show(&(text + "\n"), ExitCode::from(1)),
+        Err(Stop::Trouble(text)) => {
+            eprintln!("qonveshir: {text}");
+            ExitCode::from(2)
+        }
+    }
+}
+
+/// Prints to standard output; a reader that stops early is no trouble.
+fn show(text: &str, status: ExitCode) -> ExitCode {
+    match std::io::stdout().write_all(text.as_bytes()) {
+        Err(error) if error.kind() != ErrorKind::BrokenPipe => {
+            eprintln!("qonveshir: {error}");
+            ExitCode::from(2)
+        }
+        _ => status,
+    }
+}
+
+fn reply(arguments: &[&str]) -> Reply {
+    match arguments {
+        ["--help" | "-h" | "help"] => Ok(HELP.into()),
+        ["--version"] => {
+            Ok(format!("qonveshir {}, with {}\n", env!("CARGO_PKG_VERSION"), ENGINE.1))
+        }
+        ["pack", "table", symbols, out] => sheets::pack_table(symbols, out),
+        ["pack", "rules", symbols, text, out] => sheets::pack_rules(symbols, text, out),
+        ["pack", "states", symbols, text, out] => sheets::pack_states(symbols, text, out),
+        ["unpack", "rules", symbols, sheet] => sheets::unpack_rules(symbols, sheet),
+        ["unpack", "states", symbols, sheet] => sheets::unpack_states(symbols, sheet),
+        ["match", "--allowance", allowance, symbols, rule, state] => match allowance.parse() {
+            Ok(allowance) => matching::find(symbols, rule, state, allowance),
+            Err(_) => trouble(format!("--allowance {allowance}: expected 0 to {}", u32::MAX)),
+        },
+        ["match", symbols, rule, state] => matching::find(symbols, rule, state, 100_000),
+        ["explain", rest @ ..] if !rest.is_empty() => explain::explain(rest),
+        _ => trouble("a wrong call; see qonveshir --help"),
+    }
+}
+
+fn read(path: &str) -> Result<Vec<u8>, Stop> {
+    fs::read(path).or_else(|error| trouble(format!("{path}: {error}")))
+}
+
+fn read_text(path: &str) -> Result<String, Stop> {
+    fs::read_to_string(path).or_else(|error| trouble(format!("{path}: {error}")))
+}
+
+fn write(path: &str, bytes: &[u8]) -> Reply {
+    fs::write(path, bytes).or_else(|error| trouble(format!("{path}: {error}")))?;
+    Ok(format!("{path}: {} bytes\n", bytes.len()))
+}
+
+fn read_symbols(path: &str) -> Result<notation::Symbols, Stop> {
+    let text = read_text(path)?;
+    notation::Symbols::parse(&text).or_else(|error| trouble(format!("{path}: {error}")))
+}

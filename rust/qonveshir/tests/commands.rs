@@ -1,0 +1,100 @@
+//! The commands, their output and their exit status.
+
+use std::path::{Path, PathBuf};
+use std::process::Command;
+use std::{env, fs};
+
+/// A folder of its own for a test, with document 01's symbols.
+fn folder(name: &str) -> PathBuf {
+    let folder = env::temp_dir().join(format!("qonveshir-{name}-{}", std::process::id()));
+    fs::create_dir_all(&folder).unwrap();
+    fs::write(folder.join("symbols"), "open shut held gate/1 row/2 gates/*\n").unwrap();
+    folder
+}
+
+/// Status and output of a command run in a folder.
+fn run(folder: &Path, arguments: &[&str]) -> (i32, String) {
+    let output = Command::new(env!("CARGO_BIN_EXE_qonveshir"))
+        .args(arguments)
+        .current_dir(folder)
+        .output()
+        .unwrap();
+    let text = [output.stdout, output.stderr].concat();
+    (output.status.code().unwrap(), String::from_utf8(text).unwrap())
+}
+
+#[test]
+fn matches() {
+    let folder = folder("match");
+    let find = |rule, state| run(&folder, &["match", "symbols", rule, state]);
+    let bound = "bound 10\n@0 = open  (offset 2, length 1)\n@1 = nothing  (offset 4, length 0)\n";
+    assert_eq!(find("gates(@0, !open, @1)", "gates(open, shut)"), (0, bound.into()));
+    assert_eq!(find("row(!?0, ?0)", "row(open, open)"), (1, "none 4\n".into()));
+    let (status, text) = find("row(!?0)", "open");
+    assert_eq!(
+        (status, text.as_str()),
+        (2, "qonveshir: rule, column 8: row takes 2 children, this is 1\n")
+    );
+    let spent =
+        run(&folder, &["match", "--allowance", "3", "symbols", "row(?0, !?1)", "row(open, open)"]);
+    assert_eq!(spent, (1, "spent 3\n".into()));
+    fs::remove_dir_all(folder).unwrap();
+}
+
+#[test]
+fn packs_and_unpacks() {
+    let folder = folder("pack");
+    let rules = "row(!?0, ?0)\nrow(open, !shut)\n";
+    fs::write(folder.join("rules"), format!("# two rules\n\n{rules}")).unwrap();
+    fs::write(folder.join("states"), "row(open, open) # both\nheld\n").unwrap();
+    let command = |text: &str| run(&folder, &text.split(' ').collect::<Vec<_>>());
+    assert_eq!(command("pack table symbols t"), (0, "t: 6 bytes\n".into()));
+    assert_eq!(command("pack rules symbols rules r"), (0, "r: 18 bytes\n".into()));
+    assert_eq!(command("pack states symbols states s"), (0, "s: 14 bytes\n".into()));
+    assert_eq!(command("unpack rules symbols r"), (0, rules.into()));
+    assert_eq!(command("unpack states symbols s"), (0, "row(open, open)\nheld\n".into()));
+    let (status, text) = command("unpack states symbols r");
+    assert_eq!(status, 1);
+    assert!(text.starts_with("r: refused 4 code, entry 0"), "{text}");
+    let (status, text) = command("explain t --rules r --states s");
+    assert_eq!((status, text.lines().count()), (0, 3));
+    fs::remove_dir_all(folder).unwrap();
+}
+
+#[test]
+fn explains() {
+    let folder = folder("explain");
+    fs::write(folder.join("t"), [0, 1, 255]).unwrap();
+    fs::write(folder.join("r"), [2, 0, 10, 0, 1, 0, 11, 0, 2, 0, 0, 1, 250]).unwrap();
+    let expected = "\
+        r: refused 4 code\n\
+        input: rules, entry 1\n\
+        byte: 12, byte 1 of the entry, which is 250\n\
+        expected: a symbol from 0 to 2, a name 200 to 231, a run name 232 to 247 or the \
+        complement 248\n";
+    assert_eq!(run(&folder, &["explain", "t", "--rules", "r"]), (1, expected.into()));
+    fs::write(folder.join("s"), [1, 0, 6, 0, 2, 0, 0]).unwrap();
+    let expected = "\
+        s: refused 9 directory\ninput: states\nbyte: 4, which is 2\n\
+        expected: a length over 0 that stays within the sheet\n";
+    assert_eq!(run(&folder, &["explain", "t", "--states", "s"]), (1, expected.into()));
+    fs::write(folder.join("p"), [2]).unwrap();
+    let expected = "\
+        p: refused 2 short\ninput: record\nbyte: 1, past the end\n\
+        expected: a further node, or a list's number of children\n";
+    assert_eq!(run(&folder, &["explain", "t", "--record", "p"]), (1, expected.into()));
+    let stray = "7 stray: run name elsewhere than as a list's child\n";
+    assert_eq!(run(&folder, &["explain", "7"]), (0, stray.into()));
+    fs::remove_dir_all(folder).unwrap();
+}
+
+#[test]
+fn wrong_calls() {
+    let folder = folder("calls");
+    assert_eq!(run(&folder, &[]).0, 2);
+    assert_eq!(run(&folder, &["match", "nowhere", "open", "open"]).0, 2);
+    assert_eq!(run(&folder, &["explain", "14"]).0, 2);
+    assert_eq!(run(&folder, &["--help"]).0, 0);
+    assert!(run(&folder, &["--version"]).1.starts_with("qonveshir 0."));
+    fs::remove_dir_all(folder).unwrap();
+}

@@ -1,0 +1,184 @@
+//! An independent implementation of the six calls, written from document 01 alone.
+//!
+//! A pattern is compiled to a short list of steps ([`pattern`]), a record is read once into a
+//! table of where each term ends ([`record`]), and the search ([`search`]) goes back by a stack
+//! of run names. A record's bytes determine its term, so equal terms are equal bytes.
+
+pub mod fault;
+pub mod pattern;
+pub mod record;
+pub mod search;
+pub mod sheet;
+pub mod table;
+
+use fault::Fault;
+use interface::{Library, Outcome, Part, Word, ANSWER, SHEET_LIMIT};
+use pattern::Steps;
+use record::Record;
+use search::{Found, Search};
+use sheet::Sheet;
+use table::Table;
+
+/// The independent implementation.
+#[derive(Clone, Copy, Debug, Default)]
+pub struct Reference;
+
+impl Library for Reference {
+    fn match_one(
+        &self,
+        table: &[u8],
+        pattern: &[u8],
+        record: &[u8],
+        allowance: u32,
+        answer: &mut [u16],
+    ) -> Outcome {
+        shown((|| {
+            let answer = wide(answer)?;
+            let table = Table::read(table)?;
+            let mut steps = Steps::new();
+            let start = steps.read(table, pattern)?;
+            let ends = &mut Vec::new();
+            let record = Record::read(table, record, ends)?;
+            let mut search = Search::new(&steps, record);
+            Ok(match search.run(start, allowance) {
+                (Found::Bound, count) => {
+                    search.answer(answer);
+                    Outcome::counted(Word::Bound, 0, count)
+                }
+                (Found::None, count) => Outcome::counted(Word::None, 0, count),
+                (Found::Spent, count) => Outcome::counted(Word::Spent, 0, count),
+            })
+        })())
+    }
+
+    fn match_rules(
+        &self,
+        table: &[u8],
+        rules: &[u8],
+        record: &[u8],
+        allowance: u32,
+        answer: &mut [u16],
+    ) -> Outcome {
+        shown((|| {
+            let answer = wide(answer)?;
+            let table = Table::read(table)?;
+            let mut steps = Steps::new();
+            let starts = read_rules(table, rules, &mut steps)?;
+            let ends = &mut Vec::new();
+            let record = Record::read(table, record, ends)?;
+            let mut search = Search::new(&steps, record);
+            let mut sum = 0;
+            for (rule, start) in starts.into_iter().enumerate() {
+                let (found, count) = search.run(start, allowance);
+                sum += count;
+                match found {
+                    Found::None => {}
+                    Found::Spent => return Ok(Outcome::counted(Word::Spent, rule, sum)),
+                    Found::Bound => {
+                        search.answer(answer);
+                        return Ok(Outcome::counted(Word::Bound, rule, sum));
+                    }
+                }
+            }
+            Ok(Outcome::counted(Word::None, 0, sum))
+        })())
+    }
+
+    fn write_sheet(
+        &self,
+        table: &[u8],
+        records: &[u8],
+        lengths: &[u16],
+        output: &mut [u8],
+    ) -> Outcome {
+        shown((|| {
+            let table = Table::read(table)?;
+            let sum: usize = lengths.iter().map(|&length| usize::from(length)).sum();
+            if lengths.contains(&0) || sum != records.len() {
+                return Err(Fault::new(Word::Directory, 0).into());
+            }
+            let size = 2 + 4 * lengths.len() + sum;
+            if size > SHEET_LIMIT {
+                return Err(Fault::new(Word::Long, SHEET_LIMIT).into());
+            }
+            let mut rest = records;
+            for (index, &length) in lengths.iter().enumerate() {
+                let (bytes, later) = rest.split_at(length.into());
+                Record::check(table, bytes).map_err(|fault| fault.of_entry(index))?;
+                rest = later;
+            }
+            let output = output.get_mut(..size).ok_or(Fault::new(Word::Full, 0))?;
+            sheet::write(records, lengths, output);
+            Ok(Outcome::counted(Word::Bound, 0, size as u64))
+        })())
+    }
+
+    fn entry(&self, sheet: &[u8], index: u32) -> Part {
+        let found = Sheet::read(sheet)
+            .and_then(|sheet| sheet.range(index as usize).ok_or(Fault::new(Word::Directory, 0)));
+        match found {
+            Ok(range) => Part { number: 0, offset: range.start as u32, length: range.len() as u32 },
+            Err(fault) => Part { number: fault.word.number(), offset: 0, length: 0 },
+        }
+    }
+
+    fn check_rules(&self, table: &[u8], sheet: &[u8]) -> Outcome {
+        shown(check_rules(table, sheet).map(|()| Outcome::ACCEPTED))
+    }
+
+    fn check_states(&self, table: &[u8], sheet: &[u8]) -> Outcome {
+        shown(check_states(table, sheet).map(|()| Outcome::ACCEPTED))
+    }
+}
+
+/// Why a call refuses: the fault and the index of the entry that it lies in, if any.
+#[derive(Clone, Copy, Debug, PartialEq, Eq)]
+pub struct Refusal {
+    pub fault: Fault,
+    pub entry: Option<usize>,
+}
+
+impl From<Fault> for Refusal {
+    fn from(fault: Fault) -> Self {
+        Refusal { fault, entry: None }
+    }
+}
+
+/// Checks a table and a sheet of patterns.
+pub fn check_rules(table: &[u8], sheet: &[u8]) -> Result<(), Refusal> {
+    let table = Table::read(table)?;
+    let mut steps = Steps::new();
+    for (index, bytes) in Sheet::read(sheet)?.rules()?.entries().enumerate() {
+        steps.clear();
+        steps.read(table, bytes).map_err(|fault| fault.of_entry(index))?;
+    }
+    Ok(())
+}
+
+/// Checks a table and a sheet of records.
+pub fn check_states(table: &[u8], sheet: &[u8]) -> Result<(), Refusal> {
+    let table = Table::read(table)?;
+    for (index, bytes) in Sheet::read(sheet)?.entries().enumerate() {
+        Record::check(table, bytes).map_err(|fault| fault.of_entry(index))?;
+    }
+    Ok(())
+}
+
+/// Reads the patterns of a rule sheet, and gives the step at which each starts.
+fn read_rules(table: Table, sheet: &[u8], steps: &mut Steps) -> Result<Vec<usize>, Refusal> {
+    let entries = Sheet::read(sheet)?.rules()?.entries().enumerate();
+    entries
+        .map(|(index, bytes)| steps.read(table, bytes).map_err(|fault| fault.of_entry(index)))
+        .collect()
+}
+
+/// The first 96 numbers of an answer buffer.
+fn wide(answer: &mut [u16]) -> Result<&mut [u16; ANSWER], Fault> {
+    answer.first_chunk_mut().ok_or(Fault::new(Word::Narrow, 0))
+}
+
+/// The outcome of a call that may be refused.
+fn shown(result: Result<Outcome, Refusal>) -> Outcome {
+    result
+        .unwrap_or_else(|refusal| Outcome::refused(refusal.fault.word, refusal.entry.unwrap_or(0)))
+}

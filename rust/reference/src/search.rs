@@ -1,0 +1,237 @@
+//! The search and its count.
+
+use crate::pattern::{Step, Steps, NO_LIST};
+use crate::record::Record;
+use interface::{ABSENT, ANSWER, NAMES, RUNS};
+
+/// How a search ends.
+#[derive(Clone, Copy, Debug, PartialEq, Eq)]
+pub enum Found {
+    Bound,
+    None,
+    Spent,
+}
+
+/// The count would go over the allowance.
+struct Spent;
+
+/// Where in the record the search goes on, if the pair holds.
+type Next = Result<Option<usize>, Spent>;
+
+/// A complement put by: the first step of its inside, and its record node.
+#[derive(Clone, Copy)]
+struct PutBy {
+    step: u16,
+    at: u16,
+}
+
+/// A search of a record by any of several patterns.
+pub struct Search<'a> {
+    steps: &'a [Step],
+    record: Record<'a>,
+    /// Pairs and lengths that may still be counted.
+    left: u32,
+    /// Where each open list of the pattern ends in the record.
+    lists: [u16; 256],
+    /// Which names and run names are assigned, a bit for each place of the answer.
+    assigned: u64,
+    /// Start and end of what each place is assigned.
+    parts: [(u16, u16); NAMES + RUNS],
+    put_by: Vec<PutBy>,
+}
+
+impl<'a> Search<'a> {
+    pub fn new(steps: &'a Steps, record: Record<'a>) -> Self {
+        let mut lists = [0; 256];
+        lists[usize::from(NO_LIST)] = u16::MAX;
+        Search {
+            steps: steps.as_slice(),
+            record,
+            left: 0,
+            lists,
+            assigned: 0,
+            parts: [(0, 0); NAMES + RUNS],
+            put_by: Vec::new(),
+        }
+    }
+
+    /// Searches by the pattern that starts at a step, and counts; a spent search shows the
+    /// allowance.
+    pub fn run(&mut self, start: usize, allowance: u32) -> (Found, u64) {
+        self.left = allowance;
+        self.assigned = 0;
+        self.put_by.clear();
+        let found = match self.level(start, 0) {
+            Ok(true) => Found::Bound,
+            Ok(false) => Found::None,
+            Err(Spent) => Found::Spent,
+        };
+        (found, u64::from(allowance - self.left))
+    }
+
+    /// Writes the assignment found.
+    pub fn answer(&self, answer: &mut [u16; ANSWER]) {
+        answer.chunks_exact_mut(2).for_each(|pair| pair.copy_from_slice(&[ABSENT, 0]));
+        let mut free = self.assigned;
+        while free != 0 {
+            let place = free.trailing_zeros() as usize;
+            let (start, end) = self.parts[place];
+            answer[2 * place..2 * place + 2].copy_from_slice(&[start, end - start]);
+            free &= free - 1;
+        }
+    }
+
+    /// Searches one level to its first answer, from the present assignments.
+    fn level(&mut self, step: usize, at: usize) -> Result<bool, Spent> {
+        let first = self.put_by.len();
+        let found = self.rest(step, at, first)?;
+        self.put_by.truncate(first);
+        Ok(found)
+    }
+
+    /// Searches the rest of a level whose complements are put by from `first` on.
+    fn rest(&mut self, mut step: usize, mut at: usize, first: usize) -> Result<bool, Spent> {
+        loop {
+            let next = match self.steps[step] {
+                Step::Symbol { within, symbol } => self.symbol(within, symbol, at)?,
+                Step::List { within, symbol, list } => self.list(within, symbol, list, at)?,
+                Step::Close { list } => (at == self.list_end(list)).then_some(at),
+                Step::Name { within, place } => self.name(within, place, at)?,
+                Step::Run { within, place } if self.assigned >> place & 1 == 0 => {
+                    return self.lengths(within, place, step, at, first);
+                }
+                Step::Run { within, place } => self.assigned_run(within, place, at)?,
+                Step::Complement { within, skip } => {
+                    let next = self.complement(within, step, at)?;
+                    step = skip.into();
+                    next
+                }
+                Step::Done => return self.complements_hold(first),
+            };
+            match next {
+                Some(next) => (step, at) = (step + 1, next),
+                None => return Ok(false),
+            }
+        }
+    }
+
+    /// Tries the lengths of an unassigned run name, each with the rest of its level.
+    fn lengths(
+        &mut self,
+        within: u8,
+        place: u8,
+        step: usize,
+        at: usize,
+        first: usize,
+    ) -> Result<bool, Spent> {
+        let (assigned, put_by) = (self.assigned | 1 << place, self.put_by.len());
+        let (mut end, last) = (at, self.list_end(within));
+        loop {
+            self.count()?;
+            self.assigned = assigned;
+            self.put_by.truncate(put_by);
+            self.parts[usize::from(place)] = (at as u16, end as u16);
+            if self.rest(step + 1, end, first)? {
+                return Ok(true);
+            }
+            if end == last {
+                return Ok(false);
+            }
+            end = self.record.ends[end].into();
+        }
+    }
+
+    /// Whether no inside of the complements put by from `first` on has an answer.
+    fn complements_hold(&mut self, first: usize) -> Result<bool, Spent> {
+        let assigned = self.assigned;
+        for i in first..self.put_by.len() {
+            let PutBy { step, at } = self.put_by[i];
+            let found = self.level(step.into(), at.into())?;
+            self.assigned = assigned;
+            if found {
+                return Ok(false);
+            }
+        }
+        Ok(true)
+    }
+
+    #[inline(always)]
+    fn symbol(&mut self, within: u8, symbol: u8, at: usize) -> Next {
+        Ok((self.element(within, at)? && self.record.bytes[at] == symbol).then_some(at + 1))
+    }
+
+    #[inline(always)]
+    fn list(&mut self, within: u8, symbol: u8, list: u8, at: usize) -> Next {
+        if !self.element(within, at)? || self.record.bytes[at] != symbol {
+            return Ok(None);
+        }
+        self.lists[usize::from(list)] = self.record.ends[at];
+        Ok(Some(at + 2))
+    }
+
+    /// A name takes the node, or must equal it if it is assigned.
+    #[inline(always)]
+    fn name(&mut self, within: u8, place: u8, at: usize) -> Next {
+        if !self.element(within, at)? {
+            return Ok(None);
+        }
+        let end = self.record.ends[at];
+        if self.assigned >> place & 1 == 0 {
+            self.assigned |= 1 << place;
+            self.parts[usize::from(place)] = (at as u16, end);
+        } else if !self.stands_at(place, at, end.into()) {
+            return Ok(None);
+        }
+        Ok(Some(end.into()))
+    }
+
+    /// An assigned run name tries its own length.
+    #[inline(always)]
+    fn assigned_run(&mut self, within: u8, place: u8, at: usize) -> Next {
+        self.count()?;
+        let (from, to) = self.parts[usize::from(place)];
+        let end = at + usize::from(to - from);
+        Ok((end <= self.list_end(within) && self.stands_at(place, at, end)).then_some(end))
+    }
+
+    /// A complement is put by.
+    #[inline(always)]
+    fn complement(&mut self, within: u8, step: usize, at: usize) -> Next {
+        if !self.element(within, at)? {
+            return Ok(None);
+        }
+        self.put_by.push(PutBy { step: step as u16 + 1, at: at as u16 });
+        Ok(Some(self.record.ends[at].into()))
+    }
+
+    /// Whether what a place is assigned also stands at another part of the record.
+    #[inline(always)]
+    fn stands_at(&self, place: u8, start: usize, end: usize) -> bool {
+        let (from, to) = self.parts[usize::from(place)];
+        self.record.bytes[start..end] == self.record.bytes[from.into()..to.into()]
+    }
+
+    #[inline(always)]
+    fn list_end(&self, list: u8) -> usize {
+        self.lists[usize::from(list)].into()
+    }
+
+    /// Counts a pair, unless the pattern's list has no element left there.
+    #[inline(always)]
+    fn element(&mut self, within: u8, at: usize) -> Result<bool, Spent> {
+        if at >= self.list_end(within) {
+            return Ok(false);
+        }
+        self.count()?;
+        Ok(true)
+    }
+
+    #[inline(always)]
+    fn count(&mut self) -> Result<(), Spent> {
+        if self.left == 0 {
+            return Err(Spent);
+        }
+        self.left -= 1;
+        Ok(())
+    }
+}
