@@ -1,7 +1,7 @@
 -- Laws of equal terms, and of sequences of terms.
-use Prim.Native.Nat.{ℕ, suc, _+_}
+use Prim.Native.Nat.{ℕ, suc, _+_, _≤_}
 use mathlib.Core.Path.{_≡_, refl, sym, _∙_, ap, ap₂, subst}
-use mathlib.Core.Bool.{Bool, true, false, cond, false≢true}
+use mathlib.Core.Bool.{Bool, true, false, cond, false≢true, not-eq-not}
 use mathlib.Core.Option.{none, some}
 use native.Mathlib.Omega.{arith}
 use native.Mathlib.Nat.{zero-add, suc-add}
@@ -9,7 +9,7 @@ use lib.Dec.{eqb}
 use borrow.Author.Tests.{eq-eqb}
 use Rattle.term.specs.Same.{sameTerm, sameTerms}
 use Rattle.term.specs.Term.{Term, Terms, nil, _::_, _⧺_, count, single}
-use Rattle.term.proofs.SameParts.{term-equal, same-term, same-terms}
+use Rattle.term.proofs.SameParts.{term-equal, terms-equal, same-term, same-terms}
 use Rattle.anti_pattern.specs.Search.{behind}
 
 pub eqb-same : (n : ℕ) → eqb n n ≡ true
@@ -31,6 +31,17 @@ join-one (u :: w) t x = ap (u ::_) (join-one w t x)
 pub count-join : (w x : Terms) → count (w ⧺ x) ≡ count w + count x
 count-join nil x = sym (zero-add (count x))
 count-join (t :: w) x = ap suc (count-join w x) ∙ sym (suc-add (count w) (count x))
+
+-- as many elements from the start of a sequence
+pub cut : (w ts : Terms) → count w ≤ count ts → (x : Terms) × (us : Terms) × (ts ≡ x ⧺ us) × (count w ≡ count x)
+cut nil ts h = (nil, ts, refl, refl)
+cut (t :: w) nil h = absurd (omega arith)
+cut (t :: w) (u :: ts) h = let r = cut w ts (omega arith) in (u :: r .0, r .1, ap (u ::_) (r .2), omega (arith, r .3))
+
+one-term : (w : Terms) → count w ≡ 1 → (t : Term) × (w ≡ single t)
+one-term nil h = absurd (omega arith)
+one-term (t :: nil) h = (t, refl)
+one-term (t :: (u :: w)) h = absurd (omega arith)
 
 pub head-same : {t u : Term} {ts us : Terms} → t :: ts ≡ u :: us → t ≡ u
 head-same h = cc
@@ -62,3 +73,17 @@ pub behind-complete : (w us : Terms) → behind w (w ⧺ us) ≡ some us
 unfolding behind
 behind-complete nil us = refl
 behind-complete (x :: w) us = rw (same-term x) (behind-complete w us)
+
+-- one element against the next
+
+module _ (w : Terms) (t : Term) (ts : Terms) where
+  pub one-behind : (us : Terms) → count w ≡ 1 → behind w (t :: ts) ≡ some us → (w ≡ single t) × (ts ≡ us)
+  one-behind us h b =
+      let o = one-term w h in
+      let z : t :: ts ≡ o .0 :: us = behind-sound w (t :: ts) us b ∙ ap (λ (x : Terms). x ⧺ us) (o .1) in
+      (o .1 ∙ ap single (sym (head-same z)), tail-same z)
+
+  pub none-behind : behind w (t :: ts) ≡ none → sameTerms w (single t) ≡ false
+  none-behind b =
+      not-eq-not {b = false} .0
+      (λ e. none-some (sym b ∙ ap (λ (x : Terms). behind x (t :: ts)) (terms-equal w (single t) e) ∙ behind-complete (single t) ts))

@@ -24,7 +24,7 @@ use Rattle.anti_pattern.specs.Place.{partOf, orAbsent, partAt, partsAt, eachVar
 use Rattle.anti_pattern.specs.Published.{NoRuns, assignment}
 use Rattle.anti_pattern.specs.Search.{Env, Outcome as Ended, found, failed, whole}
 use Rattle.anti_pattern.specs.Variables.{vars, varsAll, free, among}
-use Rattle.anti_pattern.proofs.Allowance.{answer-over, answer-within}
+use Rattle.anti_pattern.proofs.Allowance.{answer-over, answer-within, bound-found}
 use Rattle.anti_pattern.proofs.Demands.{search-decides, parts-shown, answer-exact, published-agrees, published-answer}
 use Rattle.anti_pattern.proofs.Metering.{meter-within}
 use Rattle.search.specs.Level.{searchOf}
@@ -128,18 +128,6 @@ bound-told : (o : Outcome) → answerNumber (told o) ≡ 0 → (ps : List Part) 
 bound-told (bound ps n) h = (ps, n, refl)
 bound-told (nothing n) h = absurd (omega arith)
 bound-told (spent n) h = absurd (omega arith)
-
--- a bound answer has the parts of what the search finds
-pub bound-found : (table : List ℕ) (q : Pattern) (t : Term) (allowance : ℕ) (ps : List Part) (n : ℕ) → answer table q t allowance ≡ bound ps n
-    → (countOf table q t ≤ allowance) × ((e : Env) × (whole table q t .out ≡ found e) × (ps ≡ parts table e))
-bound-found table q t allowance ps n h =
-    let c = answer-exact table q t allowance .bound-exactly ps n .0 h in
-    (c .1, go (whole table q t .out) refl (sym (answer-within table q t allowance (c .1)) ∙ h))
-  where
-    go : (o : Ended) → whole table q t .out ≡ o → shown table o (countOf table q t) ≡ bound ps n
-        → (e : Env) × (whole table q t .out ≡ found e) × (ps ≡ parts table e)
-    go (found e) z h = (e, z, cc)
-    go failed z h = let z : _≡_ {A = ℕ} 0 1 = cc in absurd (omega arith)
 
 shown-by : {table bytes : List ℕ} {e : Env} {left : ℕ} {r : Reply} → Agrees table bytes (met e left) r → Shown table bytes (r .parts) e
 shown-by (is-found h) = h

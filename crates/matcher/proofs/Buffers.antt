@@ -16,14 +16,14 @@ pub numbers-length : (ps : List Part) → length (numbers ps) ≡ 2 * length ps
 numbers-length [] = refl
 numbers-length (p ∷ ps) = omega (arith, numbers-length ps)
 
-pub numbers-offset : (ps : List Part) (v : ℕ) → v < length ps → getD (numbers ps) (2 * v) 0 ≡ getD ps v (part 0 0 0) .offset
+numbers-offset : (ps : List Part) (v : ℕ) → v < length ps → getD (numbers ps) (2 * v) 0 ≡ getD ps v (part 0 0 0) .offset
 numbers-offset [] v h = absurd (omega arith)
 numbers-offset (p ∷ ps) zero h = refl
 numbers-offset (p ∷ ps) (suc v) h =
     let z : 2 * suc v ≡ suc (suc (2 * v)) = omega arith in
     ap (λ (i : ℕ). getD (numbers (p ∷ ps)) i 0) z ∙ numbers-offset ps v (omega arith)
 
-pub numbers-size : (ps : List Part) (v : ℕ) → v < length ps → getD (numbers ps) (2 * v + 1) 0 ≡ getD ps v (part 0 0 0) .length
+numbers-size : (ps : List Part) (v : ℕ) → v < length ps → getD (numbers ps) (2 * v + 1) 0 ≡ getD ps v (part 0 0 0) .length
 numbers-size [] v h = absurd (omega arith)
 numbers-size (p ∷ ps) zero h = refl
 numbers-size (p ∷ ps) (suc v) h =

@@ -9,7 +9,7 @@ use lib.Seq.{ext-getD}
 use lib.Dec.{leb}
 use borrow.Author.Tests.{leb-true, le-leb}
 use Rattle.term.specs.Table.{entriesAccepted, tableAccepted}
-use Rattle.term.specs.Tree.{Tree, empty, more}
+use Rattle.term.specs.Tree.{Tree, empty, more, encode}
 use Rattle.term.specs.Term.{Term, single}
 use Rattle.term.specs.Pattern.{Pattern, end, plain}
 use Rattle.term.specs.Limits.{Fits, Accepted}
@@ -33,16 +33,16 @@ use Rattle.matcher.proofs.Walks.{walk-goes}
 
 -- every level, with levels enough
 level-searches : (table : List ℕ) (small : length table ≤ 200) (bytes : List ℕ) (short : length bytes ≤ 4096) (n : ℕ)
-    → Searches table small bytes short n (levelOf n table bytes)
+    → Searches table bytes n (levelOf n table bytes)
 unfolding levelOf
 level-searches table small bytes short zero pattern narrow s qs ts fs e ds left h few = absurd (omega arith)
 level-searches table small bytes short (suc n) pattern narrow s qs ts fs e ds left h few =
-    walk-goes table small bytes short n (levelOf n table bytes) (level-searches table small bytes short n) pattern narrow 1024 s qs ts fs e ds left h few
-    (omega (arith, h .here .depth, h .here .patterns-limited .deep))
+    walk-goes table small bytes short n (levelOf n table bytes) (level-searches table small bytes short n) pattern narrow 1024 s qs ts fs e ds left
+    (record { is = h; few = few; long = omega (arith, h .here .few) })
 
 -- the parts of a reply are the parts of the answer
 
-pub shown-parts : (table bytes : List ℕ) (ps : List Part) (e : Env) → Shown table bytes ps e → parts table e ≡ ps
+shown-parts : (table bytes : List ℕ) (ps : List Part) (e : Env) → Shown table bytes ps e → parts table e ≡ ps
 shown-parts table bytes ps e h =
     ext-getD (part 0 0 0) (parts table e) ps (sym (h .room))
     (λ i k.
@@ -66,9 +66,9 @@ table-short table h = leb-true (length table) 200 (go (leb (length table) 200) h
     go true e = refl
     go false e = absurd (false≢true e)
 
-limited-whole : (table : List ℕ) (records : Bool) (t : Tree) → Accepted table records t → Limited table records 0 (more t empty)
+limited-whole : (table : List ℕ) (records : Bool) (t : Tree) → Accepted table records t → Limited table records (more t empty)
 unfolding Fits
-limited-whole table records t a = record { left = 32; inList = false; deep = omega arith; fit = (a .fits, tt) }
+limited-whole table records t a = record { left = 32; inList = false; fit = (a .fits, tt) }
 
 module _ (table pattern bytes : List ℕ) (q : Pattern) (t : Term) (i : Input table pattern bytes q t) (allowance : ℕ) where
   narrow : length pattern ≤ 256
@@ -78,9 +78,11 @@ module _ (table pattern bytes : List ℕ) (q : Pattern) (t : Term) (i : Input ta
   short = rw (i .record-bytes) at (i .record-accepted .short)
 
   start-here : Represents table pattern bytes (startOf (replicate 48 absent) 0) (plain q end) (single t) [] start []
+  unfolding encode
   start-here =
-      start-represents table pattern bytes (replicate 48 absent) start q t 0 [] [] (sym (i .pattern-bytes)) (sym (i .record-bytes)) (omega arith)
-      (limited-whole table false _ (i .pattern-accepted)) (limited-whole table true _ (i .record-accepted)) (shown-start table bytes)
+      start-represents table pattern bytes (replicate 48 absent) start q t 0 (sym (i .pattern-bytes)) (limited-whole table false _ (i .pattern-accepted))
+      (record { after = []; stands = sym (i .record-bytes); within = omega arith; limited = limited-whole table true _ (i .record-accepted) })
+      (shown-start table bytes)
 
   searched : searchOf table pattern bytes allowance ≡ levelOf (levels pattern 0) table bytes pattern (startOf (replicate 48 absent) 0) allowance
   unfolding searchOf

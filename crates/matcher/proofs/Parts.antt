@@ -3,62 +3,29 @@ use Prim.Native.Nat.{ℕ, _+_, _%_, _<_, _≤_}
 use native.Mathlib.Omega.{arith}
 use mathlib.Core.Path.{_≡_, refl, sym, _∙_, ap, ap₂, subst}
 use mathlib.Core.List.{List, [], _++_}
-use mathlib.Core.Bool.{Bool, true, false, cond, _&&_}
+use mathlib.Core.Bool.{Bool, true, false, cond, _&&_, not-eq-not}
 use mathlib.Core.Option.{none, some}
 use lib.ListN.{length, getD, drop, take, set, replicate, length-set, length-replicate, getD-replicate, take-append-drop}
 use lib.Seq.{getD-set-same, getD-set-other}
 use lib.Dec.{eqb, leb}
 use borrow.Author.Tests.{eqb-true, eqb-false, leb-true, le-leb, ne-eqb}
-use Rattle.term.specs.Term.{Term, Terms, nil, _::_, _⧺_, count, single, sizes, termTrees, termsBytes}
-use Rattle.term.specs.Same.{sameTerms, samePart}
+use Rattle.term.specs.Term.{Terms, _⧺_, count, sizes, termTrees, termsBytes}
+use Rattle.term.specs.Same.{samePart}
 use Rattle.term.specs.Limits.{FitAll}
 use Rattle.term.specs.Part.{part, absent, isAbsent, boundPart, partBytes}
 use Rattle.term.specs.declared.Part.{Part}
 use Rattle.term.proofs.Sizes.{encodes-append, terms-length, take-terms}
-use Rattle.term.proofs.SameParts.{same-refl, same-equal, run-of-count, terms-equal, and-true}
+use Rattle.term.proofs.SameParts.{same-refl, same-equal, run-of-count, and-true}
 use Rattle.anti_pattern.specs.Search.{Env, bind, start, behind}
 use Rattle.anti_pattern.specs.Place.{partOf}
-use Rattle.anti_pattern.proofs.Facts.{count-join, none-some, some-same, head-same, tail-same, behind-sound, behind-complete}
+use Rattle.anti_pattern.proofs.Facts.{count-join, cut, none-some, some-same, behind-sound, behind-complete}
 use Rattle.search.specs.State.{standsOf}
 use Rattle.matcher.specs.Represents.{Stands, Shown}
 use Rattle.term.proofs.Joins.{bytes-join, fit-split}
 use Rattle.matcher.proofs.Places.{within-terms}
 
--- tests
-
-is-false : (b : Bool) → (b ≡ true → ⊥) → b ≡ false
-is-false true h = absurd (h refl)
-is-false false h = refl
-
--- sequences
-
--- as many elements from the start of a sequence
-cut : (w ts : Terms) → count w ≤ count ts → (x : Terms) × (us : Terms) × (ts ≡ x ⧺ us) × (count w ≡ count x)
-cut nil ts h = (nil, ts, refl, refl)
-cut (t :: w) nil h = absurd (omega arith)
-cut (t :: w) (u :: ts) h = let r = cut w ts (omega arith) in (u :: r .0, r .1, ap (u ::_) (r .2), omega (arith, r .3))
-
-one-term : (w : Terms) → count w ≡ 1 → (t : Term) × (w ≡ single t)
-one-term nil h = absurd (omega arith)
-one-term (t :: nil) h = (t, refl)
-one-term (t :: (u :: w)) h = absurd (omega arith)
-
-module _ (w : Terms) (t : Term) (ts : Terms) where
-  pub one-behind : (us : Terms) → count w ≡ 1 → behind w (t :: ts) ≡ some us → (w ≡ single t) × (ts ≡ us)
-  one-behind us h b =
-      let o = one-term w h in
-      let z : t :: ts ≡ o .0 :: us = behind-sound w (t :: ts) us b ∙ ap (λ (x : Terms). x ⧺ us) (o .1) in
-      (o .1 ∙ ap single (sym (head-same z)), tail-same z)
-
-  pub none-behind : behind w (t :: ts) ≡ none → sameTerms w (single t) ≡ false
-  none-behind b =
-      is-false (sameTerms w (single t))
-      (λ e. none-some (sym b ∙ ap (λ (x : Terms). behind x (t :: ts)) (terms-equal w (single t) e) ∙ behind-complete (single t) ts))
-
--- parts
-
 module _ (table bytes : List ℕ) where
-  pub part-bytes : (at : ℕ) (w : Terms) → Stands table bytes at w → partBytes bytes (part at (sizes table w) (count w)) ≡ termsBytes table w []
+  part-bytes : (at : ℕ) (w : Terms) → Stands table bytes at w → partBytes bytes (part at (sizes table w) (count w)) ≡ termsBytes table w []
   unfolding partBytes
   part-bytes at w s =
       rw (le-leb (at + sizes table w) (length bytes) (within-terms table bytes at w (s .after) (s .within) (s .stands)), s .stands)
@@ -85,7 +52,7 @@ module _ (table bytes : List ℕ) where
     pub assigned-differs : (left : ℕ) (inList : Bool) → FitAll table true (termTrees ts) left inList → behind w ts ≡ none
         → (leb (count w) (count ts) && standsOf bytes (part at (sizes table w) (count w)) (termsBytes table ts after)) ≡ false
     unfolding standsOf
-    assigned-differs left inList f b = is-false _ (λ e. none-some (sym b ∙ ap (behind w) (stood e .1) ∙ behind-complete w (stood e .0)))
+    assigned-differs left inList f b = not-eq-not {b = false} .0 (λ e. none-some (sym b ∙ ap (behind w) (stood e .1) ∙ behind-complete w (stood e .0)))
       where
         stood : (leb (count w) (count ts) && (leb (sizes table w) (length (termsBytes table ts after))
             && samePart (partBytes bytes (part at (sizes table w) (count w))) (take (sizes table w) (termsBytes table ts after)))) ≡ true

@@ -1,5 +1,5 @@
 -- What the next turn of the walk does, by what stands there.
-use Prim.Native.Nat.{ℕ, suc, _+_, _-_, _<_, _≤_}
+use Prim.Native.Nat.{ℕ, suc, _<_, _≤_}
 use native.Mathlib.Omega.{arith}
 use mathlib.Core.Path.{_≡_, refl, sym, _∙_, ap, ap₂, subst}
 use mathlib.Core.List.{List, [], _∷_}
@@ -11,58 +11,53 @@ use borrow.Author.Tests.{le-leb, lt-leb, lt-ltb, ne-eqb, eq-eqb}
 use Rattle.term.specs.Table.{isList, width}
 use Rattle.term.specs.Code.{decodeOf}
 use Rattle.term.specs.Tree.{Tree, Trees, more, number, encode, encodes}
-use Rattle.term.specs.Term.{Term, Terms, node, nil, _::_, count, single, sizes, termTree, termTrees, termsBytes}
-use Rattle.term.specs.Pattern.{Pattern, Children, name, symbol, complement, plain, arity, patternTree, childTrees, patternBytes, childrenBytes}
+use Rattle.term.specs.Term.{Term, Terms, node, nil, _::_, count, single, size, sizes, termTree, termTrees, termsBytes}
+use Rattle.term.specs.Pattern.{Pattern, Children, name, symbol, complement, end, plain, arity, patternTree, childTrees, patternBytes, childrenBytes}
 use Rattle.term.specs.Limits.{Counted, Shape, Fits}
 use Rattle.term.specs.Extent.{entryOf, extentOf}
-use Rattle.term.specs.Part.{part, absent, boundPart}
+use Rattle.term.specs.Part.{part, absent}
 use Rattle.term.specs.declared.Code.{Code}
+use Rattle.term.specs.declared.Code.the-variants.{Complement}
 use Rattle.term.specs.declared.Part.{Part}
 use Rattle.term.proofs.Sizes.{front, number-children, number-terms, node-bytes, symbol-bytes, term-size}
-use Rattle.term.proofs.Extents.{extent-tree}
+use Rattle.term.proofs.Extents.{entry-symbol, extent-tree}
 use Rattle.anti_pattern.specs.Machine.{Frame}
 use Rattle.anti_pattern.specs.Search.{behind}
-use Rattle.search.specs.State.{putBy, place, passed, variableOf, variableAt, standsOf, overStep, openStep, symbolStep, assignedStep, nameStep, complementStep, pairStep, plainStep, codeStep, stepOf}
-use Rattle.search.specs.declared.Frame.{Frame as Counts}
+use Rattle.search.specs.State.{Frame as Counts, alone, variableOf, variableAt, standsOf, overStep, symbolStep, assignedStep, nameStep, pairStep, plainStep, codeStep, stepOf}
 use Rattle.search.specs.declared.Place.{Place}
-use Rattle.search.specs.declared.Step.the-variants.{Stops, Fails, Closes, Passes, Binds, PutsBy}
+use Rattle.search.specs.declared.Step.the-variants.{Stops, Fails, Closes, Opens, Passes, Binds, PutsBy}
 use Rattle.search.specs.declared.Stop.the-variants.{Failure, NoAllowance, NoPair}
 use Rattle.matcher.specs.Represents.{Limited, codesLeft, bytesLeft, Here, Stands}
 use Rattle.term.proofs.Joins.{sizes-single, rootOf, first-code}
-use Rattle.term.proofs.Extents.{entry-symbol}
 use Rattle.matcher.proofs.Parts.{assigned-stands, assigned-differs}
 
 -- the extent of what stands first
 
-pub extent-first : (table : List ℕ) → length table ≤ 200 → (records : Bool) (depth : ℕ) (t : Tree) (ts : Trees) (bs : List ℕ)
-    → Limited table records depth (more t ts) → extentOf table (encodes table (more t ts) bs) ≡ length (encode table t [])
+extent-first : (table : List ℕ) → length table ≤ 200 → (records : Bool) (t : Tree) (ts : Trees) (bs : List ℕ)
+    → Limited table records (more t ts) → extentOf table (encodes table (more t ts) bs) ≡ length (encode table t [])
 unfolding Fits encode
-extent-first table small records depth t ts bs h = extent-tree table small records t (h .left) (h .inList) (encodes table ts bs) (h .fit .0)
+extent-first table small records t ts bs h = extent-tree table small records t (h .left) (h .inList) (encodes table ts bs) (h .fit .0)
 
-pub extent-element : (table : List ℕ) → length table ≤ 200 → (depth : ℕ) (t : Term) (ts : Terms) (bs : List ℕ)
-    → Limited table true depth (termTrees (t :: ts)) → extentOf table (termsBytes table (t :: ts) bs) ≡ sizes table (single t)
-extent-element table small depth t ts bs h =
-    extent-first table small true depth (termTree t) (termTrees ts) bs h ∙ term-size table t ∙ sym (sizes-single table t)
+pub extent-element : (table : List ℕ) → length table ≤ 200 → (t : Term) (ts : Terms) (bs : List ℕ)
+    → Limited table true (termTrees (t :: ts)) → extentOf table (termsBytes table (t :: ts) bs) ≡ sizes table (single t)
+extent-element table small t ts bs h =
+    extent-first table small true (termTree t) (termTrees ts) bs h ∙ term-size table t ∙ sym (sizes-single table t)
 
 -- by the numbers alone
 
 module _ (table pattern bytes : List ℕ) (had : Part) (p : Place) (left : ℕ) where
-  pub turn-over : p .children ≡ 0 → 0 < p .elements → stepOf table pattern bytes had p left ≡ Stops Failure
+  pub turn-over : (outermost : Bool) → p .children ≡ 0 → 0 < p .elements → stepOf outermost table pattern bytes had p left ≡ Stops Failure
   unfolding stepOf overStep
-  turn-over h k = rw (eq-eqb (p .children) 0 h, ne-eqb (p .elements) 0 (λ e. omega arith))
+  turn-over outermost h k = rw (eq-eqb (p .children) 0 h, ne-eqb (p .elements) 0 (λ e. omega arith))
 
-  pub turn-last : p .children ≡ 0 → p .elements ≡ 0 → p .depth ≡ 0 → stepOf table pattern bytes had p left ≡ Stops NoPair
+  pub turn-end : (outermost : Bool) → p .children ≡ 0 → p .elements ≡ 0 → stepOf outermost table pattern bytes had p left ≡ cond outermost (Stops NoPair) Closes
   unfolding stepOf overStep
-  turn-last h k d = rw (eq-eqb (p .children) 0 h, eq-eqb (p .elements) 0 k, eq-eqb (p .depth) 0 d)
+  turn-end outermost h k = rw (eq-eqb (p .children) 0 h, eq-eqb (p .elements) 0 k)
 
-  pub turn-close : p .children ≡ 0 → p .elements ≡ 0 → 0 < p .depth → stepOf table pattern bytes had p left ≡ Closes
-  unfolding stepOf overStep
-  turn-close h k d = rw (eq-eqb (p .children) 0 h, eq-eqb (p .elements) 0 k, ne-eqb (p .depth) 0 (λ e. omega arith))
-
-  turn-code : (c : Code) → 0 < p .children → p .at < length pattern → decodeOf (getD pattern (p .at) 0) ≡ c
-      → stepOf table pattern bytes had p left ≡ codeStep c table pattern bytes had p left
+  turn-code : (outermost : Bool) (c : Code) → 0 < p .children → p .at < length pattern → decodeOf (getD pattern (p .at) 0) ≡ c
+      → stepOf outermost table pattern bytes had p left ≡ codeStep c table pattern bytes had p left
   unfolding stepOf
-  turn-code c h k e = rw (ne-eqb (p .children) 0 (λ z. omega arith), lt-ltb (p .at) (length pattern) k, e)
+  turn-code outermost c h k e = rw (ne-eqb (p .children) 0 (λ z. omega arith), lt-ltb (p .at) (length pattern) k, e)
 
   plain-short : (c : Code) → p .elements ≡ 0 → plainStep c table pattern bytes had p left ≡ Stops Failure
   unfolding plainStep
@@ -73,7 +68,7 @@ module _ (table pattern bytes : List ℕ) (had : Part) (p : Place) (left : ℕ) 
   plain-spent c h k z = rw (ne-eqb (p .elements) 0 (λ e. omega arith), lt-leb (length bytes) (p .node) k, eq-eqb left 0 z)
 
   plain-pair : (c : Code) → 0 < p .elements → p .node < length bytes → 0 < left
-      → plainStep c table pattern bytes had p left ≡ pairStep c table bytes (drop (p .at) pattern) (drop (p .node) bytes) had p
+      → plainStep c table pattern bytes had p left ≡ pairStep c table bytes (drop (p .at) pattern) (drop (p .node) bytes) had (p .elements)
   unfolding plainStep
   plain-pair c h k z =
       rw (ne-eqb (p .elements) 0 (λ e. omega arith), lt-leb (length bytes) (p .node) k, ne-eqb left 0 (λ e. omega arith))
@@ -101,9 +96,9 @@ module _ (table pattern bytes : List ℕ) (p : Place) (frames : List Counts) (fs
     first-child : (p .at < length pattern) × (decodeOf (getD pattern (p .at) 0) ≡ rootOf c)
     unfolding Fits encode
     first-child =
-        let l = subst (Limited table false (length fs)) z (h .patterns-limited) in
-        first-code table pattern (p .at) c (childrenBytes table qs (codesLeft table fs (h .codes-after))) (l .left) (l .inList) (l .fit .0)
-        (h .codes ∙ ap (λ (us : Trees). encodes table us (codesLeft table fs (h .codes-after))) z)
+        let l = subst (Limited table false) z (h .patterns-limited) in
+        first-code table pattern (p .at) c (childrenBytes table qs (codesLeft table fs)) (l .left) (l .inList) (l .fit .0)
+        (h .codes ∙ ap (λ (us : Trees). encodes table us (codesLeft table fs)) z)
 
     pub child-here : p .at < length pattern
     child-here = first-child .0
@@ -112,27 +107,28 @@ module _ (table pattern bytes : List ℕ) (p : Place) (frames : List Counts) (fs
     unfolding variableAt
     variable-here = rw (lt-ltb (p .at) (length pattern) (first-child .0), first-child .1)
 
-    pub does-code : (had : Part) (left : ℕ) → stepOf table pattern bytes had p left ≡ codeStep (rootOf c) table pattern bytes had p left
-    does-code had left = turn-code table pattern bytes had p left (rootOf c) some-children (first-child .0) (first-child .1)
+    pub does-code : (had : Part) (left : ℕ) → stepOf (alone frames) table pattern bytes had p left ≡ codeStep (rootOf c) table pattern bytes had p left
+    does-code had left = turn-code table pattern bytes had p left (alone frames) (rootOf c) some-children (first-child .0) (first-child .1)
 
   -- a plain child pattern
   module _ (q : Pattern) (qs : Children) (had : Part) (left : ℕ) where
     does-plain : (ts : Terms) → Here table pattern bytes p frames (plain q qs) ts fs
-        → stepOf table pattern bytes had p left ≡ plainStep (rootOf (patternTree q)) table pattern bytes had p left
+        → stepOf (alone frames) table pattern bytes had p left ≡ plainStep (rootOf (patternTree q)) table pattern bytes had p left
     does-plain ts h = does-code (plain q qs) qs (patternTree q) ts refl h had left ∙ by-plain table pattern bytes had p left q
 
-    pub does-short : Here table pattern bytes p frames (plain q qs) nil fs → stepOf table pattern bytes had p left ≡ Stops Failure
+    pub does-short : Here table pattern bytes p frames (plain q qs) nil fs → stepOf (alone frames) table pattern bytes had p left ≡ Stops Failure
     does-short h = does-plain nil h ∙ plain-short table pattern bytes had p left (rootOf (patternTree q)) (h .elements)
 
     module _ (t : Term) (ts : Terms) (h : Here table pattern bytes p frames (plain q qs) (t :: ts) fs) where
-      pub does-spent : left ≡ 0 → stepOf table pattern bytes had p left ≡ Stops NoAllowance
+      pub does-spent : left ≡ 0 → stepOf (alone frames) table pattern bytes had p left ≡ Stops NoAllowance
       does-spent z =
           does-plain (t :: ts) h
           ∙ plain-spent table pattern bytes had p left (rootOf (patternTree q)) (omega (arith, h .elements))
           (some-bytes table bytes (p .node) t ts _ (h .stands)) z
 
       pub does-pair : 0 < left
-          → stepOf table pattern bytes had p left ≡ pairStep (rootOf (patternTree q)) table bytes (drop (p .at) pattern) (drop (p .node) bytes) had p
+          → stepOf (alone frames) table pattern bytes had p left
+          ≡ pairStep (rootOf (patternTree q)) table bytes (drop (p .at) pattern) (drop (p .node) bytes) had (p .elements)
       does-pair z =
           does-plain (t :: ts) h
           ∙ plain-pair table pattern bytes had p left (rootOf (patternTree q)) (omega (arith, h .elements))
@@ -142,15 +138,15 @@ module _ (table pattern bytes : List ℕ) (p : Place) (frames : List Counts) (fs
   module _ (cs : Children) (ts : Terms) (h : Here table pattern bytes p frames cs ts fs) (at : ℕ) (w : Terms) (s : Stands table bytes at w) where
     assigned-by : (b : Bool) → (leb (count w) (count ts) && standsOf bytes (part at (sizes table w) (count w))
         (termsBytes table ts (bytesLeft table fs (h .bytes-after)))) ≡ b
-        → assignedStep bytes (part at (sizes table w) (count w)) (drop (p .node) bytes) p ≡ cond b (Passes (passed p (count w) 1 (sizes table w))) Fails
+        → assignedStep bytes (part at (sizes table w) (count w)) (drop (p .node) bytes) (p .elements) ≡ cond b (Passes (count w) (sizes table w)) Fails
     unfolding assignedStep
     assigned-by b e = rw (h .elements, h .stands, e)
 
     pub assigned-passes : (us : Terms) → behind w ts ≡ some us
-        → assignedStep bytes (part at (sizes table w) (count w)) (drop (p .node) bytes) p ≡ Passes (passed p (count w) 1 (sizes table w))
+        → assignedStep bytes (part at (sizes table w) (count w)) (drop (p .node) bytes) (p .elements) ≡ Passes (count w) (sizes table w)
     assigned-passes us b = assigned-by true (assigned-stands table bytes at w ts (bytesLeft table fs (h .bytes-after)) s us b)
 
-    pub assigned-fails : behind w ts ≡ none → assignedStep bytes (part at (sizes table w) (count w)) (drop (p .node) bytes) p ≡ Fails
+    pub assigned-fails : behind w ts ≡ none → assignedStep bytes (part at (sizes table w) (count w)) (drop (p .node) bytes) (p .elements) ≡ Fails
     assigned-fails b =
         assigned-by false
         (assigned-differs table bytes at w ts (bytesLeft table fs (h .bytes-after)) s (h .elements-limited .left) (h .elements-limited .inList)
@@ -161,61 +157,69 @@ module _ (table pattern bytes : List ℕ) (p : Place) (frames : List Counts) (fs
 module _ (table : List ℕ) (small : length table ≤ 200) (pattern bytes : List ℕ) (p : Place) (frames : List Counts) (fs : List Frame) where
   -- an unassigned name takes the node
   pub name-binds : (cs : Children) (t : Term) (ts : Terms) (v : ℕ) → Here table pattern bytes p frames cs (t :: ts) fs
-      → nameStep table bytes (drop (p .node) bytes) v absent p
-      ≡ Binds v (boundPart (p .node) (sizes table (single t)) 1) (passed p 1 1 (sizes table (single t)))
+      → nameStep table bytes (drop (p .node) bytes) v absent (p .elements) ≡ Binds v (sizes table (single t))
   unfolding nameStep
-  name-binds cs t ts v h = rw (h .stands, extent-element table small (length fs) t ts (bytesLeft table fs (h .bytes-after)) (h .elements-limited))
+  name-binds cs t ts v h = rw (h .stands, extent-element table small t ts (bytesLeft table fs (h .bytes-after)) (h .elements-limited))
 
   -- a symbol, by what the table says of it
   opens-by : (s n m : ℕ) (xs ys : List ℕ) (l : Bool) → isList table s ≡ l → entryOf table s ≡ getD table s 0
-      → Counted l n (getD table s 0) → Counted l m (getD table s 0) → p .depth < 32
-      → symbolStep table (s ∷ cond l (n ∷ xs) xs) (s ∷ cond l (m ∷ ys) ys) s p ≡ openStep p n m (cond l 2 1)
+      → Counted l n (getD table s 0) → Counted l m (getD table s 0) → 0 < getD table s 0
+      → symbolStep table (s ∷ cond l (n ∷ xs) xs) (s ∷ cond l (m ∷ ys) ys) s ≡ Opens n m (cond l 2 1)
   unfolding symbolStep
-  opens-by s n m xs ys true e k f g low =
+  opens-by s n m xs ys true e k f g i =
       rw (
         eq-eqb s s refl,
-        lt-ltb (p .depth) 32 low,
         k,
+        ne-eqb (getD table s 0) 0 (λ z. omega arith),
         e,
         le-leb 2 (suc (suc (length xs))) (omega arith),
         le-leb 2 (suc (suc (length ys))) (omega arith),
       )
-  opens-by s n m xs ys false e k f g low =
-      rw (eq-eqb s s refl, lt-ltb (p .depth) 32 low, k, e) (ap₂ (λ (x y : ℕ). openStep p x y 1) (sym f) (sym g))
+  opens-by s n m xs ys false e k f g i =
+      rw (eq-eqb s s refl, k, ne-eqb (getD table s 0) 0 (λ z. omega arith), e) (ap₂ (λ (x y : ℕ). Opens x y 1) (sym f) (sym g))
 
   pub symbol-opens : (s : ℕ) (ps qs : Children) (us ts : Terms) → Here table pattern bytes p frames (plain (symbol s ps) qs) (node s us :: ts) fs
-      → symbolStep table (drop (p .at) pattern) (drop (p .node) bytes) s p ≡ openStep p (arity ps) (count us) (width table s)
+      → 0 < getD table s 0 → symbolStep table (drop (p .at) pattern) (drop (p .node) bytes) s ≡ Opens (arity ps) (count us) (width table s)
   unfolding Fits Shape encode
-  symbol-opens s ps qs us ts h =
+  symbol-opens s ps qs us ts h i =
       let f = h .patterns-limited .fit .0 in
       let g = h .elements-limited .fit .0 in
       rw (
         h .codes,
-        symbol-bytes table s ps (childrenBytes table qs (codesLeft table fs (h .codes-after))),
+        symbol-bytes table s ps (childrenBytes table qs (codesLeft table fs)),
         h .stands,
         node-bytes table s us (termsBytes table ts (bytesLeft table fs (h .bytes-after))),
       )
       (opens-by s (arity ps) (count us) _ _ (isList table s) refl (entry-symbol table s (f .2 .0))
-      (rw (number-children ps) at (f .2 .1)) (rw (number-terms us) at (g .2 .1)) (omega (arith, h .depth, h .patterns-limited .deep, f .0)))
+      (rw (number-children ps) at (f .2 .1)) (rw (number-terms us) at (g .2 .1)) i)
+
+  pub symbol-passes : (s : ℕ) (qs : Children) (ts : Terms) → Here table pattern bytes p frames (plain (symbol s end) qs) (node s nil :: ts) fs
+      → getD table s 0 ≡ 0 → symbolStep table (drop (p .at) pattern) (drop (p .node) bytes) s ≡ Passes 1 (sizes table (single (node s nil)))
+  unfolding Fits Shape encode symbolStep size
+  symbol-passes s qs ts h i =
+      rw (
+        h .stands,
+        node-bytes table s nil (termsBytes table ts (bytesLeft table fs (h .bytes-after))),
+        eq-eqb s s refl,
+        entry-symbol table s (h .patterns-limited .fit .0 .2 .0),
+        i,
+      )
 
   pub symbol-fails : (s r : ℕ) (cs : Children) (us ts : Terms) → Here table pattern bytes p frames cs (node r us :: ts) fs → eqb s r ≡ false
-      → symbolStep table (drop (p .at) pattern) (drop (p .node) bytes) s p ≡ Fails
+      → symbolStep table (drop (p .at) pattern) (drop (p .node) bytes) s ≡ Fails
   unfolding symbolStep encode
   symbol-fails s r cs us ts h e = rw (h .stands, node-bytes table r us (termsBytes table ts (bytesLeft table fs (h .bytes-after))), e)
 
   -- a complement is put by
-  pub complement-waits : (q : Pattern) (qs : Children) (t : Term) (ts : Terms) → Here table pattern bytes p frames (plain (complement q) qs) (t :: ts) fs
-      → p .complements < 128
-      → complementStep table (drop (p .at) pattern) (drop (p .node) bytes) p
-      ≡ PutsBy (putBy (p .at) (p .node))
-      (place (p .depth) (p .complements + 1) (p .children - 1) (p .elements - 1)
-      (p .at + length (patternBytes table (complement q) [])) (p .node + sizes table (single t)))
-  unfolding complementStep
-  complement-waits q qs t ts h low =
+  pub complement-put-by : (q : Pattern) (qs : Children) (t : Term) (ts : Terms) (had : Part)
+      → Here table pattern bytes p frames (plain (complement q) qs) (t :: ts) fs
+      → pairStep Complement table bytes (drop (p .at) pattern) (drop (p .node) bytes) had (p .elements)
+      ≡ PutsBy (length (patternBytes table (complement q) [])) (sizes table (single t))
+  unfolding pairStep
+  complement-put-by q qs t ts had h =
       rw (
-        lt-ltb (p .complements) 128 low,
         h .codes,
-        extent-first table small false (length fs) (patternTree (complement q)) (childTrees qs) (codesLeft table fs (h .codes-after)) (h .patterns-limited),
+        extent-first table small false (patternTree (complement q)) (childTrees qs) (codesLeft table fs) (h .patterns-limited),
         h .stands,
-        extent-element table small (length fs) t ts (bytesLeft table fs (h .bytes-after)) (h .elements-limited),
+        extent-element table small t ts (bytesLeft table fs (h .bytes-after)) (h .elements-limited),
       )

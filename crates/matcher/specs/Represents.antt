@@ -1,13 +1,13 @@
 -- What a state of the search on bytes stands for: a stack of frames, an assignment, and complements put by.
-use Prim.Native.Nat.{ℕ, suc, _+_, _-_, _*_, _<_, _≤_}
+use Prim.Native.Nat.{ℕ, _+_, _-_, _<_, _≤_}
 use mathlib.Core.Path.{_≡_}
 use mathlib.Core.List.{List, [], _∷_}
 use mathlib.Core.Bool.{Bool, true, false}
 use mathlib.Core.Option.{some}
-use lib.ListN.{length, getD, drop}
+use lib.ListN.{length, getD, take, drop}
 use Rattle.term.specs.Tree.{Trees}
-use Rattle.term.specs.Term.{Terms, count, single, sizes, termTrees, termBytes, termsBytes}
-use Rattle.term.specs.Pattern.{Children, end, plain, complement, arity, childTrees, patternBytes, childrenBytes}
+use Rattle.term.specs.Term.{Terms, count, single, sizes, termTrees, termsBytes}
+use Rattle.term.specs.Pattern.{Children, end, plain, arity, childTrees, patternBytes, childrenBytes}
 use Rattle.term.specs.Limits.{FitAll}
 use Rattle.term.specs.Part.{part}
 use Rattle.term.specs.declared.Part.{Part}
@@ -16,61 +16,56 @@ use Rattle.anti_pattern.specs.Place.{partOf}
 use Rattle.anti_pattern.specs.Answer.{Answer, bound, nothing, spent}
 use Rattle.anti_pattern.specs.Machine.{Frame, Pending}
 use Rattle.anti_pattern.specs.Meter.{Metered, met, missed, usedUp}
-use Rattle.search.specs.State.{frame as counts, putBy}
-use Rattle.search.specs.Level.{reply}
-use Rattle.search.specs.declared.Frame.{Frame as Counts}
-use Rattle.search.specs.declared.PutBy.{PutBy}
+use Rattle.search.specs.State.{Frame as Counts, frame as counts, PutBy, State}
+use Rattle.search.specs.Level.{reply, failedAt, spentAt}
 use Rattle.search.specs.declared.Place.{Place}
-use Rattle.search.specs.declared.State.{State}
 use Rattle.search.specs.declared.Outcome.{Outcome}
 use Rattle.search.specs.declared.Outcome.the-variants.{Found, Failed, Spent}
 use Rattle.search.specs.declared.Reply.{Reply}
 
--- trees within the limits, with so many nodes of their level around them
-pub record Limited (table : List ℕ) (records : Bool) (depth : ℕ) (ts : Trees) : Type 0 where
+-- trees within the limits
+pub record Limited (table : List ℕ) (records : Bool) (ts : Trees) : Type 0 where
   pub left : ℕ
   pub inList : Bool
-  pub deep : depth + left ≤ 32
   pub fit : FitAll table records ts left inList
 
 -- The place
 
--- the bytes of what is left of the frames around: of the pattern, and of the record
-abbrev pub codesLeft : List ℕ → List Frame → List ℕ → List ℕ
-codesLeft table [] bs = bs
-codesLeft table (f ∷ fs) bs = childrenBytes table (f .patterns) (codesLeft table fs bs)
+-- the bytes of what is left of the frames around: of the pattern, all there are, and of the record
+abbrev pub codesLeft : List ℕ → List Frame → List ℕ
+codesLeft table [] = []
+codesLeft table (f ∷ fs) = childrenBytes table (f .patterns) (codesLeft table fs)
 
 abbrev pub bytesLeft : List ℕ → List Frame → List ℕ → List ℕ
 bytesLeft table [] bs = bs
 bytesLeft table (f ∷ fs) bs = termsBytes table (f .elements) (bytesLeft table fs bs)
 
--- a frame around, with so many others around it: its counts, and the place of its first element left
-pub record Around (table : List ℕ) (c : Counts) (depth node : ℕ) (f : Frame) : Type 0 where
+-- a frame around: its counts, and the place of its first element left
+pub record Around (table : List ℕ) (c : Counts) (node : ℕ) (f : Frame) : Type 0 where
   pub counted : c ≡ counts (arity (f .patterns)) (count (f .elements))
   pub at : f .at ≡ node
-  pub patterns : Limited table false depth (childTrees (f .patterns))
-  pub elements : Limited table true depth (termTrees (f .elements))
+  pub patterns : Limited table false (childTrees (f .patterns))
+  pub elements : Limited table true (termTrees (f .elements))
 
 -- the elements of each frame around stand behind those of the frame within it
 abbrev pub Stacked : List ℕ → List Counts → ℕ → List Frame → Type 0
-Stacked table frames node [] = Unit {0}
-Stacked table frames node (f ∷ fs) =
-    Around table (getD frames (length fs) (counts 0 0)) (length fs) node f × Stacked table frames (node + sizes table (f .elements)) fs
+Stacked table [] node [] = Unit {0}
+Stacked table [] node (f ∷ fs) = ⊥
+Stacked table (c ∷ cs) node [] = ⊥
+Stacked table (c ∷ cs) node (f ∷ fs) = Around table c node f × Stacked table cs (node + sizes table (f .elements)) fs
 
--- the child patterns and elements of the innermost frame come next, then those of the frames around
+-- the child patterns and elements of the innermost frame come next, then those of the frames around; each of these took a byte of the pattern or more
 pub record Here (table pattern bytes : List ℕ) (p : Place) (frames : List Counts) (qs : Children) (ts : Terms) (fs : List Frame) : Type 0 where
-  pub codes-after : List ℕ
   pub bytes-after : List ℕ
-  pub codes : drop (p .at) pattern ≡ childrenBytes table qs (codesLeft table fs codes-after)
+  pub codes : drop (p .at) pattern ≡ childrenBytes table qs (codesLeft table fs)
   pub stands : drop (p .node) bytes ≡ termsBytes table ts (bytesLeft table fs bytes-after)
   pub within : p .node ≤ length bytes
   pub children : p .children ≡ arity qs
   pub elements : p .elements ≡ count ts
-  pub depth : p .depth ≡ length fs
-  pub room : length frames ≡ 32
+  pub few : length fs + (length pattern - p .at) ≤ length pattern
   pub around : Stacked table frames (p .node + sizes table ts) fs
-  pub patterns-limited : Limited table false (length fs) (childTrees qs)
-  pub elements-limited : Limited table true (length fs) (termTrees ts)
+  pub patterns-limited : Limited table false (childTrees qs)
+  pub elements-limited : Limited table true (termTrees ts)
 
 -- The parts shown
 
@@ -79,7 +74,7 @@ pub record Stands (table bytes : List ℕ) (at : ℕ) (w : Terms) : Type 0 where
   pub after : List ℕ
   pub stands : drop at bytes ≡ termsBytes table w after
   pub within : at ≤ length bytes
-  pub limited : Limited table true 0 (termTrees w)
+  pub limited : Limited table true (termTrees w)
 
 -- each variable's part shows what is assigned to it; a name's is one term
 pub record Shown (table bytes : List ℕ) (parts : List Part) (e : Env) : Type 0 where
@@ -90,41 +85,34 @@ pub record Shown (table bytes : List ℕ) (parts : List Part) (e : Env) : Type 0
 
 -- The complements put by
 
--- where the complement and its term stand
+-- where the inside's bytes are, and where its term stands
 pub record Waits (table pattern bytes : List ℕ) (c : PutBy) (d : Pending) : Type 0 where
-  pub codes-after : List ℕ
-  pub bytes-after : List ℕ
-  pub codes : drop (c .at) pattern ≡ patternBytes table (complement (d .inside)) codes-after
-  pub stands : drop (c .node) bytes ≡ termBytes table (d .term) bytes-after
-  pub within : c .node ≤ length bytes
+  pub codes : take (c .size) (drop (c .at + 1) pattern) ≡ patternBytes table (d .inside) []
+  pub limited : Limited table false (childTrees (plain (d .inside) end))
   pub at : d .at ≡ c .node
-  pub pattern-limited : Limited table false 0 (childTrees (plain (d .inside) end))
-  pub term-limited : Limited table true 0 (termTrees (single (d .term)))
+  pub stands : Stands table bytes (c .node) (single (d .term))
 
--- those from the i-th on
-abbrev pub AllWait : List ℕ → List ℕ → List ℕ → List PutBy → ℕ → List Pending → Type 0
-AllWait table pattern bytes waiting i [] = Unit {0}
-AllWait table pattern bytes waiting i (d ∷ ds) =
-    Waits table pattern bytes (getD waiting i (putBy 0 0)) d × AllWait table pattern bytes waiting (suc i) ds
+abbrev pub AllWait : List ℕ → List ℕ → List ℕ → List PutBy → List Pending → Type 0
+AllWait table pattern bytes [] [] = Unit {0}
+AllWait table pattern bytes [] (d ∷ ds) = ⊥
+AllWait table pattern bytes (c ∷ cs) [] = ⊥
+AllWait table pattern bytes (c ∷ cs) (d ∷ ds) = Waits table pattern bytes c d × AllWait table pattern bytes cs ds
 
 -- The state
 
--- of the frames the innermost is qs against ts; each complement put by took two bytes of the pattern or more
+-- of the frames the innermost is qs against ts
 pub record Represents (table pattern bytes : List ℕ) (s : State) (qs : Children) (ts : Terms) (fs : List Frame) (e : Env) (ds : List Pending) : Type 0 where
   pub here : Here table pattern bytes (s .place) (s .frames) qs ts fs
   pub shown : Shown table bytes (s .parts) e
-  pub put-by : s .place .complements ≡ length ds
-  pub room : length (s .waiting) ≡ 128
-  pub waiting : AllWait table pattern bytes (s .waiting) 0 ds
-  pub few : 2 * length ds ≤ s .place .at
+  pub waiting : AllWait table pattern bytes (s .waiting) ds
 
 -- The reply
 
 -- what it says of the search under the allowance
 pub data Agrees (table bytes : List ℕ) : Metered → Reply → Type 0 where
   is-found : {e : Env} {left : ℕ} {parts : List Part} → Shown table bytes parts e → Agrees table bytes (met e left) (reply Found left parts)
-  is-failed : {left : ℕ} {parts : List Part} → Agrees table bytes (missed left) (reply Failed left parts)
-  is-spent : {left : ℕ} {parts : List Part} → Agrees table bytes usedUp (reply Spent left parts)
+  is-failed : {left : ℕ} → Agrees table bytes (missed left) (failedAt left)
+  is-spent : {left : ℕ} → Agrees table bytes usedUp (spentAt left)
 
 -- the answer under an allowance that it comes to
 abbrev pub repliedBy : Outcome → ℕ → ℕ → List Part → Answer

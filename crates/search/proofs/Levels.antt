@@ -1,225 +1,517 @@
 -- The laws of the search of levels, one for each way that a turn of its loops goes.
 -- Assumes nothing.
-use Prim.Native.Nat.{ℕ, zero, suc, _+_, _-_, _<_, _≤_}
+use Prim.Native.Nat.{ℕ, zero, suc, _+_, _-_, _^_, _<_, _≤_}
 use native.Mathlib.Omega.{arith}
-use native.Mathlib.Nat.{sub-zero}
-use mathlib.Core.Path.{_≡_, refl, sym, ap, _∙_}
-use mathlib.Core.List.{List}
-use mathlib.Core.Bool.{true, false, _&&_}
-use lib.ListN.{length, take, drop, replicate}
-use lib.Dec.{leb}
-use borrow.Author.Tests.{lt-ltb, le-ltb, le-leb, lt-leb, eq-eqb, ne-eqb}
+use native.Mathlib.Nat.{sub-zero, le-refl}
+use mathlib.Core.Path.{_≡_, refl, sym, ap, subst, _∙_}
+use mathlib.Core.List.{List, [], _∷_}
+use mathlib.Core.Bool.{true, false, cond, _&&_, true≢false}
+use lib.Bits.{bitOr}
+use lib.ListN.{length, getD, take, drop, set, replicate, length-drop}
+use lib.Seq.{length-take-le, set-out}
+use lib.Dec.{leb, eqb}
+use borrow.Author.Tests.{le-leb, eq-eqb, ne-eqb}
 use Rattle.term.specs.Extent.{extentOf}
-use Rattle.term.specs.Part.{absent}
+use Rattle.term.specs.Part.{absent, boundPart}
 use Rattle.term.specs.declared.Part.{Part}
-use Rattle.search.specs.State.{waitingAt, walkOf}
-use Rattle.search.specs.Level.{reply, failed, found, turned, startOf, tried, verdict, lengthsOf, complementOf, complementsOf, stopBy, afterWalk, levelOf, levels, searchOf}
-use Rattle.search.specs.Bounds.{LevelIs, LengthsAre, ComplementIs, ComplementsAre}
-use Rattle.search.specs.declared.PutBy.{PutBy}
-use Rattle.search.specs.declared.State.{State}
+use Rattle.search.specs.State.{PutBy, State, place, passed, walked, walkOf}
+use Rattle.search.specs.Level.{reply, failedAt, spentAt, failed, refuted, startOf, tried, lengthsOf, insideOf, complementsOf, stopBy, afterWalk, levelOf, levels, searchOf}
+use Rattle.search.specs.Memory.{marks, packed, putByIn, Queued, Insides, Sized, Holds, Holding, Kept}
+use Rattle.search.specs.Bounds.{Walks}
+use Rattle.search.specs.Replies.{found, turned, partsIn, replyOf, given, triesOf, inside, Free, Resting, Testable, LevelIs, RestIs, FollowIs, ComplementIs, ComplementsAre}
+use Rattle.search.specs.declared.Place.{Place}
+use Rattle.search.specs.declared.Marks.{Marks}
 use Rattle.search.specs.declared.Stop.{Stop}
 use Rattle.search.specs.declared.Stop.the-variants.{Failure, NoAllowance, NoPair, RunName}
-use Rattle.search.specs.declared.Walked.{Walked}
+use Rattle.search.specs.declared.Reached.{Reached}
 use Rattle.search.specs.declared.Outcome.{Outcome}
 use Rattle.search.specs.declared.Outcome.the-variants.{Found, Failed, Spent}
 use Rattle.search.specs.declared.Reply.{Reply}
-use Rattle.search.specs.declared.Verdict.{Verdict}
-use Rattle.search.proofs.Steps.{rest-drop, rest-length}
+use Rattle.search.proofs.Masks.{bit-still}
+use Rattle.search.proofs.Steps.{rest-drop}
+use Rattle.search.proofs.Held.{kept-part}
+use Rattle.search.proofs.Kept.{kept-all, kept-then, restored, past, past-holds, given-holds, start-holds, first-holds, state-shown}
 
--- the lengths of a run name
+-- Replies
+
+module _ (left assigned : ℕ) (parts : List ℕ) where
+  reply-outcome : (o : Outcome) → replyOf o left assigned parts .outcome ≡ o
+  reply-outcome Found = refl
+  reply-outcome Failed = refl
+  reply-outcome Spent = refl
+
+  reply-left : (o : Outcome) → replyOf o left assigned parts .left ≡ left
+  reply-left Found = refl
+  reply-left Failed = refl
+  reply-left Spent = refl
+
+  pub reply-found : (o : Outcome) (shows : List Part) → found o ≡ true → shows ≡ partsIn assigned parts 0 48 → reply o left shows ≡ replyOf o left assigned parts
+  reply-found Found shows f e = ap (reply Found left) e
+  reply-found Failed shows f e = absurd (true≢false (sym f))
+  reply-found Spent shows f e = absurd (true≢false (sym f))
+
+  pub reply-other : (o : Outcome) → found o ≡ false → reply o left (replicate 48 absent) ≡ replyOf o left assigned parts
+  reply-other Found f = absurd (true≢false f)
+  reply-other Failed f = refl
+  reply-other Spent f = refl
+
+-- Lengths
 
 module _ (lv : State → ℕ → Reply) (table bytes : List ℕ) (v : ℕ) (s : State) where
-  lengths-spent : (k n size left : ℕ) → left ≡ 0 → reply Spent left (s .parts) ≡ lengthsOf lv table bytes v s k n size left
-  unfolding lengthsOf
-  lengths-spent zero n size left h = rw (eq-eqb left 0 h)
-  lengths-spent (suc k) n size left h = rw (eq-eqb left 0 h)
+  tries-last : (k n size left : ℕ) → k ≡ 0 → lv (given s v n size) left ≡ triesOf lv table bytes v s k n size left
+  unfolding triesOf
+  tries-last zero n size left e = refl
+  tries-last (suc k) n size left e = absurd (omega arith)
 
-  lengths-last : (k n size left : ℕ) → (left ≡ 0 → ⊥) → k ≡ 0 → lv (tried s v n size) (left - 1) ≡ lengthsOf lv table bytes v s k n size left
-  unfolding lengthsOf
-  lengths-last zero n size left h e = rw (ne-eqb left 0 h)
-  lengths-last (suc k) n size left h e = absurd (omega arith)
+  tries-hit : (k n size left : ℕ) (r : Reply) → r ≡ lv (given s v n size) left → failed (r .outcome) ≡ false → r ≡ triesOf lv table bytes v s k n size left
+  unfolding triesOf
+  tries-hit zero n size left r e f = e
+  tries-hit (suc k) n size left r e f = rw (← e, f)
 
-  lengths-hit : (k n size left : ℕ) (r : Reply) → (left ≡ 0 → ⊥) → r ≡ lv (tried s v n size) (left - 1) → failed (r .outcome) ≡ false
-      → r ≡ lengthsOf lv table bytes v s k n size left
-  unfolding lengthsOf
-  lengths-hit zero n size left r h e f = rw (ne-eqb left 0 h) e
-  lengths-hit (suc k) n size left r h e f = rw (ne-eqb left 0 h, ← e, f)
+  tries-spent : (k n size left : ℕ) (r : Reply) → 0 < k → r ≡ lv (given s v n size) left → failed (r .outcome) ≡ true → r .left ≡ 0
+      → spentAt (r .left) ≡ triesOf lv table bytes v s k n size left
+  unfolding triesOf
+  tries-spent zero n size left r z e f h = absurd (omega arith)
+  tries-spent (suc k) n size left r z e f h = rw (← e, f, eq-eqb (r .left) 0 h)
 
-  lengths-more : (k n size left : ℕ) (r : Reply) → (left ≡ 0 → ⊥) → 0 < k → r ≡ lv (tried s v n size) (left - 1) → failed (r .outcome) ≡ true
-      → lengthsOf lv table bytes v s k n size left
-      ≡ lengthsOf lv table bytes v s (k - 1) (n + 1) (size + extentOf table (drop (s .place .node + size) bytes)) (r .left)
-  unfolding lengthsOf
-  lengths-more zero n size left r h z e f = absurd (omega arith)
-  lengths-more (suc k) n size left r h z e f = let i : suc k - 1 ≡ k = omega arith in rw (ne-eqb left 0 h, ← e, f, i)
+  tries-more : (k n size left : ℕ) (r : Reply) → 0 < k → r ≡ lv (given s v n size) left → failed (r .outcome) ≡ true → (r .left ≡ 0 → ⊥)
+      → triesOf lv table bytes v s k n size left
+      ≡ triesOf lv table bytes v s (k - 1) (n + 1) (size + extentOf table (drop (s .place .node + size) bytes)) (r .left - 1)
+  unfolding triesOf
+  tries-more zero n size left r z e f h = absurd (omega arith)
+  tries-more (suc k) n size left r z e f h = let i : suc k - 1 ≡ k = omega arith in rw (← e, f, ne-eqb (r .left) 0 h, i)
 
-module _ (table pattern bytes : List ℕ) (v : ℕ) (s : State) (allowance : ℕ) where
-  -- the search from length 0 on is the search from length n on, of so many bytes
-  pub record Trying (n size left : ℕ) : Type 0 where
-    pub few : n ≤ s .place .elements
-    pub within : s .place .node + size ≤ length bytes
-    pub same : (m : ℕ) → levels pattern (s .place .at) ≤ suc m
-        → lengthsOf (levelOf m table bytes pattern) table bytes v s (s .place .elements) 0 0 allowance
-        ≡ lengthsOf (levelOf m table bytes pattern) table bytes v s (s .place .elements - n) n size left
+  given-past : (n size : ℕ) → given (past s) v n size ≡ tried s v n size
+  given-past n size =
+      let a : s .place .elements - 0 ≡ s .place .elements = omega arith in
+      let b : s .place .node + 0 ≡ s .place .node = omega arith in
+      rw (a, b)
 
-  pub try-first : s .place .node ≤ length bytes → Trying 0 0 allowance
-  try-first h = record { few = omega arith; within = omega arith; same = λ m l. rw (sub-zero (s .place .elements)) }
+  -- an unassigned run name counts its first length, and then tries
+  pub lengths-tries : (k n size left : ℕ)
+      → lengthsOf lv table bytes v s k n size left ≡ cond (eqb left 0) (spentAt left) (triesOf lv table bytes v (past s) k n size (left - 1))
+  unfolding lengthsOf triesOf
+  lengths-tries zero n size left = rw (given-past n size)
+  lengths-tries (suc k) n size left =
+      let b : s .place .node + 0 + size ≡ s .place .node + size = omega arith in
+      rw (
+        given-past n size,
+        b,
+        lengths-tries k (n + 1) (size + extentOf table (drop (s .place .node + size) bytes)) (lv (tried s v n size) (left - 1) .left),
+      )
 
-  module _ {n size left : ℕ} (t : Trying n size left) (r : Reply) where
-    pub try-spent : left ≡ 0 → r ≡ reply Spent left (s .parts) → LengthsAre table pattern bytes v s allowance r
-    try-spent z e m l =
-        e ∙ lengths-spent (levelOf m table bytes pattern) table bytes v s (s .place .elements - n) n size left z ∙ sym (t .same m l)
+-- The rest of a level, by the stop of its walk
 
-    -- the level after this length, with the run name's number as the code has it
-    pub record Replied : Type 0 where
-      pub allowed : left ≡ 0 → ⊥
-      pub at : s .place .at < length pattern
-      pub next : State
-      pub variable : ℕ
-      pub is-variable : variable ≡ v
-      pub is-next : next ≡ tried s variable n size
-      pub is-reply : LevelIs table pattern bytes next (left - 1) r
-
-    replied : Replied → (m : ℕ) → levels pattern (s .place .at) ≤ suc m → r ≡ levelOf m table bytes pattern (tried s v n size) (left - 1)
-    replied q m l =
-        let z : q .next .place .at ≡ s .place .at + 1 = ap (λ (x : State). x .place .at) (q .is-next) in
-        q .is-reply m (omega (arith, q .at))
-        ∙ ap (λ (x : State). levelOf m table bytes pattern x (left - 1)) (q .is-next ∙ ap (λ (k : ℕ). tried s k n size) (q .is-variable))
-
-    pub try-last : Replied → s .place .elements ≤ n → LengthsAre table pattern bytes v s allowance r
-    try-last q h m l =
-        replied q m l
-        ∙ lengths-last (levelOf m table bytes pattern) table bytes v s (s .place .elements - n) n size left (q .allowed) (omega arith)
-        ∙ sym (t .same m l)
-
-    pub try-hit : Replied → failed (r .outcome) ≡ false → LengthsAre table pattern bytes v s allowance r
-    try-hit q f m l =
-        lengths-hit (levelOf m table bytes pattern) table bytes v s (s .place .elements - n) n size left r (q .allowed) (replied q m l) f
-        ∙ sym (t .same m l)
-
-    pub try-more : Replied → failed (r .outcome) ≡ true → n < s .place .elements → (e : ℕ)
-        → e ≡ extentOf table (take (length bytes - (s .place .node + size)) (drop (s .place .node + size) bytes))
-        → s .place .node + (size + e) ≤ length bytes → Trying (n + 1) (size + e) (r .left)
-    try-more q f h e i w =
-        let z : s .place .elements - n - 1 ≡ s .place .elements - (n + 1) = omega arith in
-        let d = rest-drop (s .place .node + size) bytes in
-        record {
-          few = omega arith;
-          within = w;
-          same = λ m l. t .same m l
-              ∙ lengths-more (levelOf m table bytes pattern) table bytes v s (s .place .elements - n) n size left r (q .allowed) (omega arith) (replied q m l) f
-              ∙ rw (z, i, d);
-        }
-
--- complements
-
-module _ (table pattern bytes : List ℕ) (parts : List Part) (c : PutBy) (left : ℕ) where
-  pub complement-outside : length pattern ≤ c .at → ComplementIs table pattern bytes parts c left (verdict Failed left)
-  unfolding complementOf
-  complement-outside h n l = rw (le-ltb (c .at) (length pattern) h)
-
-  pub complement-beyond : c .at < length pattern → length bytes < c .node → ComplementIs table pattern bytes parts c left (verdict Failed left)
-  unfolding complementOf
-  complement-beyond h k n l = rw (lt-ltb (c .at) (length pattern) h, lt-leb (c .node) (length bytes) k)
-
-  module _ (h : c .at < length pattern) (k : c .node ≤ length bytes) (short : length pattern ≤ 256) where
-    abbrev inside : List ℕ
-    inside = take (length pattern - (c .at + 1)) (drop (c .at + 1) pattern)
-
-    pub complement-inside : (next : State) → next ≡ startOf parts (c .node) → (r : Reply) → LevelIs table inside bytes next left r
-        → (o : Outcome) → o ≡ turned (r .outcome) → ComplementIs table pattern bytes parts c left (verdict o (r .left))
-    unfolding complementOf
-    complement-inside next s r is o e n l =
-        let d = rest-length (c .at + 1) pattern in
-        let f : r ≡ levelOf n table bytes inside (startOf parts (c .node)) left =
-        is n (omega arith) ∙ ap (λ (x : State). levelOf n table bytes inside x left) s in
-        rw (lt-ltb (c .at) (length pattern) h, le-leb (c .node) (length bytes) k, e, ← rest-drop (c .at + 1) pattern, ← f)
-
-module _ (lv : List ℕ → State → ℕ → Reply) (pattern bytes : List ℕ) where
-  module _ (s : State) where
-    complements-none : (k i left : ℕ) → k ≡ 0 → reply Found left (s .parts) ≡ complementsOf lv pattern bytes s k i left
-    unfolding complementsOf
-    complements-none zero i left e = refl
-    complements-none (suc k) i left e = absurd (omega arith)
-
-    complements-stop : (k i left : ℕ) (c : Verdict) → 0 < k → c ≡ complementOf lv pattern bytes (s .parts) (waitingAt s i) left → found (c .outcome) ≡ false
-        → reply (c .outcome) (c .left) (s .parts) ≡ complementsOf lv pattern bytes s k i left
-    unfolding complementsOf
-    complements-stop zero i left c h e f = absurd (omega arith)
-    complements-stop (suc k) i left c h e f = rw (← e, f)
-
-    complements-on : (k i left : ℕ) (c : Verdict) → 0 < k → c ≡ complementOf lv pattern bytes (s .parts) (waitingAt s i) left → found (c .outcome) ≡ true
-        → complementsOf lv pattern bytes s k i left ≡ complementsOf lv pattern bytes s (k - 1) (i + 1) (c .left)
-    unfolding complementsOf
-    complements-on zero i left c h e f = absurd (omega arith)
-    complements-on (suc k) i left c h e f = let z : suc k - 1 ≡ k = omega arith in rw (← e, f, z)
-
-module _ (table pattern bytes : List ℕ) (s : State) (allowance : ℕ) where
-  -- the search of all complements put by is the search of those from the one at i on
-  pub record Testing (i left : ℕ) : Type 0 where
-    pub few : i ≤ s .place .complements
-    pub same : (n : ℕ) → levels pattern (length pattern) ≤ suc n
-        → complementsOf (levelOf n table bytes) pattern bytes s (s .place .complements) 0 allowance
-        ≡ complementsOf (levelOf n table bytes) pattern bytes s (s .place .complements - i) i left
-
-  pub test-first : Testing 0 allowance
-  test-first = record { few = omega arith; same = λ n l. rw (sub-zero (s .place .complements)) }
-
-  module _ {i left : ℕ} (t : Testing i left) where
-    pub test-end : s .place .complements ≤ i → (r : Reply) → r ≡ reply Found left (s .parts) → ComplementsAre table pattern bytes s allowance r
-    test-end h r e n l =
-        e ∙ complements-none (levelOf n table bytes) pattern bytes s (s .place .complements - i) i left (omega arith) ∙ sym (t .same n l)
-
-    module _ (c : Verdict) (h : i < s .place .complements) (is : ComplementIs table pattern bytes (s .parts) (waitingAt s i) left c) where
-      pub test-stop : found (c .outcome) ≡ false → (r : Reply) → r ≡ reply (c .outcome) (c .left) (s .parts) → ComplementsAre table pattern bytes s allowance r
-      test-stop f r e n l =
-          e ∙ complements-stop (levelOf n table bytes) pattern bytes s (s .place .complements - i) i left c (omega arith) (is n l) f ∙ sym (t .same n l)
-
-      pub test-on : found (c .outcome) ≡ true → Testing (i + 1) (c .left)
-      test-on f =
-          let z : s .place .complements - i - 1 ≡ s .place .complements - (i + 1) = omega arith in
-          record {
-            few = omega arith;
-            same = λ n l. t .same n l
-                ∙ complements-on (levelOf n table bytes) pattern bytes s (s .place .complements - i) i left c (omega arith) (is n l) f
-                ∙ rw z;
-          }
-
--- a level
-
-level-stops : (n : ℕ) (table pattern bytes : List ℕ) (s : State) (left : ℕ) (w : Walked) (stop : Stop) (r : Reply)
-    → 0 < n → w ≡ walkOf 1024 table pattern bytes s left → w .stop ≡ stop
-    → r ≡ stopBy stop (levelOf (n - 1) table bytes) table pattern bytes (w .state) (w .left)
+level-stops : (n : ℕ) (table pattern bytes : List ℕ) (s : State) (left : ℕ) (stop : Stop) (l : ℕ) (end : State) (r : Reply)
+    → 0 < n → walkOf 1024 table pattern bytes s left ≡ walked stop l end
+    → r ≡ stopBy stop (levelOf (n - 1) table bytes) table pattern bytes end l
     → r ≡ levelOf n table bytes pattern s left
 unfolding levelOf afterWalk
-level-stops zero table pattern bytes s left w stop r h e f g = absurd (omega arith)
-level-stops (suc n) table pattern bytes s left w stop r h e f g =
-    let z : suc n - 1 ≡ n = omega arith in
-    rw (← e, f) (g ∙ rw z)
+level-stops zero table pattern bytes s left stop l end r h e g = absurd (omega arith)
+level-stops (suc n) table pattern bytes s left stop l end r h e g = let z : suc n - 1 ≡ n = omega arith in rw e (g ∙ rw z)
 
-module _ (table pattern bytes : List ℕ) (s : State) (left : ℕ) (w : Walked) (is-walk : w ≡ walkOf 1024 table pattern bytes s left)
-    (further : s .place .at ≤ w .state .place .at) (r : Reply) where
-  pub level-fails : w .stop ≡ Failure → r ≡ reply Failed (w .left) (w .state .parts) → LevelIs table pattern bytes s left r
-  level-fails f e n l = level-stops n table pattern bytes s left w Failure r (omega arith) is-walk f e
+pub rest-follows : {table pattern bytes : List ℕ} {assigned left : ℕ} {parts frames waiting : List ℕ} {m : Marks} {p : Place} {r : Reached}
+    {parts₁ frames₁ waiting₁ : List ℕ} {o : Outcome} {assigned₂ left₂ : ℕ} {parts₂ frames₂ waiting₂ : List ℕ}
+    → Holding (length pattern) (length bytes) assigned parts frames waiting m p
+    → Walks table pattern bytes assigned left parts frames waiting m p parts₁ frames₁ waiting₁ r
+    → FollowIs table pattern bytes (r .assigned) (r .left) parts₁ frames₁ waiting₁ (r .stop) (r .marks) (r .place) o assigned₂ left₂ parts₂ frames₂ waiting₂
+    → RestIs table pattern bytes assigned left parts frames waiting m p o assigned₂ left₂ parts₂ frames₂ waiting₂
+rest-follows {table} {pattern} {bytes} {left = left} {r = r} {o = o} {assigned₂ = assigned₂} {left₂ = left₂} {parts₂ = parts₂} holding walks follows = record {
+  replies = λ s h k l.
+      let w = walks s h in
+      level-stops k table pattern bytes s left (r .stop) (r .left) (w .end) (replyOf o left₂ assigned₂ parts₂) (omega arith) (w .is)
+      (follows .replies (w .end) (w .holds) (k - 1) (omega (arith, w .further, l)));
+  kept =
+      let w = walks (holding .state) (holding .holds) in
+      kept-then (w .still) (w .more-frames) (w .more-waiting) (w .kept) (follows .kept);
+}
 
-  pub level-spent : w .stop ≡ NoAllowance → r ≡ reply Spent (w .left) (w .state .parts) → LevelIs table pattern bytes s left r
-  level-spent f e n l = level-stops n table pattern bytes s left w NoAllowance r (omega arith) is-walk f e
+place-is : (p q : Place) → p .children ≡ q .children → p .elements ≡ q .elements → p .at ≡ q .at → p .node ≡ q .node → p ≡ q
+place-is p q a b c d =
+    let e : place (p .children) (p .elements) (p .at) (p .node) ≡ place (q .children) (q .elements) (q .at) (q .node) = rw (a, b, c, d) in e
 
-  pub level-tests : w .stop ≡ NoPair → ComplementsAre table pattern bytes (w .state) (w .left) r → LevelIs table pattern bytes s left r
-  level-tests f e n l = level-stops n table pattern bytes s left w NoPair r (omega arith) is-walk f (e (n - 1) (omega arith))
+-- The loop over lengths
 
-  pub level-tries : (v : ℕ) → w .stop ≡ RunName v → LengthsAre table pattern bytes v (w .state) (w .left) r → LevelIs table pattern bytes s left r
-  level-tries v f e n l = level-stops n table pattern bytes s left w (RunName v) r (omega arith) is-walk f (e (n - 1) (omega arith))
+module _ (table pattern bytes : List ℕ) (assigned allowance : ℕ) (parts₀ frames₀ waiting₀ : List ℕ) (v most : ℕ) (m : Marks) (start : Place) where
+  abbrev Starts : State → Type 0
+  Starts s = Holds (length pattern) (length bytes) assigned parts₀ frames₀ waiting₀ m start s
 
--- the whole search
+  abbrev triesFrom : ℕ → State → ℕ → ℕ → ℕ → ℕ → Reply
+  triesFrom k s more n size left = triesOf (levelOf k table bytes pattern) table bytes v s more n size left
 
-module _ (table pattern bytes : List ℕ) (allowance : ℕ) (t : State) (starts : t ≡ startOf (replicate 48 absent) 0) (r : Reply) where
-  pub search-over : leb (length pattern) 256 && leb (length bytes) 4096 ≡ false → r ≡ reply Failed allowance (t .parts)
-      → r ≡ searchOf table pattern bytes allowance
+  -- the search from length 0 on is the search from length n on, at the place p
+  pub record Trying (left : ℕ) (parts frames waiting : List ℕ) (p : Place) (n : ℕ) : Type 0 where
+    pub few : n ≤ most
+    pub children : p .children ≡ start .children
+    pub elements : p .elements ≡ start .elements - n
+    pub at : p .at ≡ start .at
+    pub further : start .node ≤ p .node
+    pub within : p .node ≤ length bytes
+    pub kept : Kept assigned m parts₀ frames₀ waiting₀ parts frames waiting
+    pub same : (s : State) → Starts s → (k : ℕ) → levels pattern (start .at) ≤ k
+        → triesFrom k s most 0 0 allowance ≡ triesFrom k s (most - n) n (p .node - start .node) left
+
+  pub try-first : start .node ≤ length bytes → Trying allowance parts₀ frames₀ waiting₀ start 0
+  try-first h = record {
+    few = omega arith;
+    children = refl;
+    elements = omega arith;
+    at = refl;
+    further = omega arith;
+    within = h;
+    kept = kept-all;
+    same = λ s i k l. let z : start .node - start .node ≡ 0 = omega arith in rw (sub-zero most, z);
+  }
+
+  module _ {left : ℕ} {parts frames waiting : List ℕ} {p : Place} {n : ℕ} (t : Trying left parts frames waiting p n) where
+    -- the bytes of the n elements
+    abbrev size : ℕ
+    size = p .node - start .node
+
+    -- the variable's part is written
+    pub record Written (part seen : ℕ) : Type 0 where
+      pub holding : Holding (length pattern) (length bytes) assigned parts₀ frames₀ waiting₀ m start
+      pub free : Free assigned v
+      pub short : length bytes ≤ 4096
+      pub byte : n < 256
+      pub is-part : part ≡ packed (boundPart (start .node) size n)
+      pub is-seen : seen ≡ bitOr assigned (2 ^ v)
+
+    module _ {part seen : ℕ} (q : Written part seen) where
+      given-place : (s : State) → Starts s → given s v n size .place ≡ p
+      given-place s h =
+          ap (λ (x : Place). place (x .children) (x .elements - n) (x .at) (x .node + size)) (h .place)
+          ∙ place-is (place (start .children) (start .elements - n) (start .at) (start .node + size)) p
+          (sym (t .children)) (sym (t .elements)) (sym (t .at)) (omega (arith, t .further))
+
+      written-holds : (s : State) → Starts s
+          → Holds (length pattern) (length bytes) seen (set parts v part) frames waiting m p (given s v n size)
+      written-holds s h =
+          let i : Holds (length pattern) (length bytes) assigned parts frames waiting m (s .place) s =
+          subst (λ (x : Place). Holds (length pattern) (length bytes) assigned parts frames waiting m x s) (sym (h .place)) (restored (t .kept) h) in
+          rw (q .is-part, q .is-seen)
+          (subst (λ (x : Place). Holds (length pattern) (length bytes) (bitOr assigned (2 ^ v))
+          (set parts v (packed (boundPart (start .node) size n))) frames waiting m x (given s v n size))
+          (given-place s h)
+          (given-holds assigned v (start .node) size n (omega (arith, t .further, t .within, q .short)) (q .free .below) (q .byte)
+          (ap (λ (x : Place). x .node) (h .place)) (omega (arith, t .further, t .within)) i))
+
+      pub written-holding : Holding (length pattern) (length bytes) seen (set parts v part) frames waiting m p
+      written-holding = record {
+        state = given (q .holding .state) v n size;
+        holds = written-holds (q .holding .state) (q .holding .holds);
+      }
+
+      -- what the rest of the level makes of it
+      module _ {o : Outcome} {assigned₂ left₂ : ℕ} {parts₂ frames₂ waiting₂ : List ℕ}
+          (rest : RestIs table pattern bytes seen left (set parts v part) frames waiting m p o assigned₂ left₂ parts₂ frames₂ waiting₂) where
+        abbrev answer : Reply
+        answer = replyOf o left₂ assigned₂ parts₂
+
+        turn-is : (s : State) → Starts s → (k : ℕ) → levels pattern (start .at) ≤ k
+            → answer ≡ levelOf k table bytes pattern (given s v n size) left
+        turn-is s h k l = rest .replies (given s v n size) (written-holds s h) k (omega (arith, t .at, l))
+
+        turn-kept : Kept assigned m parts₀ frames₀ waiting₀ parts₂ frames₂ waiting₂
+        turn-kept =
+            kept-then {m₁ = m} (λ i b. rw (q .is-seen) (bit-still assigned v i b)) (le-refl (m .frames)) (le-refl (m .waiting))
+            (kept-part assigned assigned m m parts₀ frames₀ waiting₀ parts frames waiting (t .kept) (λ i b. b) v part (q .free .free)) (rest .kept)
+
+        abbrev replied : (o′ : Outcome) → Type 0
+        replied o′ = LevelIs table pattern bytes assigned allowance parts₀ frames₀ waiting₀ v most m start o′ assigned₂ left₂ parts₂ frames₂ waiting₂
+
+        fails : failed o ≡ true → failed (answer .outcome) ≡ true
+        fails f = ap failed (reply-outcome left₂ assigned₂ parts₂ o) ∙ f
+
+        pub try-last : most ≤ n → replied o
+        try-last e = record {
+          replies = λ s h k l. turn-is s h k l
+              ∙ tries-last (levelOf k table bytes pattern) table bytes v s (most - n) n size left (omega arith)
+              ∙ sym (t .same s h k l);
+          kept = turn-kept;
+        }
+
+        pub try-hit : failed o ≡ false → replied o
+        try-hit f = record {
+          replies = λ s h k l. tries-hit (levelOf k table bytes pattern) table bytes v s (most - n) n size left
+              answer (turn-is s h k l) (ap failed (reply-outcome left₂ assigned₂ parts₂ o) ∙ f)
+              ∙ sym (t .same s h k l);
+          kept = turn-kept;
+        }
+
+        pub try-spent : failed o ≡ true → n < most → left₂ ≡ 0 → replied Spent
+        try-spent f i z = record {
+          replies = λ s h k l. ap spentAt (sym (reply-left left₂ assigned₂ parts₂ o))
+              ∙ tries-spent (levelOf k table bytes pattern) table bytes v s (most - n) n size left
+              answer (omega arith) (turn-is s h k l) (fails f) (reply-left left₂ assigned₂ parts₂ o ∙ z)
+              ∙ sym (t .same s h k l);
+          kept = turn-kept;
+        }
+
+        pub try-more : failed o ≡ true → n < most → (left₂ ≡ 0 → ⊥) → (p′ : Place) (e : ℕ)
+            → e ≡ extentOf table (take (length bytes - p .node) (drop (p .node) bytes))
+            → p′ .children ≡ p .children → p′ .elements ≡ p .elements - 1 → p′ .at ≡ p .at → p′ .node ≡ p .node + e → p .node + e ≤ length bytes
+            → Trying (left₂ - 1) parts₂ frames₂ waiting₂ p′ (n + 1)
+        try-more f i z p′ e is-e a b c d w = record {
+          few = omega arith;
+          children = a ∙ t .children;
+          elements = omega (arith, b, t .elements);
+          at = c ∙ t .at;
+          further = omega (arith, d, t .further);
+          within = omega (arith, d, w);
+          kept = turn-kept;
+          same = λ s h k l.
+              let j : most - n - 1 ≡ most - (n + 1) = omega arith in
+              let g : s .place .node + size ≡ p .node = omega (arith, ap (λ (x : Place). x .node) (h .place), t .further) in
+              let x : p′ .node - start .node ≡ size + e = omega (arith, d, t .further) in
+              t .same s h k l
+              ∙ tries-more (levelOf k table bytes pattern) table bytes v s (most - n) n size left
+              answer (omega arith) (turn-is s h k l) (fails f) (λ (y : answer .left ≡ 0). z (sym (reply-left left₂ assigned₂ parts₂ o) ∙ y))
+              ∙ rw (reply-left left₂ assigned₂ parts₂ o, j, g, x, is-e, rest-drop (p .node) bytes);
+        }
+
+-- What follows the walk
+
+module _ (table pattern bytes : List ℕ) (assigned left : ℕ) (parts frames waiting : List ℕ) (m : Marks) (p : Place) where
+  pub follow-fails : (stop : Stop) → stop ≡ Failure
+      → FollowIs table pattern bytes assigned left parts frames waiting stop m p Failed assigned left parts frames waiting
+  follow-fails stop e = rw e (record { replies = λ s h n l. refl; kept = kept-all })
+
+  pub follow-spent : (stop : Stop) → stop ≡ NoAllowance
+      → FollowIs table pattern bytes assigned left parts frames waiting stop m p Spent assigned left parts frames waiting
+  follow-spent stop e = rw e (record { replies = λ s h n l. refl; kept = kept-all })
+
+  pub follow-none : (stop : Stop) (v : ℕ) → stop ≡ RunName v → left ≡ 0
+      → FollowIs table pattern bytes assigned left parts frames waiting stop m p Spent assigned left parts frames waiting
+  follow-none stop v e z = rw e (
+      record {
+        replies = λ s h n l. sym (lengths-tries (levelOf n table bytes pattern) table bytes v s (s .place .elements) 0 0 left ∙ rw (eq-eqb left 0 z));
+        kept = kept-all;
+      }
+      )
+
+  module _ {o : Outcome} {assigned′ left′ : ℕ} {parts′ frames′ waiting′ : List ℕ} where
+    pub follow-tests : (stop : Stop) → stop ≡ NoPair
+        → ComplementsAre table pattern bytes assigned left parts frames waiting m o assigned′ left′ parts′ frames′ waiting′
+        → FollowIs table pattern bytes assigned left parts frames waiting stop m p o assigned′ left′ parts′ frames′ waiting′
+    follow-tests stop e c = rw e (record { replies = λ s h n l. c .replies p s h n (omega arith); kept = c .kept })
+
+    -- the level past the run name, with place and variable as the code has them
+    pub follow-tries : (stop : Stop) (v w : ℕ) (q : Place) → stop ≡ RunName v → w ≡ v → q ≡ passed p 0 1 0 → (left ≡ 0 → ⊥) → p .at < length pattern
+        → LevelIs table pattern bytes assigned (left - 1) parts frames waiting w (p .elements) m q o assigned′ left′ parts′ frames′ waiting′
+        → FollowIs table pattern bytes assigned left parts frames waiting stop m p o assigned′ left′ parts′ frames′ waiting′
+    follow-tries stop v w q e is-w is-q z i r = rw e (
+        record {
+          replies = λ s h n l. level-reply .replies (past s) (past-holds i h) n (omega arith)
+              ∙ sym (lengths-tries (levelOf n table bytes pattern) table bytes v s (s .place .elements) 0 0 left
+              ∙ rw (ne-eqb left 0 z, h .place));
+          kept = r .kept;
+        }
+        )
+      where
+        level-reply : LevelIs table pattern bytes assigned (left - 1) parts frames waiting v (p .elements) m (passed p 0 1 0) o assigned′ left′ parts′ frames′ waiting′
+        level-reply =
+            subst (λ (x : ℕ). LevelIs table pattern bytes assigned (left - 1) parts frames waiting x (p .elements) m (passed p 0 1 0) o
+            assigned′ left′ parts′ frames′ waiting′) is-w
+            (subst (λ (x : Place). LevelIs table pattern bytes assigned (left - 1) parts frames waiting w (p .elements) m x o
+            assigned′ left′ parts′ frames′ waiting′) is-q r)
+
+-- Complements
+
+module _ (pattern : List ℕ) (c : PutBy) (within : c .at + 1 + c .size ≤ length pattern) where
+  -- the inside, as the code takes it
+  abbrev taken : List ℕ
+  taken = take (c .at + 1 + c .size - (c .at + 1)) (drop (c .at + 1) pattern)
+
+  inside-is : taken ≡ take (c .size) (drop (c .at + 1) pattern)
+  inside-is = let z : c .at + 1 + c .size - (c .at + 1) ≡ c .size = omega arith in rw z
+
+  pub inside-length : length taken ≡ c .size
+  inside-length = ap length inside-is ∙ length-take-le (c .size) (drop (c .at + 1) pattern) (omega (arith, length-drop (c .at + 1) pattern))
+
+  pub inside-holding : {bytes assigned : ℕ} {parts frames waiting : List ℕ} {m : Marks} → Testable (length pattern) bytes assigned parts frames waiting m c
+      → Holding (length taken) bytes assigned parts frames waiting (inside m) (place 1 1 0 (c .node))
+  inside-holding h = rw inside-length (h .holding)
+
+  module _ (table bytes : List ℕ) (assigned left : ℕ) (parts frames waiting : List ℕ) (m : Marks) (short : length pattern ≤ 256) where
+    complement-turned : {o o′ : Outcome} {assigned′ left′ : ℕ} {parts′ frames′ waiting′ : List ℕ}
+        → LevelIs table taken bytes assigned left parts frames waiting 48 0 (inside m) (place 1 1 0 (c .node)) o assigned′ left′ parts′ frames′ waiting′
+        → o′ ≡ turned o → ComplementIs table pattern bytes assigned left parts frames waiting c m o′ left′ parts′ frames′ waiting′
+    unfolding insideOf triesOf
+    complement-turned {o} {o′} {assigned′} {left′} {parts′} r e = record {
+      replies = λ shown h n l. let x = found-at shown h n l in (
+        e ∙ ap turned (sym (reply-outcome left′ assigned′ parts′ o) ∙ ap (λ (y : Reply). y .outcome) x),
+        sym (reply-left left′ assigned′ parts′ o) ∙ ap (λ (y : Reply). y .left) x,
+      );
+      kept = record { of-parts = r .kept .of-parts; of-frames = r .kept .of-frames; of-waiting = r .kept .of-waiting; sized = r .kept .sized };
+    }
+      where
+        found-at : (shown : List Part) → Holds (c .size) (length bytes) assigned parts frames waiting (inside m) (place 1 1 0 (c .node)) (startOf shown (c .node))
+            → (n : ℕ) → levels pattern (length pattern) ≤ suc n
+            → replyOf o left′ assigned′ parts′ ≡ levelOf n table bytes (take (c .size) (drop (c .at + 1) pattern)) (startOf shown (c .node)) left
+        found-at shown h n l =
+            let a : c .node + 0 ≡ c .node = omega arith in
+            r .replies (startOf shown (c .node)) (rw inside-length h) n (omega (arith, inside-length))
+            ∙ rw (set-out shown 48 (boundPart (c .node) 0 0) (omega (arith, h .variables)), a, inside-is)
+
+    -- with marks and place as the code has them
+    pub complement-tests : {k : Marks} {q : Place} {o o′ : Outcome} {assigned′ left′ : ℕ} {parts′ frames′ waiting′ : List ℕ}
+        → k ≡ inside m → q ≡ place 1 1 0 (c .node) → LevelIs table taken bytes assigned left parts frames waiting 48 0 k q o assigned′ left′ parts′ frames′ waiting′
+        → o′ ≡ turned o → ComplementIs table pattern bytes assigned left parts frames waiting c m o′ left′ parts′ frames′ waiting′
+    complement-tests {k} {q} {o} {o′} {assigned′} {left′} {parts′} {frames′} {waiting′} is-k is-q r e =
+        complement-turned
+        (subst (λ (x : Marks). LevelIs table taken bytes assigned left parts frames waiting 48 0 x (place 1 1 0 (c .node)) o assigned′ left′ parts′ frames′ waiting′)
+        is-k
+        (subst (λ (x : Place). LevelIs table taken bytes assigned left parts frames waiting 48 0 k x o assigned′ left′ parts′ frames′ waiting′) is-q r)) e
+
+module _ (assigned left : ℕ) (parts : List ℕ) (next : ℕ → Reply) where
+  refuted-stop : (a o : Outcome) (l : ℕ) → o ≡ turned a → left ≡ l → found o ≡ false → replyOf o left assigned parts ≡ refuted a l next
+  refuted-stop Found o l e z f = rw (e, z)
+  refuted-stop Failed o l e z f = absurd (true≢false (sym (ap found e) ∙ f))
+  refuted-stop Spent o l e z f = rw (e, z)
+
+  refuted-on : (a o : Outcome) (l : ℕ) → o ≡ turned a → left ≡ l → found o ≡ true → refuted a l next ≡ next left
+  refuted-on Found o l e z f = absurd (true≢false (sym f ∙ ap found e))
+  refuted-on Failed o l e z f = rw z
+  refuted-on Spent o l e z f = absurd (true≢false (sym f ∙ ap found e))
+
+-- The loop over complements
+
+none : (lv : List ℕ → State → ℕ → Reply) (pattern : List ℕ) (shown : List Part) (waiting : List ℕ) (i end left : ℕ) → end ≤ i → (cs : List PutBy) → Queued waiting i end cs
+    → reply Found left shown ≡ complementsOf lv pattern shown cs left
+unfolding complementsOf
+none lv pattern shown waiting i end left h [] q = refl
+none lv pattern shown waiting i end left h (c ∷ cs) q = absurd (omega (arith, q .0))
+
+module _ (lv : List ℕ → State → ℕ → Reply) (pattern : List ℕ) (shown : List Part) (c : PutBy) (cs : List PutBy) (left left′ : ℕ) (o : Outcome)
+    (is : (o ≡ turned (insideOf lv pattern shown c left .outcome)) × (left′ ≡ insideOf lv pattern shown c left .left)) where
+  complements-stop : (assigned : ℕ) (parts : List ℕ) → found o ≡ false → replyOf o left′ assigned parts ≡ complementsOf lv pattern shown (c ∷ cs) left
+  unfolding complementsOf
+  complements-stop assigned parts f =
+      refuted-stop assigned left′ parts (λ l. complementsOf lv pattern shown cs l) (insideOf lv pattern shown c left .outcome) o
+      (insideOf lv pattern shown c left .left) (is .0) (is .1) f
+
+  complements-on : found o ≡ true → complementsOf lv pattern shown (c ∷ cs) left ≡ complementsOf lv pattern shown cs left′
+  unfolding complementsOf
+  complements-on f =
+      refuted-on 0 left′ [] (λ l. complementsOf lv pattern shown cs l) (insideOf lv pattern shown c left .outcome) o
+      (insideOf lv pattern shown c left .left) (is .0) (is .1) f
+
+module _ (table pattern bytes : List ℕ) (assigned allowance : ℕ) (parts₀ frames₀ waiting₀ : List ℕ) (m : Marks) where
+  abbrev Ends : Place → State → Type 0
+  Ends p s = Holds (length pattern) (length bytes) assigned parts₀ frames₀ waiting₀ m p s
+
+  -- the complements from the one at i on are still to be searched
+  pub record Remains (left i : ℕ) (p : Place) (s : State) : Type 0 where
+    pub rest : List PutBy
+    pub queued : Queued waiting₀ i (m .waiting) rest
+    pub insides : Insides (length pattern) (length bytes) (p .at) m rest
+    pub same : (n : ℕ) → levels pattern (length pattern) ≤ suc n
+        → complementsOf (levelOf n table bytes) pattern (s .parts) (s .waiting) allowance ≡ complementsOf (levelOf n table bytes) pattern (s .parts) rest left
+
+  pub record Testing (seen left : ℕ) (parts frames waiting : List ℕ) (i : ℕ) : Type 0 where
+    pub same-mask : seen ≡ assigned
+    pub kept : Kept assigned m parts₀ frames₀ waiting₀ parts frames waiting
+    pub remains : (p : Place) (s : State) → Ends p s → Remains left i p s
+
+  pub test-first : Testing assigned allowance parts₀ frames₀ waiting₀ (m .first)
+  test-first = record {
+    same-mask = refl;
+    kept = kept-all;
+    remains = λ p s h. record { rest = s .waiting; queued = h .queued; insides = h .insides; same = λ n l. refl };
+  }
+
+  module _ {seen left : ℕ} {parts frames waiting : List ℕ} {i : ℕ} (t : Testing seen left parts frames waiting i) where
+    pub test-end : m .waiting ≤ i → ComplementsAre table pattern bytes assigned allowance parts₀ frames₀ waiting₀ m Found seen left parts frames waiting
+    test-end e = record {
+      replies = λ p s h n l.
+          let q = t .remains p s h in
+          ap (reply Found left) (ap (λ (x : ℕ). partsIn x parts 0 48) (t .same-mask) ∙ sym (state-shown (restored (t .kept) h)))
+          ∙ none (levelOf n table bytes) pattern (s .parts) waiting₀ i (m .waiting) left e (q .rest) (q .queued)
+          ∙ sym (q .same n l);
+      kept = t .kept;
+    }
+
+    module _ (h : i < m .waiting) where
+      next : (p : Place) (s : State) → Ends p s → (cs : List PutBy) → Queued waiting₀ i (m .waiting) cs → Insides (length pattern) (length bytes) (p .at) m cs
+          → Testable (length pattern) (length bytes) seen parts frames waiting m (putByIn (getD waiting i 0))
+      next p s e [] q k = absurd (omega (arith, q))
+      next p s e (c ∷ cs) q k =
+          rw (t .same-mask, t .kept .of-waiting i h, q .1)
+          (record { within = k .0 .within; holding = record { state = startOf (s .parts) (c .node); holds = start-holds c (restored (t .kept) e) (k .0) } })
+
+      pub test-next : Resting (length pattern) (length bytes) assigned parts₀ frames₀ waiting₀ m
+          → Testable (length pattern) (length bytes) seen parts frames waiting m (putByIn (getD waiting i 0))
+      test-next r =
+          let p = r .place in
+          let s = r .holding .state in
+          let q = t .remains p s (r .holding .holds) in
+          next p s (r .holding .holds) (q .rest) (q .queued) (q .insides)
+
+      module _ {o : Outcome} {left′ : ℕ} {parts′ frames′ waiting′ : List ℕ}
+          (c : ComplementIs table pattern bytes seen left parts frames waiting (putByIn (getD waiting i 0)) m o left′ parts′ frames′ waiting′) where
+        test-kept : Kept assigned m parts₀ frames₀ waiting₀ parts′ frames′ waiting′
+        test-kept = kept-then {m₁ = m} (λ v b. rw (t .same-mask) b) (le-refl (m .frames)) (le-refl (m .waiting)) (t .kept) (c .kept)
+
+        -- the first of the rest is the one that was searched
+        told : (p : Place) (s : State) → Ends p s → (d : PutBy) (cs : List PutBy) → Queued waiting₀ i (m .waiting) (d ∷ cs)
+            → Insides (length pattern) (length bytes) (p .at) m (d ∷ cs) → (n : ℕ) → levels pattern (length pattern) ≤ suc n
+            → (o ≡ turned (insideOf (levelOf n table bytes) pattern (s .parts) d left .outcome))
+            × (left′ ≡ insideOf (levelOf n table bytes) pattern (s .parts) d left .left)
+        told p s e d cs q k n l =
+            let is : ComplementIs table pattern bytes assigned left parts frames waiting d m o left′ parts′ frames′ waiting′ =
+            subst (λ (x : PutBy). ComplementIs table pattern bytes assigned left parts frames waiting x m o left′ parts′ frames′ waiting′)
+            (ap putByIn (t .kept .of-waiting i h) ∙ q .1)
+            (subst (λ (x : ℕ). ComplementIs table pattern bytes x left parts frames waiting (putByIn (getD waiting i 0)) m o left′ parts′ frames′ waiting′)
+            (t .same-mask) c) in
+            is .replies (s .parts) (start-holds d (restored (t .kept) e) (k .0)) n l
+
+        module _ (p : Place) (s : State) (e : Ends p s) where
+          stop : (n : ℕ) → levels pattern (length pattern) ≤ suc n → found o ≡ false → (cs : List PutBy) → Queued waiting₀ i (m .waiting) cs
+              → Insides (length pattern) (length bytes) (p .at) m cs
+              → replyOf o left′ assigned parts′ ≡ complementsOf (levelOf n table bytes) pattern (s .parts) cs left
+          stop n l f [] q k = absurd (omega (arith, q))
+          stop n l f (d ∷ cs) q k =
+              complements-stop (levelOf n table bytes) pattern (s .parts) d cs left left′ o (told p s e d cs q k n l) assigned parts′ f
+
+          on : found o ≡ true → (cs : List PutBy) → Queued waiting₀ i (m .waiting) cs → Insides (length pattern) (length bytes) (p .at) m cs
+              → ((n : ℕ) → levels pattern (length pattern) ≤ suc n
+              → complementsOf (levelOf n table bytes) pattern (s .parts) (s .waiting) allowance ≡ complementsOf (levelOf n table bytes) pattern (s .parts) cs left)
+              → Remains left′ (i + 1) p s
+          on f [] q k same = absurd (omega (arith, q))
+          on f (d ∷ cs) q k same = record {
+            rest = cs;
+            queued = let z : suc i ≡ i + 1 = omega arith in subst (λ (x : ℕ). Queued waiting₀ x (m .waiting) cs) z (q .2);
+            insides = k .1;
+            same = λ n l. same n l ∙ complements-on (levelOf n table bytes) pattern (s .parts) d cs left left′ o (told p s e d cs q k n l) f;
+          }
+
+        pub test-stop : found o ≡ false → ComplementsAre table pattern bytes assigned allowance parts₀ frames₀ waiting₀ m o assigned left′ parts′ frames′ waiting′
+        test-stop f = record {
+          replies = λ p s e n l. let q = t .remains p s e in stop p s e n l f (q .rest) (q .queued) (q .insides) ∙ sym (q .same n l);
+          kept = test-kept;
+        }
+
+        pub test-on : found o ≡ true → Testing assigned left′ parts′ frames′ waiting′ (i + 1)
+        test-on f = record {
+          same-mask = refl;
+          kept = test-kept;
+          remains = λ p s e. let q = t .remains p s e in on p s e f (q .rest) (q .queued) (q .insides) (q .same);
+        }
+
+-- The whole search
+
+module _ (table pattern bytes : List ℕ) (allowance : ℕ) where
+  pub search-over : leb (length pattern) 256 && leb (length bytes) 4096 ≡ false → failedAt allowance ≡ searchOf table pattern bytes allowance
   unfolding searchOf
-  search-over h e = rw h (e ∙ ap (λ (x : State). reply Failed allowance (x .parts)) starts)
+  search-over h = rw h
 
-  pub search-within : length pattern ≤ 256 → length bytes ≤ 4096 → LevelIs table pattern bytes t allowance r → r ≡ searchOf table pattern bytes allowance
-  unfolding searchOf
-  search-within h k l =
+  pub search-within : (parts frames waiting : List ℕ) {q : Place} {o : Outcome} {assigned left : ℕ} {parts′ frames′ waiting′ : List ℕ}
+      → length pattern ≤ 256 → length bytes ≤ 4096 → Sized parts frames waiting → q ≡ place 1 1 0 0
+      → LevelIs table pattern bytes 0 allowance parts frames waiting 48 0 (marks 0 0 0 0) q o assigned left parts′ frames′ waiting′
+      → replyOf o left assigned parts′ ≡ searchOf table pattern bytes allowance
+  unfolding searchOf triesOf
+  search-within parts frames waiting {q} h k z e r =
       rw (le-leb (length pattern) 256 h, le-leb (length bytes) 4096 k)
-      (l (levels pattern 0) (omega arith) ∙ ap (λ (x : State). levelOf (levels pattern 0) table bytes pattern x allowance) starts)
+      (r .replies (startOf (replicate 48 absent) 0) (rw e (first-holds (length pattern) (length bytes) parts frames waiting h z)) (levels pattern 0)
+      (rw e (omega arith)))

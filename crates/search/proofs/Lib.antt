@@ -1,5 +1,10 @@
 -- The laws of the search's definitions.
 pub mod Steps
+pub mod Masks
+pub mod Asks
+pub mod Buffers
+pub mod Held
 pub mod Walks
+pub mod Kept
 pub mod Levels
 pub mod Lefts

@@ -1,118 +1,285 @@
 -- The laws of the walk: each turn goes on from a place further on, or to the node around, until it stops.
 -- Assumes nothing.
-use Prim.Native.Nat.{ℕ, zero, suc, _+_, _-_, _*_, _<_, _≤_}
+use Prim.Native.Nat.{ℕ, zero, suc, _+_, _-_, _*_, _^_, _<_, _≤_}
+use native.Mathlib.Nat.{le-refl, pos-of-ne-zero}
 use native.Mathlib.Omega.{arith}
-use native.Mathlib.Nat.{le-refl}
-use mathlib.Core.Path.{_≡_, refl, sym, subst, _∙_}
-use mathlib.Core.List.{List}
-use lib.ListN.{length, set}
+use mathlib.Core.Bool.{true, false}
+use mathlib.Core.List.{List, [], _∷_, _++_}
+use mathlib.Core.Path.{_≡_, refl, sym, ap, subst, _∙_}
+use lib.Bits.{bitOr}
+use lib.Dec.{eqb}
+use lib.ListN.{length, getD, set}
+use borrow.Author.Tests.{eqb-false}
+use Rattle.term.specs.Part.{isAbsent, boundPart}
 use Rattle.term.specs.declared.Part.{Part}
-use Rattle.search.specs.State.{state, partAt, closed, variableAt, stepOf, walked, nextOf, walkOf}
-use Rattle.search.specs.Bounds.{Short, Within, Goes, StopsAt, Keeps, WalkKeeps}
-use Rattle.search.specs.declared.Frame.{Frame}
-use Rattle.search.specs.declared.PutBy.{PutBy}
+use Rattle.search.specs.Bounds.{Short, StopsAt, Unassigned, WalkIs}
+use Rattle.search.specs.Memory.{bit, packed, partIn, frameIn, outer, openedMarks, closedMarks, Linked, putByIn, putByMarks, Holds, Kept}
+use Rattle.search.specs.State.{Frame, PutBy, State, frame, putBy, state, partAt, passed, entered, reopened, alone, closedBy, variableAt, stepOf, walked, nextOf, walkOf}
+use Rattle.search.specs.declared.Marks.{Marks}
 use Rattle.search.specs.declared.Place.{Place}
-use Rattle.search.specs.declared.State.{State}
-use Rattle.search.specs.declared.Stop.{Stop}
-use Rattle.search.specs.declared.Stop.the-variants.{Failure}
-use Rattle.search.specs.declared.Step.{Step}
+use Rattle.search.specs.declared.Reached.{Reached}
 use Rattle.search.specs.declared.Step.the-variants.{Stops, Fails, Closes, Opens, Passes, Binds, PutsBy}
+use Rattle.search.specs.declared.Step.{Step}
+use Rattle.search.specs.declared.Stop.the-variants.{Failure, NoAllowance, NoPair, RunName}
+use Rattle.search.specs.declared.Stop.{Stop}
+use Rattle.search.proofs.Asks.{Asks, variable-below, step-asks}
+use Rattle.search.proofs.Buffers.{linked-alone, linked-length}
+use Rattle.search.proofs.Held.{unassigned, holds-closed, holds-opened, holds-passed, holds-bound, holds-put, kept-part, kept-frame, kept-waiting}
+use Rattle.search.proofs.Masks.{bit-still}
 
--- turns that are left at most: each takes a byte of the pattern or closes a node
-abbrev pub turns : List ℕ → Place → ℕ
-turns pattern p = 2 * (length pattern - p .at) + p .depth
+-- the innermost of some open nodes
+record Popped (frames : List ℕ) (inner : ℕ) (fs : List Frame) : Type 0 where
+  pub rest : List Frame
+  pub is : fs ≡ frameIn (getD frames (inner - 1) 0) ∷ rest
+  pub less : outer (getD frames (inner - 1) 0) < inner
+  pub linked : Linked frames (outer (getD frames (inner - 1) 0)) rest
+
+popped : (frames : List ℕ) (inner : ℕ) (fs : List Frame) → (inner ≡ 0 → ⊥) → Linked frames inner fs → Popped frames inner fs
+popped frames inner [] n h = absurd (n h)
+popped frames inner (f ∷ fs) n h = record { rest = fs; is = ap (λ (g : Frame). g ∷ fs) (sym (h .1)); less = h .2; linked = h .3 }
+
+abbrev pub reached : Stop → ℕ → ℕ → Marks → Place → Reached
+reached stop left assigned m p = record { stop = stop; left = left; assigned = assigned; marks = m; place = p }
 
 module _ (table pattern bytes : List ℕ) where
   walk-suc : (n : ℕ) (s : State) (left : ℕ) → 0 < n
       → walkOf n table pattern bytes s left
-      ≡ nextOf (stepOf table pattern bytes (partAt s (variableAt pattern (s .place .at))) (s .place) left) (walkOf (n - 1) table pattern bytes) s left
+      ≡ nextOf (stepOf (alone (s .frames)) table pattern bytes (partAt s (variableAt pattern (s .place .at))) (s .place) left)
+      (walkOf (n - 1) table pattern bytes) s left
   unfolding walkOf
   walk-suc zero s left h = absurd (omega arith)
   walk-suc (suc n) s left h = let z : suc n - 1 ≡ n = omega arith in rw z
 
-module _ (table pattern bytes : List ℕ) (start : State) (allowance : ℕ) where
-  -- the walk from its start is the walk from here
-  pub record Walking (s : State) (left : ℕ) : Type 0 where
-    pub within : Within (length pattern) (length bytes) (s .place)
-    pub further : start .place .at ≤ s .place .at
+module _ (table pattern bytes : List ℕ) (assigned₀ left₀ : ℕ) (parts₀ frames₀ waiting₀ : List ℕ) (m₀ : Marks) (p₀ : Place) (s₀ : State) where
+  -- the walk from the state s₀ is the walk from the one that the buffers hold now
+  pub record Walking (parts frames waiting : List ℕ) (p : Place) (m : Marks) (assigned left : ℕ) : Type 0 where
+    pub values : List Part
+    pub nodes : List Frame
+    pub put-by : List PutBy
+    pub holds : Holds (length pattern) (length bytes) assigned parts frames waiting m p (state values nodes put-by p)
     pub room : ℕ
-    pub enough : turns pattern (s .place) < room
-    pub same : walkOf 1024 table pattern bytes start allowance ≡ walkOf room table pattern bytes s left
+    pub enough : 2 * (length pattern - p .at) + length nodes < room
+    pub same : walkOf 1024 table pattern bytes s₀ left₀ ≡ walkOf room table pattern bytes (state values nodes put-by p) left
+    pub kept : Kept assigned₀ m₀ parts₀ frames₀ waiting₀ parts frames waiting
+    pub still : (v : ℕ) → bit assigned₀ v ≡ true → bit assigned v ≡ true
+    pub more-frames : m₀ .frames ≤ m .frames
+    pub more-waiting : m₀ .waiting ≤ m .waiting
+    pub same-first : m .first ≡ m₀ .first
+    pub further : p₀ .at ≤ p .at
 
-  pub walk-starts : Short pattern bytes → Within (length pattern) (length bytes) (start .place) → Walking start allowance
-  walk-starts h w = record {
-    within = w;
-    further = le-refl (start .place .at);
+  pub walk-starts : Short pattern bytes
+      → Holds (length pattern) (length bytes) assigned₀ parts₀ frames₀ waiting₀ m₀ p₀ s₀ → Walking parts₀ frames₀ waiting₀ p₀ m₀ assigned₀ left₀
+  walk-starts short h = record {
+    values = s₀ .parts;
+    nodes = s₀ .frames;
+    put-by = s₀ .waiting;
+    holds = subst (Holds (length pattern) (length bytes) assigned₀ parts₀ frames₀ waiting₀ m₀ p₀) is h;
     room = 1024;
-    enough = omega (arith, h .of-pattern, w .depth);
-    same = refl;
+    enough = omega (arith, linked-length frames₀ (m₀ .inner) (s₀ .frames) (h .linked), h .innermost, h .frames-left, short .of-pattern);
+    same = ap (λ (s : State). walkOf 1024 table pattern bytes s left₀) is;
+    kept = record { of-parts = λ v l b. refl; of-frames = λ i l. refl; of-waiting = λ i l. refl; sized = λ z. z };
+    still = λ v b. b;
+    more-frames = le-refl (m₀ .frames);
+    more-waiting = le-refl (m₀ .waiting);
+    same-first = refl;
+    further = le-refl (p₀ .at);
   }
+    where
+      is : s₀ ≡ state (s₀ .parts) (s₀ .frames) (s₀ .waiting) p₀
+      is = ap (state (s₀ .parts) (s₀ .frames) (s₀ .waiting)) (h .place)
 
   -- what is known once the next step is
-  pub record Turn (s : State) (left : ℕ) (x : Step) : Type 0 where
-    pub walking : Walking s left
-    pub is-step : x ≡ stepOf table pattern bytes (partAt s (variableAt pattern (s .place .at))) (s .place) left
-    pub keeps : Keeps (length pattern) (length bytes) (s .place) left x
+  pub record Turn (parts frames waiting : List ℕ) (p : Place) (m : Marks) (assigned left : ℕ) (x : Step) : Type 0 where
+    pub walking : Walking parts frames waiting p m assigned left
+    pub is-step : x ≡ stepOf (eqb (m .inner) 0) table pattern bytes (partIn assigned parts (variableAt pattern (p .at))) p left
 
-  module _ {s : State} {left : ℕ} {x : Step} (t : Turn s left x) where
-    pub kept : (y : Step) → x ≡ y → Keeps (length pattern) (length bytes) (s .place) left y
-    kept y e = subst (Keeps (length pattern) (length bytes) (s .place) left) e (t .keeps)
+  module _ {parts frames waiting : List ℕ} {p : Place} {m : Marks} {assigned left : ℕ} {x : Step}
+      (t : Turn parts frames waiting p m assigned left x) where
+    pub asked : (y : Step) → x ≡ y → Asks (eqb (m .inner) 0) pattern bytes (partIn assigned parts (variableAt pattern (p .at))) p left y
+    asked y e =
+        subst (Asks (eqb (m .inner) 0) pattern bytes (partIn assigned parts (variableAt pattern (p .at))) p left) (sym (t .is-step) ∙ e)
+        (step-asks (eqb (m .inner) 0) table pattern bytes (partIn assigned parts (variableAt pattern (p .at))) p left (t .walking .holds .node))
 
-    stepped : (y : Step) → x ≡ y → walkOf 1024 table pattern bytes start allowance ≡ nextOf y (walkOf (t .walking .room - 1) table pattern bytes) s left
+    stepped : (y : Step) → x ≡ y
+        → walkOf 1024 table pattern bytes s₀ left₀
+        ≡ nextOf y (walkOf (t .walking .room - 1) table pattern bytes) (state (t .walking .values) (t .walking .nodes) (t .walking .put-by) p) left
     stepped y e =
-        t .walking .same ∙ walk-suc table pattern bytes (t .walking .room) s left (omega (arith, t .walking .enough)) ∙ rw (← t .is-step, e)
+        let w = t .walking in
+        let s = state (w .values) (w .nodes) (w .put-by) p in
+        w .same ∙ walk-suc table pattern bytes (w .room) s left (omega (arith, w .enough))
+        ∙ rw (
+          ← linked-alone frames (m .inner) (w .nodes) (w .holds .linked),
+          w .holds .shown (variableAt pattern (p .at)) (variable-below pattern (p .at)),
+          ← t .is-step,
+          e,
+        )
 
-    going : (s′ : State) (l : ℕ) → Within (length pattern) (length bytes) (s′ .place) → s .place .at ≤ s′ .place .at
-        → turns pattern (s′ .place) < turns pattern (s .place)
-        → walkOf 1024 table pattern bytes start allowance ≡ walkOf (t .walking .room - 1) table pattern bytes s′ l → Walking s′ l
-    going s′ l h f d e = record {
-      within = h;
-      further = omega (arith, t .walking .further);
-      room = t .walking .room - 1;
-      enough = omega (arith, t .walking .enough);
-      same = e;
-    }
+    free : (v : ℕ) → v < 48 → v ≡ variableAt pattern (p .at) → isAbsent (partIn assigned parts (variableAt pattern (p .at))) ≡ true
+        → bit assigned v ≡ false
+    free v low here e =
+        let w = t .walking in
+        unassigned (length pattern) (length bytes) assigned parts frames waiting m p (w .values) (w .nodes) (w .put-by) (w .holds) v low (rw here e)
 
-    gone : (s′ : State) (l : ℕ) → Goes (length pattern) (length bytes) (s .place) (s′ .place)
-        → walkOf 1024 table pattern bytes start allowance ≡ walkOf (t .walking .room - 1) table pattern bytes s′ l → Walking s′ l
-    gone s′ l g e = going s′ l (g .within) (omega (arith, g .further)) (omega (arith, g .further, g .deeper, g .within .at)) e
+    -- Where it stops
 
-    ended : (stop : Stop) → StopsAt (length pattern) (length bytes) (s .place) stop → (l : ℕ)
-        → WalkKeeps (length pattern) (length bytes) (start .place) (walked stop l s)
-    ended stop h l = record { within = t .walking .within; further = t .walking .further; stops = h }
+    ended : (stop : Stop) (l : ℕ)
+        → walkOf 1024 table pattern bytes s₀ left₀ ≡ walked stop l (state (t .walking .values) (t .walking .nodes) (t .walking .put-by) p)
+        → StopsAt (length pattern) p stop → Unassigned assigned stop
+        → WalkIs table pattern bytes assigned₀ left₀ parts₀ frames₀ waiting₀ m₀ p₀ parts frames waiting (reached stop l assigned m p) s₀
+    ended stop l is stops out =
+        let w = t .walking in
+        record {
+          end = state (w .values) (w .nodes) (w .put-by) p;
+          is = is;
+          holds = w .holds;
+          kept = w .kept;
+          still = w .still;
+          more-frames = w .more-frames;
+          more-waiting = w .more-waiting;
+          same-first = w .same-first;
+          further = w .further;
+          stops = stops;
+          unassigned = out;
+        }
 
     pub walk-stops : (stop : Stop) → x ≡ Stops stop
-        → (walked stop left s ≡ walkOf 1024 table pattern bytes start allowance) × WalkKeeps (length pattern) (length bytes) (start .place) (walked stop left s)
+        → WalkIs table pattern bytes assigned₀ left₀ parts₀ frames₀ waiting₀ m₀ p₀ parts frames waiting (reached stop left assigned m p) s₀
     unfolding nextOf
-    walk-stops stop e = (sym (stepped (Stops stop) e), ended stop (kept (Stops stop) e) left)
+    walk-stops Failure e = ended Failure left (stepped (Stops Failure) e) tt tt
+    walk-stops NoAllowance e = ended NoAllowance left (stepped (Stops NoAllowance) e) tt tt
+    walk-stops NoPair e = ended NoPair left (stepped (Stops NoPair) e) tt tt
+    walk-stops (RunName v) e =
+        let a = asked (Stops (RunName v)) e in
+        ended (RunName v) left (stepped (Stops (RunName v)) e) (a .1) (free v (a .0 .below) (a .0 .here) (a .0 .absent))
 
     pub walk-fails : x ≡ Fails
-        → (walked Failure (left - 1) s ≡ walkOf 1024 table pattern bytes start allowance)
-        × WalkKeeps (length pattern) (length bytes) (start .place) (walked Failure (left - 1) s)
+        → WalkIs table pattern bytes assigned₀ left₀ parts₀ frames₀ waiting₀ m₀ p₀ parts frames waiting (reached Failure (left - 1) assigned m p) s₀
     unfolding nextOf
-    walk-fails e = (sym (stepped Fails e), ended Failure tt (left - 1))
+    walk-fails e = ended Failure (left - 1) (stepped Fails e) tt tt
 
-    pub walk-closes : x ≡ Closes → Walking (closed s) left
+    -- Where it goes on
+
+    pub closes-inside : x ≡ Closes → (0 < m .inner) × (outer (getD frames (m .inner - 1) 0) < m .inner)
+    closes-inside e =
+        let n = eqb-false (m .inner) 0 (asked Closes e) in
+        (pos-of-ne-zero n, popped frames (m .inner) (t .walking .nodes) n (t .walking .holds .linked) .less)
+
+    pub walk-closes : x ≡ Closes
+        → Walking parts frames waiting (reopened p (frameIn (getD frames (m .inner - 1) 0)))
+        (closedMarks m (getD frames (m .inner - 1) 0)) assigned left
     unfolding nextOf
     walk-closes e =
-        let h : 0 < s .place .depth = kept Closes e in
-        let w = t .walking .within in
-        going (closed s) left (record { depth = omega (arith, w .depth); complements = w .complements; at = w .at; node = w .node })
-        (le-refl (s .place .at)) (omega arith) (stepped Closes e)
+        let w = t .walking in
+        let u = popped frames (m .inner) (w .nodes) (eqb-false (m .inner) 0 (asked Closes e)) (w .holds .linked) in
+        let shorter : length (w .nodes) ≡ suc (length (u .rest)) = ap length (u .is) in
+        record {
+          values = w .values;
+          nodes = u .rest;
+          put-by = w .put-by;
+          holds = holds-closed (length pattern) (length bytes) assigned parts frames waiting m p (w .values) (w .nodes) (w .put-by) (w .holds)
+              (u .rest)
+              (u .linked) (u .less);
+          room = w .room - 1;
+          enough = omega (arith, w .enough);
+          same = stepped Closes e
+              ∙ ap (λ (fs : List Frame). walkOf (w .room - 1) table pattern bytes (closedBy fs (state (w .values) fs (w .put-by) p)) left) (u .is);
+          kept = w .kept;
+          still = w .still;
+          more-frames = w .more-frames;
+          more-waiting = w .more-waiting;
+          same-first = w .same-first;
+          further = w .further;
+        }
 
-    pub walk-opens : (f : Frame) (p : Place) → x ≡ Opens f p → Walking (state (s .parts) (set (s .frames) (s .place .depth) f) (s .waiting) p) (left - 1)
+    pub walk-opens : (children elements width y : ℕ) → x ≡ Opens children elements width
+        → (frameIn y ≡ frame (p .children - 1) (p .elements - 1)) × (outer y ≡ m .inner)
+        → Walking parts (set frames (m .frames) y) waiting (entered p children elements width) (openedMarks m) assigned (left - 1)
     unfolding nextOf
-    walk-opens f p e = gone _ (left - 1) (kept (Opens f p) e .2) (stepped (Opens f p) e)
+    walk-opens children elements width y e is =
+        let w = t .walking in
+        let a = asked (Opens children elements width) e in
+        record {
+          values = w .values;
+          nodes = frame (p .children - 1) (p .elements - 1) ∷ w .nodes;
+          put-by = w .put-by;
+          holds = holds-opened (length pattern) (length bytes) assigned parts frames waiting m p (w .values) (w .nodes) (w .put-by) (w .holds)
+              left children elements width y a is;
+          room = w .room - 1;
+          enough = omega (arith, w .enough, a .some, a .at);
+          same = stepped (Opens children elements width) e;
+          kept = kept-frame assigned₀ assigned m₀ m parts₀ frames₀ waiting₀ parts frames waiting (w .kept) _ (w .more-frames);
+          still = w .still;
+          more-frames = omega (arith, w .more-frames);
+          more-waiting = w .more-waiting;
+          same-first = w .same-first;
+          further = omega (arith, w .further);
+        }
 
-    pub walk-passes : (p : Place) → x ≡ Passes p → Walking (state (s .parts) (s .frames) (s .waiting) p) (left - 1)
+    pub walk-passes : (elements size : ℕ) → x ≡ Passes elements size → Walking parts frames waiting (passed p elements 1 size) m assigned (left - 1)
     unfolding nextOf
-    walk-passes p e = gone _ (left - 1) (kept (Passes p) e .1) (stepped (Passes p) e)
+    walk-passes elements size e =
+        let w = t .walking in
+        let a = asked (Passes elements size) e in
+        record {
+          values = w .values;
+          nodes = w .nodes;
+          put-by = w .put-by;
+          holds = holds-passed (length pattern) (length bytes) assigned parts frames waiting m p (w .values) (w .nodes) (w .put-by) (w .holds)
+              left elements size a;
+          room = w .room - 1;
+          enough = omega (arith, w .enough, a .at);
+          same = stepped (Passes elements size) e;
+          kept = w .kept;
+          still = w .still;
+          more-frames = w .more-frames;
+          more-waiting = w .more-waiting;
+          same-first = w .same-first;
+          further = omega (arith, w .further);
+        }
 
-    pub walk-binds : (i : ℕ) (new : Part) (p : Place) → x ≡ Binds i new p → Walking (state (set (s .parts) i new) (s .frames) (s .waiting) p) (left - 1)
+    pub walk-binds : (v size : ℕ) → x ≡ Binds v size → Short pattern bytes
+        → Walking (set parts v (packed (boundPart (p .node) size 1))) frames waiting (passed p 1 1 size) m (bitOr assigned (2 ^ v)) (left - 1)
     unfolding nextOf
-    walk-binds i new p e = gone _ (left - 1) (kept (Binds i new p) e .2) (stepped (Binds i new p) e)
+    walk-binds v size e short =
+        let w = t .walking in
+        let a = asked (Binds v size) e in
+        record {
+          values = set (w .values) v (boundPart (p .node) size 1);
+          nodes = w .nodes;
+          put-by = w .put-by;
+          holds = holds-bound (length pattern) (length bytes) assigned parts frames waiting m p (w .values) (w .nodes) (w .put-by) (w .holds)
+              left v size (a .0 .below) (a .1) (omega (arith, w .holds .node, short .of-record));
+          room = w .room - 1;
+          enough = omega (arith, w .enough, a .1 .at);
+          same = stepped (Binds v size) e;
+          kept = kept-part assigned₀ assigned m₀ m parts₀ frames₀ waiting₀ parts frames waiting (w .kept) (w .still) v _
+              (λ l. free v l (a .0 .here) (a .0 .absent));
+          still = λ i b. bit-still assigned v i (w .still i b);
+          more-frames = w .more-frames;
+          more-waiting = w .more-waiting;
+          same-first = w .same-first;
+          further = omega (arith, w .further);
+        }
 
-    pub walk-puts : (c : PutBy) (p : Place) → x ≡ PutsBy c p
-        → Walking (state (s .parts) (s .frames) (set (s .waiting) (s .place .complements) c) p) (left - 1)
+    pub walk-puts : (n size y : ℕ) → x ≡ PutsBy n size → putByIn y ≡ putBy (p .at) (n - 1) (p .node)
+        → Walking parts frames (set waiting (m .waiting) y) (passed p 1 n size) (putByMarks m) assigned (left - 1)
     unfolding nextOf
-    walk-puts c p e = gone _ (left - 1) (kept (PutsBy c p) e .2) (stepped (PutsBy c p) e)
+    walk-puts n size y e is =
+        let w = t .walking in
+        let a = asked (PutsBy n size) e in
+        record {
+          values = w .values;
+          nodes = w .nodes;
+          put-by = w .put-by ++ putBy (p .at) (n - 1) (p .node) ∷ [];
+          holds = holds-put (length pattern) (length bytes) assigned parts frames waiting m p (w .values) (w .nodes) (w .put-by) (w .holds)
+              left n size y a is;
+          room = w .room - 1;
+          enough = omega (arith, w .enough, a .some, a .at);
+          same = stepped (PutsBy n size) e;
+          kept = kept-waiting assigned₀ assigned m₀ m parts₀ frames₀ waiting₀ parts frames waiting (w .kept) _ (w .more-waiting);
+          still = w .still;
+          more-frames = w .more-frames;
+          more-waiting = omega (arith, w .more-waiting);
+          same-first = w .same-first;
+          further = omega (arith, w .further);
+        }

@@ -1,44 +1,37 @@
 -- The search of levels: the whole pattern is a level, and so is the inside of each complement.
 use Prim.Native.Nat.{ℕ, zero, suc, _+_, _-_, _*_}
-use mathlib.Core.List.{List}
+use mathlib.Core.List.{List, [], _∷_}
 use mathlib.Core.Bool.{Bool, true, false, cond, _&&_}
-use lib.ListN.{length, drop, set, replicate}
-use lib.Dec.{ltb, leb, eqb}
+use lib.ListN.{length, take, drop, set, replicate}
+use lib.Dec.{leb, eqb}
 use Rattle.term.specs.Extent.{extentOf}
 use Rattle.term.specs.Part.{absent, boundPart}
 use Rattle.term.specs.declared.Part.{Part}
-use Rattle.search.specs.State.{frame, putBy, place, state, waitingAt, passed, walkOf}
-use Rattle.search.specs.declared.PutBy.{PutBy}
-use Rattle.search.specs.declared.State.{State}
+use Rattle.search.specs.State.{PutBy, State, Walked, place, state, passed, walkOf}
 use Rattle.search.specs.declared.Stop.{Stop}
 use Rattle.search.specs.declared.Stop.the-variants.{Failure, NoAllowance, NoPair, RunName}
-use Rattle.search.specs.declared.Walked.{Walked}
 use Rattle.search.specs.declared.Outcome.{Outcome}
 use Rattle.search.specs.declared.Outcome.the-variants.{Found, Failed, Spent}
 use Rattle.search.specs.declared.Reply.{Reply}
-use Rattle.search.specs.declared.Verdict.{Verdict}
 
 abbrev pub reply : Outcome → ℕ → List Part → Reply
 reply outcome left parts = record { outcome = outcome; left = left; parts = parts }
+
+-- only what is found shows parts
+abbrev pub failedAt : ℕ → Reply
+failedAt left = reply Failed left (replicate 48 absent)
+
+abbrev pub spentAt : ℕ → Reply
+spentAt left = reply Spent left (replicate 48 absent)
 
 abbrev pub failed : Outcome → Bool
 failed Found = false
 failed Failed = true
 failed Spent = false
 
-abbrev pub found : Outcome → Bool
-found Found = true
-found Failed = false
-found Spent = false
-
-abbrev pub turned : Outcome → Outcome
-turned Found = Failed
-turned Failed = Found
-turned Spent = Spent
-
 -- a level's start: one pattern node against the record node at a place
 abbrev pub startOf : List Part → ℕ → State
-startOf parts node = state parts (replicate 32 (frame 0 0)) (replicate 128 (putBy 0 0)) (place 0 0 1 1 0 node)
+startOf parts node = state parts [] [] (place 1 1 0 node)
 
 -- Run names. The search of the level, `lv`, goes on after each length.
 
@@ -53,44 +46,39 @@ orElse r next = cond (failed (r .outcome)) (next (r .left)) r
 
 -- an unassigned one tries a length, and k more after it where that fails
 unfoldable pub lengthsOf : (State → ℕ → Reply) → List ℕ → List ℕ → ℕ → State → ℕ → ℕ → ℕ → ℕ → Reply
-lengthsOf lv table bytes v s zero n size left = cond (eqb left 0) (reply Spent left (s .parts)) (lv (tried s v n size) (left - 1))
+lengthsOf lv table bytes v s zero n size left = cond (eqb left 0) (spentAt left) (lv (tried s v n size) (left - 1))
 lengthsOf lv table bytes v s (suc k) n size left =
-    cond (eqb left 0) (reply Spent left (s .parts))
+    cond (eqb left 0) (spentAt left)
     (orElse (lv (tried s v n size) (left - 1))
     (λ l. lengthsOf lv table bytes v s k (n + 1) (size + extentOf table (drop (s .place .node + size) bytes)) l))
 
--- Complements. A search of levels, `lv`, takes the pattern that starts at the level's own node.
+-- Complements. A search of levels, `lv`, takes the level's own part of the pattern.
 
-abbrev pub verdict : Outcome → ℕ → Verdict
-verdict outcome left = record { outcome = outcome; left = left }
+-- the inside is a level of its own, that starts from the assignments made so far
+unfoldable pub insideOf : (List ℕ → State → ℕ → Reply) → List ℕ → List Part → PutBy → ℕ → Reply
+insideOf lv pattern parts c left = lv (take (c .size) (drop (c .at + 1) pattern)) (startOf parts (c .node)) left
 
--- a complement holds where the search of its inside fails
-abbrev pub opposite : Reply → Verdict
-opposite r = verdict (turned (r .outcome)) (r .left)
+-- a complement holds where the search of its inside fails, and goes on with what comes next; the assignments made inside are dropped
+abbrev pub refuted : Outcome → ℕ → (ℕ → Reply) → Reply
+refuted Found left next = failedAt left
+refuted Failed left next = next left
+refuted Spent left next = spentAt left
 
--- the inside is a level of its own, that starts from the assignments made so far; those made inside are dropped
-unfoldable pub complementOf : (List ℕ → State → ℕ → Reply) → List ℕ → List ℕ → List Part → PutBy → ℕ → Verdict
-complementOf lv pattern bytes parts c left =
-    cond (ltb (c .at) (length pattern) && leb (c .node) (length bytes))
-    (opposite (lv (drop (c .at + 1) pattern) (startOf parts (c .node)) left))
-    (verdict Failed left)
+abbrev pub andThen : Reply → (ℕ → Reply) → Reply
+andThen r next = refuted (r .outcome) (r .left) next
 
--- a complement that holds goes on with what comes next
-abbrev pub andThen : Verdict → List Part → (ℕ → Reply) → Reply
-andThen c parts next = cond (found (c .outcome)) (next (c .left)) (reply (c .outcome) (c .left) parts)
-
--- those put by, in the order met, k in all from the one at i on: one that does not hold is a failure, and the later ones are not begun
-unfoldable pub complementsOf : (List ℕ → State → ℕ → Reply) → List ℕ → List ℕ → State → ℕ → ℕ → ℕ → Reply
-complementsOf lv pattern bytes s zero i left = reply Found left (s .parts)
-complementsOf lv pattern bytes s (suc k) i left =
-    andThen (complementOf lv pattern bytes (s .parts) (waitingAt s i) left) (s .parts) (λ l. complementsOf lv pattern bytes s k (i + 1) l)
+-- those put by, in the order met: one that does not hold is a failure, and the later ones are not begun
+unfoldable pub complementsOf : (List ℕ → State → ℕ → Reply) → List ℕ → List Part → List PutBy → ℕ → Reply
+complementsOf lv pattern parts [] left = reply Found left parts
+complementsOf lv pattern parts (c ∷ cs) left =
+    andThen (insideOf lv pattern parts c left) (λ l. complementsOf lv pattern parts cs l)
 
 -- Levels
 
 abbrev pub stopBy : Stop → (List ℕ → State → ℕ → Reply) → List ℕ → List ℕ → List ℕ → State → ℕ → Reply
-stopBy Failure lv table pattern bytes s left = reply Failed left (s .parts)
-stopBy NoAllowance lv table pattern bytes s left = reply Spent left (s .parts)
-stopBy NoPair lv table pattern bytes s left = complementsOf lv pattern bytes s (s .place .complements) 0 left
+stopBy Failure lv table pattern bytes s left = failedAt left
+stopBy NoAllowance lv table pattern bytes s left = spentAt left
+stopBy NoPair lv table pattern bytes s left = complementsOf lv pattern (s .parts) (s .waiting) left
 stopBy (RunName v) lv table pattern bytes s left = lengthsOf (lv pattern) table bytes v s (s .place .elements) 0 0 left
 
 unfoldable pub afterWalk : Walked → (List ℕ → State → ℕ → Reply) → List ℕ → List ℕ → List ℕ → Reply
@@ -98,7 +86,7 @@ afterWalk w lv table pattern bytes = stopBy (w .stop) lv table pattern bytes (w 
 
 -- the search of a level, with at most so many others within it
 unfoldable pub levelOf : ℕ → List ℕ → List ℕ → List ℕ → State → ℕ → Reply
-levelOf zero table bytes pattern s left = reply Failed left (s .parts)
+levelOf zero table bytes pattern s left = failedAt left
 levelOf (suc n) table bytes pattern s left =
     afterWalk (walkOf 1024 table pattern bytes s left) (levelOf n table bytes) table pattern bytes
 
@@ -111,4 +99,4 @@ unfoldable pub searchOf : List ℕ → List ℕ → List ℕ → ℕ → Reply
 searchOf table pattern bytes allowance =
     cond (leb (length pattern) 256 && leb (length bytes) 4096)
     (levelOf (levels pattern 0) table bytes pattern (startOf (replicate 48 absent) 0) allowance)
-    (reply Failed allowance (replicate 48 absent))
+    (failedAt allowance)

@@ -1,4 +1,6 @@
 -- The search on bytes.
 pub mod State
 pub mod Level
+pub mod Memory
 pub mod Bounds
+pub mod Replies

@@ -7,42 +7,33 @@ use term::entry_of;
 use term::extent;
 use term::same;
 ghost use mathlib.Core.Path.{_≡_};
-ghost use Prim.Native.Nat.{_+_, _≤_, _<_};
+ghost use Prim.Native.Nat.{_+_, _-_, _^_, _≤_, _<_};
 ghost use lib.ListN.{length};
+ghost use lib.Bits.{bitOr};
+ghost use lib.Dec.{eqb};
 ghost use Rattle.term.specs.Code.{VariableBelow};
-ghost use Rattle.search.specs.State.{passed, entered, reopened, variableAt, standsOf, overStep, openStep, symbolStep, assignedStep, nameStep, runStep, complementStep, pairStep, plainStep, stepOf, walked, walkOf};
-ghost use Rattle.search.specs.Level.{reply, failed, found, turned, startOf, tried, searchOf};
-ghost use Rattle.search.specs.Bounds.{Short, Within, Pair, Ready, Keeps, WalkKeeps, LevelIs, LengthsAre, ComplementIs, ComplementsAre};
+ghost use Rattle.search.specs.State.{place, frame, putBy, passed, entered, reopened, variableOf, variableAt, standsOf, overStep, symbolStep, assignedStep, nameStep, runStep, pairStep, plainStep, stepOf};
+ghost use Rattle.search.specs.Level.{failed, searchOf};
+ghost use Rattle.search.specs.Memory.{bit, packed, unpacked, partIn, frameIn, outer, putByIn, openedMarks, closedMarks, putByMarks, Holding};
+ghost use Rattle.search.specs.Bounds.{Short, Walks, StopsAt, Unassigned};
+ghost use Rattle.search.specs.Replies.{found, turned, partsIn, replyOf, inside, Free, Resting, Testable, LevelIs, RestIs, FollowIs, ComplementIs, ComplementsAre};
 
-// What is left of a node that is open: child patterns, and elements of the record.
-pub struct Frame {
-    pub children: u8,
-    pub elements: u8,
-}
-
-// A complement that was put by: where it stands in the pattern, and its node in the record.
-pub struct PutBy {
-    pub at: u16,
-    pub node: u16,
-}
-
-// Where the search of a level stands: how many nodes are open around, how many complements are put by,
-// what is left of the innermost open node, and the next byte of the pattern and of the record.
+// Where the search of a level stands: what is left of the innermost open node, child patterns and elements of the record, and the next byte of
+// the pattern and of the record.
 pub struct Place {
-    pub depth: usize,
-    pub complements: usize,
     pub children: u8,
     pub elements: u8,
     pub at: usize,
     pub node: usize,
 }
 
-// The state of a level: what each name and run name is assigned, the open nodes, the complements put by, and the place.
-pub struct State {
-    pub parts: [Part; 48],
-    pub frames: [Frame; 32],
-    pub waiting: [PutBy; 128],
-    pub place: Place,
+// How much of the buffers is in use: 1 more than the place of the innermost open node's frame, or 0, the frames, where the level's own
+// complements start, and the complements put by.
+pub struct Marks {
+    pub inner: usize,
+    pub frames: usize,
+    pub first: usize,
+    pub waiting: usize,
 }
 
 // Where the pairs of a level stop: at a failure, for want of allowance, with no pair left, or at a run name.
@@ -58,17 +49,19 @@ pub enum Step {
     Stops(Stop),
     Fails,
     Closes,
-    Opens(Frame, Place),
-    Passes(Place),
-    Binds(u8, Part, Place),
-    PutsBy(PutBy, Place),
+    Opens(u8, u8, usize),
+    Passes(u8, usize),
+    Binds(u8, usize),
+    PutsBy(usize, usize),
 }
 
-// Where the pairs of a level stopped, the allowance left, and the state there.
-pub struct Walked {
+// Where the pairs of a level stopped, the allowance left, and what the buffers then hold.
+pub struct Reached {
     pub stop: Stop,
     pub left: u32,
-    pub state: State,
+    pub assigned: u64,
+    pub marks: Marks,
+    pub place: Place,
 }
 
 // How a search ended.
@@ -85,81 +78,55 @@ pub struct Reply {
     pub parts: [Part; 48],
 }
 
-// How the search of a complement ended, and the allowance left.
-pub struct Verdict {
-    pub outcome: Outcome,
-    pub left: u32,
-}
-
 fn wide(b: u8) -> usize
     ensures { λ r. ⌜ r ≡ b ⌝ }
 {
     b as usize
 }
 
-impl Place {
-    // Past a child of the pattern that holds of so many elements.
-    fn passed(self, elements: u8, codes: usize, size: usize) -> Place
-        requires { ⌜ (0 < self .children) × (elements ≤ self .elements) × (self .at + codes ≤ 256) × (self .node + size ≤ 4096) ⌝ }
-        ensures { λ r. ⌜ r ≡ passed self elements codes size ⌝ }
-    {
-        Place {
-            depth: self.depth,
-            complements: self.complements,
-            children: self.children - 1,
-            elements: self.elements - elements,
-            at: self.at + codes,
-            node: self.node + size,
-        }
-    }
+// Whether the variable v is assigned.
+fn is_assigned(assigned: u64, v: u8) -> bool
+    requires { ⌜ v < 48 ⌝ }
+    ensures { λ r. ⌜ r ≡ bit assigned v ⌝ }
+{
+    (assigned >> v) % 2 == 1
+}
 
-    // Into the children of a node, past its own bytes.
-    fn entered(self, children: u8, elements: u8, width: usize) -> Place
-        requires { ⌜ (self .depth ≤ 32) × (self .at + width ≤ 256) × (self .node + width ≤ 4096) ⌝ }
-        ensures { λ r. ⌜ r ≡ entered self children elements width ⌝ }
-    {
-        Place {
-            depth: self.depth + 1,
-            complements: self.complements,
-            children: children,
-            elements: elements,
-            at: self.at + width,
-            node: self.node + width,
-        }
-    }
+// The variable v is assigned too.
+fn also(assigned: u64, v: usize) -> u64
+    requires { ⌜ v ≤ 48 ⌝ }
+    ensures { λ r. ⌜ r ≡ bitOr assigned (2 ^ v) ⌝ }
+{
+    assigned | (1 << v)
+}
 
-    // Back to what is left of the node around it.
-    fn reopened(self, frame: Frame) -> Place
-        requires { ⌜ 0 < self .depth ⌝ }
-        ensures { λ r. ⌜ r ≡ reopened self frame ⌝ }
-    {
-        Place {
-            depth: self.depth - 1,
-            complements: self.complements,
-            children: frame.children,
-            elements: frame.elements,
-            at: self.at,
-            node: self.node,
-        }
+// A part as one number, and back.
+fn packed(p: Part) -> u64
+    ensures { λ r. ⌜ r ≡ packed p ⌝ }
+{
+    p.offset as u64 + 65536 * p.length as u64 + 4294967296 * p.elements as u64
+}
+
+fn unpacked(x: u64) -> Part
+    ensures { λ r. ⌜ r ≡ unpacked x ⌝ }
+{
+    Part {
+        offset: (x % 65536) as u16,
+        length: (x / 65536 % 65536) as u16,
+        elements: (x / 4294967296 % 256) as u8,
     }
 }
 
-// The variable at a place of the pattern, 0 where there is none.
-fn variable_at(pattern: &[u8], at: usize) -> usize
-    ensures is { λ r. ⌜ r ≡ variableAt (now (pattern .entry)) at ⌝ }
-    ensures below { λ r. ⌜ r < 48 ⌝ }
+// What the variable v is assigned.
+fn part_of(parts: &[u64; 49], assigned: u64, v: u8) -> Part
+    requires { ⌜ v < 48 ⌝ }
+    ensures { λ r. ⌜ r ≡ partIn assigned (now (parts .entry)) v ⌝ }
 {
-    if pattern.len() <= at {
-        return 0;
+    if is_assigned(assigned, v) {
+        let i = wide(v);
+        return unpacked(parts[i]);
     }
-    let code = decode(pattern[at]);
-    match code {
-        Code::Name(v) => wide(v),
-        Code::Run(v) => wide(v),
-        Code::Symbol(_) => 0,
-        Code::Complement => 0,
-        Code::Refused => 0,
-    }
+    Part::ABSENT
 }
 
 // Whether the bytes of a part stand at the start of r.
@@ -174,45 +141,32 @@ fn stands(record: &[u8], part: Part, r: &[u8]) -> bool
 }
 
 // A node with no child pattern left: an element left over is a failure.
-fn over(place: Place) -> Step
-    ensures { λ r. ⌜ r ≡ overStep place ⌝ }
+fn over(alone: bool, elements: u8) -> Step
+    ensures { λ r. ⌜ r ≡ overStep alone elements ⌝ }
 {
-    if 0 < place.elements {
+    if 0 < elements {
         return Step::Stops(Stop::Failure);
     }
-    if place.depth == 0 {
+    if alone {
         return Step::Stops(Stop::NoPair);
     }
     Step::Closes
 }
 
-// A symbol's children are entered.
-fn enter(place: Place, children: u8, elements: u8, width: usize) -> Step
-    requires { ⌜ Pair width width place ⌝ }
-    ensures { λ r. ⌜ r ≡ openStep place children elements width ⌝ }
-{
-    let frame = Frame {
-        children: place.children - 1,
-        elements: place.elements - 1,
-    };
-    Step::Opens(frame, place.entered(children, elements, width))
-}
-
-// A symbol. Pattern and record start at the pair in q and r.
-fn symbol(table: &[u8], q: &[u8], r: &[u8], b: u8, place: Place) -> Step
-    requires { ⌜ Pair (length (now q)) (length (now r)) place ⌝ }
-    ensures is { λ x. ⌜ x ≡ symbolStep (now (table .entry)) (now (q .entry)) (now (r .entry)) b place ⌝ }
-    ensures keeps { λ x. ⌜ Keeps (place .at + length (now (q .entry))) (place .node + length (now (r .entry))) place 1 x ⌝ }
+// A symbol: its children are entered. Pattern and record start at the pair in q and r.
+fn symbol(table: &[u8], q: &[u8], r: &[u8], b: u8) -> Step
+    requires { ⌜ 0 < length (now r) ⌝ }
+    ensures { λ x. ⌜ x ≡ symbolStep (now (table .entry)) (now (q .entry)) (now (r .entry)) b ⌝ }
 {
     if b != r[0] {
         return Step::Fails;
     }
-    if 32 <= place.depth {
-        return Step::Fails;
-    }
     let entry = entry_of(table, b);
+    if entry == 0 {
+        return Step::Passes(1, 1);
+    }
     if entry != 255 {
-        return enter(place, entry, entry, 1);
+        return Step::Opens(entry, entry, 1);
     }
     if q.len() < 2 {
         return Step::Fails;
@@ -220,94 +174,64 @@ fn symbol(table: &[u8], q: &[u8], r: &[u8], b: u8, place: Place) -> Step
     if r.len() < 2 {
         return Step::Fails;
     }
-    enter(place, q[1], r[1], 2)
+    Step::Opens(q[1], r[1], 2)
 }
 
 // An assigned name or run name: the elements there must be its own.
-fn assigned(record: &[u8], part: Part, r: &[u8], place: Place) -> Step
-    requires { ⌜ (0 < place .children) × (place .depth ≤ 32) × (place .complements ≤ 128) × (place .at < 256) × (place .node + length (now r) ≤ 4096) ⌝ }
-    ensures is { λ x. ⌜ x ≡ assignedStep (now («record» .entry)) part (now (r .entry)) place ⌝ }
-    ensures keeps { λ x. ⌜ Keeps (place .at + 1) (place .node + length (now (r .entry))) place 1 x ⌝ }
+fn assigned_step(record: &[u8], part: Part, r: &[u8], elements: u8) -> Step
+    ensures { λ x. ⌜ x ≡ assignedStep (now («record» .entry)) part (now (r .entry)) elements ⌝ }
 {
-    if place.elements < part.elements {
+    if elements < part.elements {
         return Step::Fails;
     }
     if stands(record, part, r) {
-        return Step::Passes(place.passed(part.elements, 1, part.length as usize));
+        return Step::Passes(part.elements, part.length as usize);
     }
     Step::Fails
 }
 
 // A name: an unassigned one takes the node, an assigned one must equal it.
-fn name(table: &[u8], record: &[u8], r: &[u8], v: u8, part: Part, place: Place) -> Step
-    requires { ⌜ (v < 48) × Pair 1 (length (now r)) place ⌝ }
-    ensures is { λ x. ⌜ x ≡ nameStep (now (table .entry)) (now («record» .entry)) (now (r .entry)) v part place ⌝ }
-    ensures keeps { λ x. ⌜ Keeps (place .at + 1) (place .node + length (now (r .entry))) place 1 x ⌝ }
+fn name(table: &[u8], record: &[u8], r: &[u8], v: u8, part: Part, elements: u8) -> Step
+    ensures { λ x. ⌜ x ≡ nameStep (now (table .entry)) (now («record» .entry)) (now (r .entry)) v part elements ⌝ }
 {
     if part.is_absent() {
-        let size = extent(table, r);
-        return Step::Binds(
-            v,
-            Part::bound(place.node, size, 1),
-            place.passed(1, 1, size),
-        );
+        return Step::Binds(v, extent(table, r));
     }
-    assigned(record, part, r, place)
+    assigned_step(record, part, r, elements)
 }
 
 // A run name: an unassigned one leaves a choice, an assigned one tries its own length only.
-fn run_name(record: &[u8], v: u8, part: Part, place: Place, left: u32) -> Step
-    requires { ⌜ Ready 256 (length (now «record»)) v place × (length (now «record») ≤ 4096) ⌝ }
-    ensures is { λ x. ⌜ x ≡ runStep (now («record» .entry)) v part place left ⌝ }
-    ensures keeps { λ x. ⌜ Keeps (place .at + 1) (length (now («record» .entry))) place left x ⌝ }
+fn run_name(record: &[u8], v: u8, part: Part, r: &[u8], elements: u8, left: u32) -> Step
+    ensures { λ x. ⌜ x ≡ runStep (now («record» .entry)) v part (now (r .entry)) elements left ⌝ }
 {
-    let node = place.node;
     if part.is_absent() {
         return Step::Stops(Stop::RunName(v));
     }
     if left == 0 {
         return Step::Stops(Stop::NoAllowance);
     }
-    assigned(record, part, &record[node..], place)
+    assigned_step(record, part, r, elements)
 }
 
-// A complement is put by.
-fn put_by(table: &[u8], q: &[u8], r: &[u8], place: Place) -> Step
-    requires { ⌜ Pair (length (now q)) (length (now r)) place ⌝ }
-    ensures is { λ x. ⌜ x ≡ complementStep (now (table .entry)) (now (q .entry)) (now (r .entry)) place ⌝ }
-    ensures keeps { λ x. ⌜ Keeps (place .at + length (now (q .entry))) (place .node + length (now (r .entry))) place 1 x ⌝ }
-{
-    if 128 <= place.complements {
-        return Step::Fails;
-    }
-    let complement = PutBy {
-        at: place.at as u16,
-        node: place.node as u16,
-    };
-    let mut next = place.passed(1, extent(table, q), extent(table, r));
-    next.complements = place.complements + 1;
-    Step::PutsBy(complement, next)
-}
-
-// A pattern node is set against a record node.
+// A pattern node is set against a record node; a complement is put by.
 fn pair(
     table: &[u8],
     record: &[u8],
+    parts: &[u64; 49],
+    assigned: u64,
     code: Code,
     q: &[u8],
     r: &[u8],
-    part: Part,
-    place: Place,
+    elements: u8,
 ) -> Step
-    requires { ⌜ VariableBelow code × Pair (length (now q)) (length (now r)) place ⌝ }
-    ensures is { λ x. ⌜ x ≡ pairStep code (now (table .entry)) (now («record» .entry)) (now (q .entry)) (now (r .entry)) part place ⌝ }
-    ensures keeps { λ x. ⌜ Keeps (place .at + length (now (q .entry))) (place .node + length (now (r .entry))) place 1 x ⌝ }
+    requires { ⌜ VariableBelow code × (0 < length (now r)) ⌝ }
+    ensures { λ x. ⌜ x ≡ pairStep code (now (table .entry)) (now («record» .entry)) (now (q .entry)) (now (r .entry)) (partIn assigned (now (parts .entry)) (variableOf code)) elements ⌝ }
 {
     match code {
-        Code::Symbol(b) => symbol(table, q, r, b, place),
-        Code::Name(v) => name(table, record, r, v, part, place),
+        Code::Symbol(b) => symbol(table, q, r, b),
+        Code::Name(v) => name(table, record, r, v, part_of(parts, assigned, v), elements),
         Code::Run(_) => Step::Fails,
-        Code::Complement => put_by(table, q, r, place),
+        Code::Complement => Step::PutsBy(extent(table, q), extent(table, r)),
         Code::Refused => Step::Fails,
     }
 }
@@ -317,14 +241,14 @@ fn plain(
     table: &[u8],
     pattern: &[u8],
     record: &[u8],
+    parts: &[u64; 49],
+    assigned: u64,
     code: Code,
-    part: Part,
     place: Place,
     left: u32,
 ) -> Step
-    requires { ⌜ VariableBelow code × (0 < place .children) × (place .at < length (now pattern)) × Within (length (now pattern)) (length (now «record»)) place × Short (now pattern) (now «record») ⌝ }
-    ensures is { λ x. ⌜ x ≡ plainStep code (now (table .entry)) (now (pattern .entry)) (now («record» .entry)) part place left ⌝ }
-    ensures keeps { λ x. ⌜ Keeps (length (now (pattern .entry))) (length (now («record» .entry))) place left x ⌝ }
+    requires { ⌜ VariableBelow code × (place .at ≤ length (now pattern)) ⌝ }
+    ensures { λ x. ⌜ x ≡ plainStep code (now (table .entry)) (now (pattern .entry)) (now («record» .entry)) (partIn assigned (now (parts .entry)) (variableOf code)) place left ⌝ }
 {
     let at = place.at;
     let node = place.node;
@@ -340,95 +264,212 @@ fn plain(
     pair(
         table,
         record,
+        parts,
+        assigned,
         code,
         &pattern[at..],
         &record[node..],
-        part,
-        place,
+        place.elements,
     )
 }
 
-// What the next turn does. The variable at this place of the pattern, if there is one, has the part given.
-fn step_of(table: &[u8], pattern: &[u8], record: &[u8], part: Part, place: Place, left: u32) -> Step
-    requires { ⌜ Within (length (now pattern)) (length (now «record»)) place × Short (now pattern) (now «record») ⌝ }
-    ensures is { λ x. ⌜ x ≡ stepOf (now (table .entry)) (now (pattern .entry)) (now («record» .entry)) part place left ⌝ }
-    ensures keeps { λ x. ⌜ Keeps (length (now (pattern .entry))) (length (now («record» .entry))) place left x ⌝ }
+// What the next turn does.
+fn step_of(
+    table: &[u8],
+    pattern: &[u8],
+    record: &[u8],
+    parts: &[u64; 49],
+    assigned: u64,
+    marks: Marks,
+    place: Place,
+    left: u32,
+) -> Step
+    requires { ⌜ place .node ≤ length (now «record») ⌝ }
+    ensures { λ x. ⌜ x ≡ stepOf (eqb (marks .inner) 0) (now (table .entry)) (now (pattern .entry)) (now («record» .entry)) (partIn assigned (now (parts .entry)) (variableAt (now (pattern .entry)) (place .at))) place left ⌝ }
 {
     if place.children == 0 {
-        return over(place);
+        return over(marks.inner == 0, place.elements);
     }
     let at = place.at;
     if pattern.len() <= at {
         return Step::Stops(Stop::Failure);
     }
+    let node = place.node;
     let code = decode(pattern[at]);
     match code {
-        Code::Run(v) => run_name(record, v, part, place, left),
+        Code::Run(v) => run_name(
+            record,
+            v,
+            part_of(parts, assigned, v),
+            &record[node..],
+            place.elements,
+            left,
+        ),
         Code::Symbol(_) | Code::Name(_) | Code::Complement => {
-            plain(table, pattern, record, code, part, place, left)
+            plain(table, pattern, record, parts, assigned, code, place, left)
         }
         Code::Refused => Step::Stops(Stop::Failure),
     }
 }
 
-fn stopped(stop: Stop, left: u32, s: State) -> Walked
-    ensures { λ r. ⌜ r ≡ walked stop left s ⌝ }
-{
-    Walked {
-        stop: stop,
-        left: left,
-        state: s,
+impl Place {
+    // Past a child of the pattern that holds of so many elements.
+    fn passed(self, elements: u8, codes: usize, size: usize) -> Place
+        requires { ⌜ (0 < self .children) × (elements ≤ self .elements) × (self .at + codes ≤ 256) × (self .node + size ≤ 4096) ⌝ }
+        ensures { λ r. ⌜ r ≡ passed self elements codes size ⌝ }
+    {
+        Place {
+            children: self.children - 1,
+            elements: self.elements - elements,
+            at: self.at + codes,
+            node: self.node + size,
+        }
+    }
+
+    // Into the children of a node, past its own bytes.
+    fn entered(self, children: u8, elements: u8, width: usize) -> Place
+        requires { ⌜ (self .at + width ≤ 256) × (self .node + width ≤ 4096) ⌝ }
+        ensures { λ r. ⌜ r ≡ entered self children elements width ⌝ }
+    {
+        Place {
+            children: children,
+            elements: elements,
+            at: self.at + width,
+            node: self.node + width,
+        }
+    }
+
+    // Back to what is left of the node around it.
+    fn reopened(self, f: u32) -> Place
+        ensures { λ r. ⌜ r ≡ reopened self (frameIn f) ⌝ }
+    {
+        Place {
+            children: (f % 256) as u8,
+            elements: (f / 256 % 256) as u8,
+            at: self.at,
+            node: self.node,
+        }
+    }
+
+    // What is left of the node that is open here, once a child of it is entered, and the link to the one around it.
+    fn frame(self, inner: usize) -> u32
+        requires { ⌜ (0 < self .children) × (0 < self .elements) × (inner ≤ 256) ⌝ }
+        ensures { λ r. ⌜ (frameIn r ≡ frame (self .children - 1) (self .elements - 1)) × (outer r ≡ inner) ⌝ }
+    {
+        ((self.children - 1) as usize + 256 * (self.elements - 1) as usize + 65536 * inner) as u32
+    }
+
+    // The complement here, of so many bytes.
+    fn complement(self, codes: usize) -> u32
+        requires { ⌜ (0 < codes) × (self .at + codes ≤ 256) × (self .node ≤ 4096) ⌝ }
+        ensures { λ r. ⌜ putByIn r ≡ putBy (self .at) (codes - 1) (self .node) ⌝ }
+    {
+        (self.at + 256 * (codes - 1) + 65536 * self.node) as u32
+    }
+}
+
+impl Marks {
+    // One more node is open.
+    fn opened(self) -> Marks
+        requires { ⌜ self .frames < 256 ⌝ }
+        ensures { λ r. ⌜ r ≡ openedMarks self ⌝ }
+    {
+        Marks {
+            inner: self.frames + 1,
+            frames: self.frames + 1,
+            first: self.first,
+            waiting: self.waiting,
+        }
+    }
+
+    // The innermost node, of this frame, is closed.
+    fn closed(self, f: u32) -> Marks
+        ensures { λ r. ⌜ r ≡ closedMarks self f ⌝ }
+    {
+        Marks {
+            inner: (f / 65536) as usize,
+            frames: self.frames,
+            first: self.first,
+            waiting: self.waiting,
+        }
+    }
+
+    // One more complement is put by.
+    fn put_by(self) -> Marks
+        requires { ⌜ self .waiting < 256 ⌝ }
+        ensures { λ r. ⌜ r ≡ putByMarks self ⌝ }
+    {
+        Marks {
+            inner: self.inner,
+            frames: self.frames,
+            first: self.first,
+            waiting: self.waiting + 1,
+        }
     }
 }
 
 // The pairs of a level that leave no choice.
-fn walk(table: &[u8], pattern: &[u8], record: &[u8], start: State, allowance: u32) -> Walked
-    requires { ⌜ Within (length (now pattern)) (length (now «record»)) (start .place) × Short (now pattern) (now «record») ⌝ }
-    ensures is { λ r. ⌜ r ≡ walkOf 1024 (now (table .entry)) (now (pattern .entry)) (now («record» .entry)) start allowance ⌝ }
-    ensures keeps { λ r. ⌜ WalkKeeps (length (now (pattern .entry))) (length (now («record» .entry))) (start .place) r ⌝ }
+fn walk(
+    table: &[u8],
+    pattern: &[u8],
+    record: &[u8],
+    parts: &mut [u64; 49],
+    frames: &mut [u32; 256],
+    waiting: &mut [u32; 256],
+    mut assigned: u64,
+    mut left: u32,
+    mut marks: Marks,
+    mut place: Place,
+) -> Reached
+    requires { ⌜ Holding (length (now pattern)) (length (now «record»)) assigned (now parts) (now frames) (now waiting) marks place × Short (now pattern) (now «record») ⌝ }
+    ensures { λ r. ⌜ Walks (now (table .entry)) (now (pattern .entry)) (now («record» .entry)) assigned left (now (parts .entry)) (now (frames .entry)) (now (waiting .entry)) marks place (now (parts .exit)) (now (frames .exit)) (now (waiting .exit)) r ⌝ }
 {
-    let mut s = start;
-    let mut left = allowance;
-    loop {
-        let place = s.place;
-        let v = variable_at(pattern, place.at);
-        let part = s.parts[v];
-        let step = step_of(table, pattern, record, part, place, left);
+    let stop = loop {
+        let step = step_of(table, pattern, record, parts, assigned, marks, place, left);
         match step {
-            Step::Stops(stop) => {
-                return stopped(stop, left, s);
-            }
+            Step::Stops(stop) => break stop,
             Step::Fails => {
-                return stopped(Stop::Failure, left - 1, s);
+                left = left - 1;
+                break Stop::Failure;
             }
             Step::Closes => {
-                let around = place.depth - 1;
-                let frame = s.frames[around];
-                s.place = place.reopened(frame);
+                let f = frames[marks.inner - 1];
+                place = place.reopened(f);
+                marks = marks.closed(f);
             }
-            Step::Opens(frame, next) => {
-                let depth = place.depth;
-                s.frames[depth] = frame;
-                s.place = next;
+            Step::Opens(children, elements, width) => {
                 left = left - 1;
+                let i = marks.frames;
+                frames[i] = place.frame(marks.inner);
+                place = place.entered(children, elements, width);
+                marks = marks.opened();
             }
-            Step::Passes(next) => {
-                s.place = next;
+            Step::Passes(elements, size) => {
                 left = left - 1;
+                place = place.passed(elements, 1, size);
             }
-            Step::Binds(name, bound, next) => {
-                let i = wide(name);
-                s.parts[i] = bound;
-                s.place = next;
+            Step::Binds(v, size) => {
                 left = left - 1;
+                let i = wide(v);
+                parts[i] = packed(Part::bound(place.node, size, 1));
+                assigned = also(assigned, i);
+                place = place.passed(1, 1, size);
             }
-            Step::PutsBy(complement, next) => {
-                let i = place.complements;
-                s.waiting[i] = complement;
-                s.place = next;
+            Step::PutsBy(codes, size) => {
                 left = left - 1;
+                let i = marks.waiting;
+                waiting[i] = place.complement(codes);
+                place = place.passed(1, codes, size);
+                marks = marks.put_by();
             }
         }
+    };
+    Reached {
+        stop: stop,
+        left: left,
+        assigned: assigned,
+        marks: marks,
+        place: place,
     }
 }
 
@@ -463,167 +504,336 @@ fn opposite(outcome: Outcome) -> Outcome
     }
 }
 
-// A level's start: one pattern node against the record node at a place.
-fn start(parts: [Part; 48], node: usize) -> State
-    ensures { λ r. ⌜ r ≡ startOf parts node ⌝ }
-{
-    State {
-        parts: parts,
-        frames: [Frame {
-            children: 0,
-            elements: 0,
-        }; 32],
-        waiting: [PutBy { at: 0, node: 0 }; 128],
-        place: Place {
-            depth: 0,
-            complements: 0,
+impl Place {
+    // A level's start: one pattern node against the record node at a place.
+    fn start(node: usize) -> Place
+        ensures { λ r. ⌜ r ≡ place 1 1 0 node ⌝ }
+    {
+        Place {
             children: 1,
             elements: 1,
             at: 0,
             node: node,
-        },
+        }
     }
 }
 
-// The run name is assigned n elements of so many bytes.
-fn tried(s: State, v: usize, n: u8, size: usize) -> State
-    requires { ⌜ (v < 48) × (0 < s .place .children) × (n ≤ s .place .elements) × (s .place .at < 256) × (s .place .node + size ≤ 4096) ⌝ }
-    ensures { λ r. ⌜ r ≡ tried s v n size ⌝ }
-{
-    let place = s.place;
-    let mut next = s;
-    next.parts[v] = Part::bound(place.node, size, n);
-    next.place = place.passed(n, 1, size);
-    next
-}
+impl Marks {
+    // Nothing is in use.
+    const NONE: Marks = Marks {
+        inner: 0,
+        frames: 0,
+        first: 0,
+        waiting: 0,
+    };
 
-// The reply of a level that ended in this state.
-fn ended(outcome: Outcome, left: u32, s: State) -> Reply
-    ensures { λ r. ⌜ r ≡ reply outcome left (s .parts) ⌝ }
-{
-    let parts = s.parts;
-    Reply {
-        outcome: outcome,
-        left: left,
-        parts: parts,
+    // A level's start, with these in use.
+    fn inside(self) -> Marks
+        ensures { λ r. ⌜ r ≡ inside self ⌝ }
+    {
+        Marks {
+            inner: 0,
+            frames: self.frames,
+            first: self.waiting,
+            waiting: self.waiting,
+        }
     }
 }
 
-// The search of a level.
-fn level(table: &[u8], pattern: &[u8], record: &[u8], s: State, allowance: u32) -> Reply
-    requires { ⌜ Within (length (now pattern)) (length (now «record»)) (s .place) × Short (now pattern) (now «record») ⌝ }
-    ensures { λ r. ⌜ LevelIs (now (table .entry)) (now (pattern .entry)) (now («record» .entry)) s allowance r ⌝ }
+// The variable v is given 0 up to `most` of the elements from a place on, until the rest of the level does not fail. At a level's start v is 48, for
+// none, and `most` 0.
+fn level(
+    table: &[u8],
+    pattern: &[u8],
+    record: &[u8],
+    parts: &mut [u64; 49],
+    frames: &mut [u32; 256],
+    waiting: &mut [u32; 256],
+    assigned: &mut u64,
+    left: &mut u32,
+    v: usize,
+    most: u8,
+    marks: Marks,
+    start: Place,
+) -> Outcome
+    requires { ⌜ Holding (length (now pattern)) (length (now «record»)) (now assigned) (now parts) (now frames) (now waiting) marks start × Free (now assigned) v × (most ≤ start .elements) × Short (now pattern) (now «record») ⌝ }
+    ensures { λ r. ⌜ LevelIs (now (table .entry)) (now (pattern .entry)) (now («record» .entry)) (now (assigned .entry)) (now (left .entry)) (now (parts .entry)) (now (frames .entry)) (now (waiting .entry)) v most marks start r (now (assigned .exit)) (now (left .exit)) (now (parts .exit)) (now (frames .exit)) (now (waiting .exit)) ⌝ }
 {
-    let walked = walk(table, pattern, record, s, allowance);
-    let stop = walked.stop;
-    let left = walked.left;
-    let end = walked.state;
-    match stop {
-        Stop::NoPair => complements(table, pattern, record, end, left),
-        Stop::RunName(v) => lengths(table, pattern, record, v, end, left),
-        Stop::Failure => ended(Outcome::Failed, left, end),
-        Stop::NoAllowance => ended(Outcome::Spent, left, end),
-    }
-}
-
-// Lengths 0 up to the elements left are tried.
-fn lengths(table: &[u8], pattern: &[u8], record: &[u8], v: u8, s: State, allowance: u32) -> Reply
-    requires { ⌜ Ready (length (now pattern)) (length (now «record»)) v (s .place) × Short (now pattern) (now «record») ⌝ }
-    ensures { λ r. ⌜ LengthsAre (now (table .entry)) (now (pattern .entry)) (now («record» .entry)) v s allowance r ⌝ }
-{
-    let i = wide(v);
-    let elements = s.place.elements;
-    let node = s.place.node;
-    let mut left = allowance;
+    let seen = also(*assigned, v);
+    let node = start.node;
+    let mut place = start;
     let mut n: u8 = 0;
-    let mut size: usize = 0;
-    let reply = loop {
-        if left == 0 {
-            break ended(Outcome::Spent, left, s);
+    let outcome = loop {
+        *assigned = seen;
+        parts[v] = packed(Part::bound(node, place.node - node, n));
+        let x = rest(
+            table,
+            pattern,
+            record,
+            parts,
+            frames,
+            waiting,
+            assigned,
+            left,
+            marks,
+            place,
+        );
+        if !is_failed(x) {
+            break x;
         }
-        let r = level(table, pattern, record, tried(s, i, n, size), left - 1);
-        if elements <= n {
-            break r;
+        if most <= n {
+            break x;
         }
-        let outcome = r.outcome;
-        if !is_failed(outcome) {
-            break r;
+        if *left == 0 {
+            break Outcome::Spent;
         }
-        left = r.left;
-        let at = node + size;
-        size = size + extent(table, &record[at..]);
+        *left = *left - 1;
+        let at = place.node;
+        place.node = at + extent(table, &record[at..]);
+        place.elements = place.elements - 1;
         n = n + 1;
     };
-    reply
+    outcome
 }
 
-// A complement holds where the search of its inside fails. The inside is a level of its own, that starts from the assignments made so far.
+// The rest of a level from a place: the pairs that leave no choice, and what follows them.
+fn rest(
+    table: &[u8],
+    pattern: &[u8],
+    record: &[u8],
+    parts: &mut [u64; 49],
+    frames: &mut [u32; 256],
+    waiting: &mut [u32; 256],
+    assigned: &mut u64,
+    left: &mut u32,
+    marks: Marks,
+    start: Place,
+) -> Outcome
+    requires { ⌜ Holding (length (now pattern)) (length (now «record»)) (now assigned) (now parts) (now frames) (now waiting) marks start × Short (now pattern) (now «record») ⌝ }
+    ensures { λ r. ⌜ RestIs (now (table .entry)) (now (pattern .entry)) (now («record» .entry)) (now (assigned .entry)) (now (left .entry)) (now (parts .entry)) (now (frames .entry)) (now (waiting .entry)) marks start r (now (assigned .exit)) (now (left .exit)) (now (parts .exit)) (now (frames .exit)) (now (waiting .exit)) ⌝ }
+{
+    let w = walk(
+        table,
+        pattern,
+        record,
+        parts,
+        frames,
+        waiting,
+        *assigned,
+        *left,
+        marks,
+        start,
+    );
+    let stop = w.stop;
+    let ends = w.marks;
+    let end = w.place;
+    *assigned = w.assigned;
+    *left = w.left;
+    follow(
+        table,
+        pattern,
+        record,
+        parts,
+        frames,
+        waiting,
+        assigned,
+        left,
+        stop,
+        ends,
+        end,
+    )
+}
+
+// What comes where the pairs stop: nothing, the complements put by, or a run name's lengths.
+fn follow(
+    table: &[u8],
+    pattern: &[u8],
+    record: &[u8],
+    parts: &mut [u64; 49],
+    frames: &mut [u32; 256],
+    waiting: &mut [u32; 256],
+    assigned: &mut u64,
+    left: &mut u32,
+    stop: Stop,
+    marks: Marks,
+    place: Place,
+) -> Outcome
+    requires { ⌜ Holding (length (now pattern)) (length (now «record»)) (now assigned) (now parts) (now frames) (now waiting) marks place × StopsAt (length (now pattern)) place stop × Unassigned (now assigned) stop × Short (now pattern) (now «record») ⌝ }
+    ensures { λ r. ⌜ FollowIs (now (table .entry)) (now (pattern .entry)) (now («record» .entry)) (now (assigned .entry)) (now (left .entry)) (now (parts .entry)) (now (frames .entry)) (now (waiting .entry)) stop marks place r (now (assigned .exit)) (now (left .exit)) (now (parts .exit)) (now (frames .exit)) (now (waiting .exit)) ⌝ }
+{
+    match stop {
+        Stop::Failure => Outcome::Failed,
+        Stop::NoAllowance => Outcome::Spent,
+        Stop::NoPair => complements(
+            table,
+            pattern,
+            record,
+            parts,
+            frames,
+            waiting,
+            assigned,
+            left,
+            marks,
+        ),
+        Stop::RunName(v) => {
+            if *left == 0 {
+                return Outcome::Spent;
+            }
+            *left = *left - 1;
+            level(
+                table,
+                pattern,
+                record,
+                parts,
+                frames,
+                waiting,
+                assigned,
+                left,
+                wide(v),
+                place.elements,
+                marks,
+                place.passed(0, 1, 0),
+            )
+        }
+    }
+}
+
+// The inside of a complement is a level of its own, that starts from the assignments made so far.
 fn complement(
     table: &[u8],
     pattern: &[u8],
     record: &[u8],
-    parts: [Part; 48],
-    c: PutBy,
-    left: u32,
-) -> Verdict
-    requires { ⌜ Short (now pattern) (now «record») ⌝ }
-    ensures { λ r. ⌜ ComplementIs (now (table .entry)) (now (pattern .entry)) (now («record» .entry)) parts c left r ⌝ }
+    parts: &mut [u64; 49],
+    frames: &mut [u32; 256],
+    waiting: &mut [u32; 256],
+    assigned: &mut u64,
+    left: &mut u32,
+    c: u32,
+    marks: Marks,
+) -> Outcome
+    requires { ⌜ Testable (length (now pattern)) (length (now «record»)) (now assigned) (now parts) (now frames) (now waiting) marks (putByIn c) × Short (now pattern) (now «record») ⌝ }
+    ensures { λ r. ⌜ ComplementIs (now (table .entry)) (now (pattern .entry)) (now («record» .entry)) (now (assigned .entry)) (now (left .entry)) (now (parts .entry)) (now (frames .entry)) (now (waiting .entry)) (putByIn c) marks r (now (left .exit)) (now (parts .exit)) (now (frames .exit)) (now (waiting .exit)) ⌝ }
 {
-    let at = c.at as usize;
-    let node = c.node as usize;
-    if pattern.len() <= at {
-        return Verdict {
-            outcome: Outcome::Failed,
-            left: left,
-        };
-    }
-    if record.len() < node {
-        return Verdict {
-            outcome: Outcome::Failed,
-            left: left,
-        };
-    }
-    let inside = at + 1;
-    let r = level(table, &pattern[inside..], record, start(parts, node), left);
-    let outcome = r.outcome;
-    Verdict {
-        outcome: opposite(outcome),
-        left: r.left,
-    }
+    let from = (c % 256) as usize + 1;
+    let stop = from + (c / 256 % 256) as usize;
+    let node = (c / 65536) as usize;
+    opposite(level(
+        table,
+        &pattern[from..stop],
+        record,
+        parts,
+        frames,
+        waiting,
+        assigned,
+        left,
+        48,
+        0,
+        marks.inside(),
+        Place::start(node),
+    ))
 }
 
 // The complements that were put by, in the order met.
-fn complements(table: &[u8], pattern: &[u8], record: &[u8], s: State, allowance: u32) -> Reply
-    requires { ⌜ Within (length (now pattern)) (length (now «record»)) (s .place) × Short (now pattern) (now «record») ⌝ }
-    ensures { λ r. ⌜ ComplementsAre (now (table .entry)) (now (pattern .entry)) (now («record» .entry)) s allowance r ⌝ }
+fn complements(
+    table: &[u8],
+    pattern: &[u8],
+    record: &[u8],
+    parts: &mut [u64; 49],
+    frames: &mut [u32; 256],
+    waiting: &mut [u32; 256],
+    assigned: &mut u64,
+    left: &mut u32,
+    marks: Marks,
+) -> Outcome
+    requires { ⌜ Resting (length (now pattern)) (length (now «record»)) (now assigned) (now parts) (now frames) (now waiting) marks × Short (now pattern) (now «record») ⌝ }
+    ensures { λ r. ⌜ ComplementsAre (now (table .entry)) (now (pattern .entry)) (now («record» .entry)) (now (assigned .entry)) (now (left .entry)) (now (parts .entry)) (now (frames .entry)) (now (waiting .entry)) marks r (now (assigned .exit)) (now (left .exit)) (now (parts .exit)) (now (frames .exit)) (now (waiting .exit)) ⌝ }
 {
-    let parts = s.parts;
-    let many = s.place.complements;
-    let mut left = allowance;
-    let mut i: usize = 0;
-    while i < many {
-        let c = s.waiting[i];
-        let verdict = complement(table, pattern, record, parts, c, left);
-        let outcome = verdict.outcome;
-        left = verdict.left;
-        if !is_found(outcome) {
-            return ended(outcome, left, s);
+    let outside = *assigned;
+    let end = marks.waiting;
+    let mut i = marks.first;
+    while i < end {
+        let c = waiting[i];
+        let x = complement(
+            table,
+            pattern,
+            record,
+            parts,
+            frames,
+            waiting,
+            assigned,
+            left,
+            c,
+            marks,
+        );
+        *assigned = outside;
+        if !is_found(x) {
+            return x;
         }
         i = i + 1;
     }
-    ended(Outcome::Found, left, s)
+    Outcome::Found
+}
+
+// What each name and run name is assigned.
+fn shown(parts: &[u64; 49], assigned: u64) -> [Part; 48]
+    ensures { λ r. ⌜ r ≡ partsIn assigned (now (parts .entry)) 0 48 ⌝ }
+{
+    let mut r = [Part::ABSENT; 48];
+    let mut i: u8 = 0;
+    while i < 48 {
+        let j = wide(i);
+        r[j] = part_of(parts, assigned, i);
+        i = i + 1;
+    }
+    r
+}
+
+// Parts are shown only where they are found.
+fn replied(outcome: Outcome, left: u32, parts: &[u64; 49], assigned: u64) -> Reply
+    ensures { λ r. ⌜ r ≡ replyOf outcome left assigned (now (parts .entry)) ⌝ }
+{
+    if is_found(outcome) {
+        return Reply {
+            outcome: outcome,
+            left: left,
+            parts: shown(parts, assigned),
+        };
+    }
+    Reply {
+        outcome: outcome,
+        left: left,
+        parts: [Part::ABSENT; 48],
+    }
 }
 
 // The search of a whole pattern on a record. A pattern or a record over its limit is never found.
 pub fn search(table: &[u8], pattern: &[u8], record: &[u8], allowance: u32) -> Reply
     ensures { λ r. ⌜ r ≡ searchOf (now (table .entry)) (now (pattern .entry)) (now («record» .entry)) allowance ⌝ }
 {
-    let s = start([Part::ABSENT; 48], 0);
+    let mut parts = [0u64; 49];
+    let mut frames = [0u32; 256];
+    let mut waiting = [0u32; 256];
+    let mut assigned: u64 = 0;
+    let mut left = allowance;
     if 256 < pattern.len() {
-        return ended(Outcome::Failed, allowance, s);
+        return replied(Outcome::Failed, left, &parts, assigned);
     }
     if 4096 < record.len() {
-        return ended(Outcome::Failed, allowance, s);
+        return replied(Outcome::Failed, left, &parts, assigned);
     }
-    level(table, pattern, record, s, allowance)
+    let outcome = level(
+        table,
+        pattern,
+        record,
+        &mut parts,
+        &mut frames,
+        &mut waiting,
+        &mut assigned,
+        &mut left,
+        48,
+        0,
+        Marks::NONE,
+        Place::start(0),
+    );
+    replied(outcome, left, &parts, assigned)
 }

@@ -137,7 +137,7 @@ module _ (table : List ℕ) where
         let b = one-run records ts us left left′ inList inList′ bs cs (g .1) (h .1) (omega arith) (a .1) in
         (ap₂ more (a .0) (b .0), b .1)
 
-  branch-some : (t : Tree) (bs : List ℕ) → 0 < length (encode table t bs)
+  pub branch-some : (t : Tree) (bs : List ℕ) → 0 < length (encode table t bs)
   unfolding encode own
   branch-some (branch c ts) bs = omega arith
 

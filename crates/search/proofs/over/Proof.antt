@@ -7,19 +7,15 @@ use Rattle.search.proofs.over.Tie as tie
 
 returns : tie.Need-returns
 unfolding overStep
-returns c = rw (ne-eqb (c .before .before .args .place .elements) 0 (λ e. omega arith))
+returns c = rw (ne-eqb (c .before .args .elements) 0 (λ e. omega arith))
 
 returns-2 : tie.Need-returns-2
 unfolding overStep
-returns-2 c =
-    let place = c .before .before .before .before .args .place in
-    rw (eq-eqb (place .elements) 0 (omega arith), eq-eqb (place .depth) 0 (c .if2 .taken))
+returns-2 c = rw (eq-eqb (c .before .before .args .elements) 0 (omega arith), c .if2 .taken)
 
 returns-3 : tie.Need-returns-3
 unfolding overStep
-returns-3 c =
-    let place = c .before .before .before .before .args .place in
-    rw (eq-eqb (place .elements) 0 (omega arith), ne-eqb (place .depth) 0 (c .if2 .left))
+returns-3 c = rw (eq-eqb (c .before .before .args .elements) 0 (omega arith), c .if2 .left)
 
 pub over-spec : {M : Type 1} → statement M
 over-spec = tie.close (tie.spec returns returns-2 returns-3)

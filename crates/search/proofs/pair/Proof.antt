@@ -1,12 +1,8 @@
--- `search::pair` meets its contract, each arm by its own function. Assumes nothing.
-use Rattle.search.proofs.Steps.{keeps-more}
-use Rattle.search.specs.State.{pairStep}
-use Rattle.term.specs.Code.{VariableBelow}
-use lib.ListN.{length}
-use Prim.Native.Nat.{_+_}
-use native.Mathlib.Omega.{arith}
+-- `search::pair` meets its contract. Assumes nothing.
 use mathlib.Core.Path.{subst}
 use borrow.Author.Needs.{needs}
+use Rattle.term.specs.Code.{VariableBelow}
+use Rattle.search.specs.State.{pairStep}
 use Rattle.search.proofs.pair.Statement.{statement}
 use Rattle.search.proofs.pair.Tie as tie
 
@@ -19,11 +15,12 @@ symbol-requires c κs = search needs
 enum-known-code-2 : tie.Need-enum-known-code-2
 enum-known-code-2 c = search needs
 
-name-requires : tie.Need-name-requires
+part-of-requires : tie.Need-part-of-requires
 unfolding VariableBelow
-name-requires c κs =
-    let args = c .before .before .before .before .before .before .before .args in
-    (subst VariableBelow (c .before .code2 .given .1) (c .before .before .before .before .before .before .before .pre .0), search needs)
+part-of-requires c κs = subst VariableBelow (c .before .code2 .given .1) (c .before .before .before .before .before .before .before .pre .0)
+
+name-requires : tie.Need-name-requires
+name-requires c κs = search needs
 
 enum-told : tie.Need-enum-told
 enum-told c = search needs
@@ -31,35 +28,34 @@ enum-told c = search needs
 enum-told-2 : tie.Need-enum-told-2
 enum-told-2 c = search needs
 
-put-by-requires : tie.Need-put-by-requires
-put-by-requires c κs = search needs
+extent-requires : tie.Need-extent-requires
+extent-requires c κs = search needs
+
+extent-requires-2 : tie.Need-extent-requires-2
+extent-requires-2 c κs = search needs
 
 enum-told-3 : tie.Need-enum-told-3
 enum-told-3 c = search needs
 
 returns : tie.Need-returns
 unfolding pairStep
-returns c = (rw (c .before .before .code .given .1) (c .symbol .ensures .0), c .symbol .ensures .1)
+returns c = rw (c .before .before .code .given .1) (c .symbol .ensures)
 
 returns-2 : tie.Need-returns-2
 unfolding pairStep
-returns-2 c = let args = c .before .before .before .before .before .before .before .before .args in (
-  rw (c .before .before .code2 .given .1) (c .name .ensures .0),
-  keeps-more (args .place .at + 1) (args .place .node + length (args .r .now)) (args .place .at + length (args .q .now))
-      (args .place .node + length (args .r .now)) (omega arith) (omega arith) (args .place) 1 1 (c .name .result) (λ h. h) (c .name .ensures .1),
-)
+returns-2 c = rw (c .before .before .before .code2 .given .1, ← c .before .part-of .ensures) (c .name .ensures)
 
 returns-3 : tie.Need-returns-3
 unfolding pairStep
-returns-3 c = (rw (c .enum-told .given .1), omega arith)
+returns-3 c = rw (c .enum-told .given .1)
 
 returns-4 : tie.Need-returns-4
 unfolding pairStep
-returns-4 c = (rw (c .before .enum-told2 .given .1) (c .put-by .ensures .0), c .put-by .ensures .1)
+returns-4 c = rw (c .before .before .enum-told2 .given .1, c .extent2 .ensures .0, c .before .extent .ensures .0)
 
 returns-5 : tie.Need-returns-5
 unfolding pairStep
-returns-5 c = (rw (c .enum-told3 .given .1), omega arith)
+returns-5 c = rw (c .enum-told3 .given .1)
 
 pub pair-spec : {M : Type 1} → statement M
 pair-spec =
@@ -68,10 +64,12 @@ pair-spec =
     enum-known-code
     symbol-requires
     enum-known-code-2
+    part-of-requires
     name-requires
     enum-told
     enum-told-2
-    put-by-requires
+    extent-requires
+    extent-requires-2
     enum-told-3
     returns
     returns-2

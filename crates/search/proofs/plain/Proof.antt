@@ -1,25 +1,23 @@
 -- `search::plain` meets its contract. Assumes nothing.
-use Rattle.search.proofs.Steps.{rest-length, keeps-more, plain-pair}
-use Rattle.search.specs.State.{plainStep}
-use borrow.Author.Tests.{le-leb, lt-leb, eq-eqb, ne-eqb}
-use lib.ListN.{length}
-use Prim.Native.Nat.{_-_}
 use native.Mathlib.Omega.{arith}
 use borrow.Author.Needs.{needs}
+use borrow.Author.Tests.{le-leb, lt-leb, eq-eqb, ne-eqb}
+use Rattle.search.specs.State.{plainStep}
+use Rattle.search.proofs.Steps.{rest-length, plain-pair}
 use Rattle.search.proofs.plain.Statement.{statement}
 use Rattle.search.proofs.plain.Tie as tie
 
 returns : tie.Need-returns
 unfolding plainStep
-returns c = (simp (eq-eqb _ _ (c .if1 .taken)), tt)
+returns c = simp (eq-eqb _ _ (c .if1 .taken))
 
 returns-2 : tie.Need-returns-2
 unfolding plainStep
-returns-2 c = (simp (ne-eqb _ _ (c .before .if1 .left), le-leb _ _ (c .if2 .taken)), tt)
+returns-2 c = simp (ne-eqb _ _ (c .before .if1 .left), le-leb _ _ (c .if2 .taken))
 
 returns-3 : tie.Need-returns-3
 unfolding plainStep
-returns-3 c = (simp (ne-eqb _ _ (c .before .before .if1 .left), lt-leb _ _ (c .before .if2 .left), eq-eqb _ _ (c .if3 .taken)), tt)
+returns-3 c = simp (ne-eqb _ _ (c .before .before .if1 .left), lt-leb _ _ (c .before .if2 .left), eq-eqb _ _ (c .if3 .taken))
 
 sub-pair : tie.Need-sub-pair
 sub-pair c = search needs
@@ -40,34 +38,13 @@ part-pair-end-2 : tie.Need-part-pair-end-2
 part-pair-end-2 c = search needs
 
 pair-requires : tie.Need-pair-requires
-pair-requires c κs =
-    let args = c .before .before .before .before .before .before .before .before .before .args in
-    let q = rest-length (args .place .at) (args .pattern .now) in
-    let r = rest-length (args .place .node) (args .«record» .now) in (
-      c .before .before .before .before .before .before .before .before .before .pre .0,
-      record {
-        depth = omega arith;
-        complements = omega arith;
-        children = omega arith;
-        elements = omega arith;
-        some-codes = omega arith;
-        some-bytes = omega
-            arith;
-        at = omega arith;
-        node = omega arith;
-      },
-    )
+pair-requires c κs = let r = rest-length (c .before .before .before .before .before .before .before .before .before .args .place .node)
+    (c .before .before .before .before .before .before .before .before .before .args .«record» .now) in
+    (c .before .before .before .before .before .before .before .before .before .pre .0, omega arith)
 
 returns-4 : tie.Need-returns-4
-returns-4 c =
-    let args = c .before .before .before .before .before .before .before .before .before .before .args in
-    let q = rest-length (args .place .at) (args .pattern .now) in
-    let r = rest-length (args .place .node) (args .«record» .now) in (
-      plain-pair (args .code) (args .table .now) (args .pattern .now) (args .«record» .now) (args .part) (args .place) (args .left) (c .pair .result)
-          (c .before .before .before .before .before .if1 .left) (omega arith) (c .before .before .before .if3 .left) (c .pair .ensures .0),
-      keeps-more _ _ (length (args .pattern .now)) (length (args .«record» .now)) (omega arith) (omega arith) (args .place) 1 (args .left)
-          (c .pair .result) (λ h. omega arith) (c .pair .ensures .1),
-    )
+returns-4 c = plain-pair _ _ _ _ _ (c .before .before .before .before .before .before .before .before .before .before .args .place) _ _
+    (c .before .before .before .before .before .if1 .left) (omega arith) (c .before .before .before .if3 .left) (c .pair .ensures)
 
 pub plain-spec : {M : Type 1} → statement M
 plain-spec =

@@ -1,11 +1,11 @@
 -- `search::stands` meets its contract. Assumes nothing.
-use lib.Seq.{length-take-le}
-use Rattle.search.specs.State.{standsOf}
-use lib.ListN.{length}
-use borrow.Author.Tests.{le-leb, lt-leb}
 use native.Mathlib.Omega.{arith}
 use mathlib.Core.Path.{sym}
+use lib.ListN.{length}
+use lib.Seq.{length-take-le}
 use borrow.Author.Needs.{needs}
+use borrow.Author.Tests.{le-leb, lt-leb}
+use Rattle.search.specs.State.{standsOf}
 use Rattle.search.proofs.stands.Statement.{statement}
 use Rattle.search.proofs.stands.Tie as tie
 
@@ -14,9 +14,8 @@ cast-n c = search needs
 
 returns : tie.Need-returns
 unfolding standsOf
-returns c =
-    let args = c .before .before .before .before .args in
-    simp (lt-leb (args .part .length) (length (args .r .now)) (c .if1 .taken))
+returns c = simp (lt-leb (c .before .before .before .before .args .part .length) (length (c .before .before .before .before .args .r .now))
+    (c .if1 .taken))
 
 bytes-of-requires : tie.Need-bytes-of-requires
 bytes-of-requires c κs = search needs
@@ -29,9 +28,9 @@ same-requires c κs = search needs
 
 returns-2 : tie.Need-returns-2
 unfolding standsOf
-returns-2 c =
-    let args = c .before .before .before .before .before .before .before .args in
-    rw (le-leb (args .part .length) (length (args .r .now)) (c .before .before .before .if1 .left), ← c .before .before .bytes-of .ensures) (c .same .ensures)
+returns-2 c = let args = c .before .before .before .before .before .before .before .args in
+    rw (le-leb (args .part .length) (length (args .r .now)) (c .before .before .before .if1 .left), ← c .before .before .bytes-of .ensures)
+    (c .same .ensures)
 
 pub stands-spec : {M : Type 1} → statement M
 stands-spec =

@@ -1,204 +1,365 @@
--- `search::walk` meets its contract. The invariant: the walk from its start is the walk from here. The measure is the number of turns that are
--- left at most. Assumes nothing.
+-- `search::walk` meets its contract. The invariant: whatever state the buffers hold at the start, the walk from it is the walk from the one that they
+-- hold here. The measure: each turn takes a byte of the pattern, or closes a node for one further out. Assumes nothing.
+use Prim.Native.Nat.{_+_, _-_, _*_, _<_}
 use native.Mathlib.Omega.{arith}
 use mathlib.Core.Path.{_≡_}
-use lib.ListN.{length}
+use lib.Dec.{eqb}
+use lib.ListN.{length, getD}
 use borrow.Author.Needs.{needs}
+use Rattle.term.proofs.Part.bound.Reads as bound-reads
+use Rattle.search.specs.Bounds.{Short}
+use Rattle.search.specs.Memory.{partIn, outer, Holds, Holding}
+use Rattle.search.specs.State.{State, variableAt}
+use Rattle.search.specs.declared.Step.the-variants.{Closes}
 use Rattle.search.specs.declared.Step.{Step}
-use Rattle.search.specs.Bounds.{Keeps}
-use Rattle.search.proofs.Walks.{turns, Walking, walk-starts, Turn, kept, walk-stops, walk-fails, walk-closes, walk-opens, walk-passes, walk-binds, walk-puts}
+use Rattle.search.proofs.Asks.{Asks}
+use Rattle.search.proofs.Walks.{Walking, Turn, asked, closes-inside, walk-starts, walk-stops, walk-fails, walk-closes, walk-opens, walk-passes, walk-binds, walk-puts}
+use Rattle.search.proofs.Marks.closed.Reads as closed-reads
+use Rattle.search.proofs.Marks.opened.Reads as opened-reads
+use Rattle.search.proofs.Marks.put_by.Reads as put-by-reads
+use Rattle.search.proofs.Place.complement.Reads as complement-reads
+use Rattle.search.proofs.Place.entered.Reads as entered-reads
+use Rattle.search.proofs.Place.frame.Reads as frame-reads
+use Rattle.search.proofs.Place.passed.Reads as passed-reads
+use Rattle.search.proofs.Place.reopened.Reads as reopened-reads
+use Rattle.search.proofs.also.Reads as also-reads
+use Rattle.search.proofs.packed.Reads as packed-reads
+use Rattle.search.proofs.step_of.Reads as step-of-reads
+use Rattle.search.proofs.walk.Lts as lts
+use Rattle.search.proofs.walk.Reads as reads
 use Rattle.search.proofs.walk.Statement.{statement}
 use Rattle.search.proofs.walk.Tie as tie
-use Rattle.search.proofs.walk.Reads as reads
-use Rattle.search.proofs.walk.Lts as lts
-use Rattle.search.proofs.Place.reopened.Reads as reopened-reads
-use Rattle.search.proofs.step_of.Reads as step-of-reads
-use Rattle.search.proofs.stopped.Reads as stopped-reads
-use Rattle.search.proofs.variable_at.Reads as variable-at-reads
 use Rattle.search.proofs.wide.Reads as wide-reads
 
 abbrev Inv-loop : tie.InvT-loop
-Inv-loop table pattern «record» allowance s₀ left₀ s left = Walking table pattern «record» s₀ left₀ s left
+Inv-loop table pattern «record» parts₀ frames₀ waiting₀ assigned₀ left₀ marks₀ place₀ parts frames waiting assigned left marks place =
+    (s₀ : State) → Holds (length pattern) (length «record») assigned₀ parts₀ frames₀ waiting₀ marks₀ place₀ s₀
+    → Walking table pattern «record» assigned₀ left₀ parts₀ frames₀ waiting₀ marks₀ place₀ s₀ parts frames waiting place marks assigned left
 
 abbrev μ-loop : tie.MeasureT-loop
-μ-loop table pattern «record» allowance s₀ left₀ s left = turns pattern (s .place)
+μ-loop table pattern «record» parts₀ frames₀ waiting₀ assigned₀ left₀ marks₀ place₀ parts frames waiting assigned left marks place =
+    512 * (length pattern - place .at) + marks .inner
 
 abbrev claims : lts.Claims
 claims = (
-  variable-at-reads.Asked,
-  variable-at-reads.Learnt,
   step-of-reads.Asked,
   step-of-reads.Learnt,
-  stopped-reads.Asked,
-  stopped-reads.Learnt,
   reopened-reads.Asked,
   reopened-reads.Learnt,
+  closed-reads.Asked,
+  closed-reads.Learnt,
+  frame-reads.Asked,
+  frame-reads.Learnt,
+  entered-reads.Asked,
+  entered-reads.Learnt,
+  opened-reads.Asked,
+  opened-reads.Learnt,
+  passed-reads.Asked,
+  passed-reads.Learnt,
   wide-reads.Asked,
   wide-reads.Learnt,
+  bound-reads.Asked,
+  bound-reads.Learnt,
+  packed-reads.Asked,
+  packed-reads.Learnt,
+  also-reads.Asked,
+  also-reads.Learnt,
+  complement-reads.Asked,
+  complement-reads.Learnt,
+  put-by-reads.Asked,
+  put-by-reads.Learnt,
 )
 
 -- once the step is known
 module _ (c : lts.After-step-of claims reads.Pre reads.Post Inv-loop μ-loop) where
-  turn :
-      Turn
-      (c .before .before .before .before .before .before .before .before .args .table .now)
-      (c .before .before .before .before .before .before .before .before .args .pattern .now)
-      (c .before .before .before .before .before .before .before .before .args .«record» .now)
-      (c .before .before .before .before .before .before .before .before .args .start)
-      (c .before .before .before .before .before .before .before .before .args .allowance)
-      (c .before .before .before .before .loop .s)
-      (c .before .before .before .before .loop .left)
-      (c .step-of .result)
-  turn = record {
-    walking = c .before .before .before .before .loop .inv;
-    is-step = rw (← c .before .before .variable-at .ensures .0) (c .step-of .ensures .0);
-    keeps = c .step-of .ensures .1;
+  turn : (s₀ : State)
+      → Holds (length (c .before .before .before .before .before .before .args .pattern .now))
+      (length (c .before .before .before .before .before .before .args .«record» .now))
+      (c .before .before .before .before .before .before .args .assigned) (c .before .before .before .before .before .before .args .parts .now)
+      (c .before .before .before .before .before .before .args .frames .now)
+      (c .before .before .before .before .before .before .args .waiting .now)
+      (c .before .before .before .before .before .before .args .marks) (c .before .before .before .before .before .before .args .place) s₀
+      → Turn (c .before .before .before .before .before .before .args .table .now)
+      (c .before .before .before .before .before .before .args .pattern .now)
+      (c .before .before .before .before .before .before .args .«record» .now) (c .before .before .before .before .before .before .args .assigned)
+      (c .before .before .before .before .before .before .args .left) (c .before .before .before .before .before .before .args .parts .now)
+      (c .before .before .before .before .before .before .args .frames .now)
+      (c .before .before .before .before .before .before .args .waiting .now) (c .before .before .before .before .before .before .args .marks)
+      (c .before .before .before .before .before .before .args .place) s₀ (c .before .before .loop .parts) (c .before .before .loop .frames)
+      (c .before .before .loop .waiting) (c .before .before .loop .place) (c .before .before .loop .marks) (c .before .before .loop .assigned)
+      (c .before .before .loop .left) (c .step-of .result)
+  turn s₀ h = record { walking = c .before .before .loop .inv s₀ h; is-step = c .step-of .ensures }
+
+  short : Short (c .before .before .before .before .before .before .args .pattern .now)
+      (c .before .before .before .before .before .before .args .«record» .now)
+  short = c .before .before .before .before .before .before .pre .1
+
+  asks : (y : Step) → c .step-of .result ≡ y
+      → Asks (eqb (c .before .before .loop .marks .inner) 0) (c .before .before .before .before .before .before .args .pattern .now)
+      (c .before .before .before .before .before .before .args .«record» .now)
+      (partIn (c .before .before .loop .assigned) (c .before .before .loop .parts)
+      (variableAt (c .before .before .before .before .before .before .args .pattern .now) (c .before .before .loop .place .at)))
+      (c .before .before .loop .place) (c .before .before .loop .left) y
+  asks = asked _ _ _ _ _ _ _ _ _ _ _
+      (turn (c .before .before .before .before .before .before .pre .0 .state) (c .before .before .before .before .before .before .pre .0 .holds))
+
+  inside : c .step-of .result ≡ Closes
+      → (0 < c .before .before .loop .marks .inner) ×
+      (outer (getD (c .before .before .loop .frames) (c .before .before .loop .marks .inner - 1) 0) < c .before .before .loop .marks .inner)
+  inside = closes-inside _ _ _ _ _ _ _ _ _ _ _
+      (turn (c .before .before .before .before .before .before .pre .0 .state) (c .before .before .before .before .before .before .pre .0 .holds))
+
+  held : Holding (length (c .before .before .before .before .before .before .args .pattern .now))
+      (length (c .before .before .before .before .before .before .args .«record» .now)) (c .before .before .loop .assigned)
+      (c .before .before .loop .parts) (c .before .before .loop .frames) (c .before .before .loop .waiting) (c .before .before .loop .marks)
+      (c .before .before .loop .place)
+  held = record {
+    state = _;
+    holds = c .before .before .loop .inv (c .before .before .before .before .before .before .pre .0 .state)
+        (c .before .before .before .before .before .before .pre .0 .holds) .holds;
   }
 
-  asks :
-      (y : Step) → c .step-of .result ≡ y
-      → Keeps (length (c .before .before .before .before .before .before .before .before .args .pattern .now))
-      (length (c .before .before .before .before .before .before .before .before .args .«record» .now))
-      (c .before .before .before .before .loop .s .place) (c .before .before .before .before .loop .left) y
-  asks y e = kept _ _ _ _ _ turn y e
-
 loop-holds : tie.Need-loop-holds Inv-loop μ-loop
-loop-holds c = walk-starts _ _ _ _ _ (c .before .before .before .pre .1) (c .before .before .before .pre .0)
-
-variable-at-requires : tie.Need-variable-at-requires Inv-loop μ-loop
-variable-at-requires c κs = search needs
-
-mul-part : tie.Need-mul-part Inv-loop μ-loop
-mul-part c = omega arith
-
-element-copy-out-part : tie.Need-element-copy-out-part Inv-loop μ-loop
-element-copy-out-part c = omega arith
+loop-holds c = λ s₀ h. walk-starts _ _ _ _ _ _ _ _ _ _ _ (c .before .before .before .pre .1) h
 
 step-of-requires : tie.Need-step-of-requires Inv-loop μ-loop
-step-of-requires c κs = (c .before .before .before .loop .inv .within, c .before .before .before .before .before .before .before .pre .1)
+step-of-requires c κs = c .before .loop .inv (c .before .before .before .before .before .pre .0 .state)
+    (c .before .before .before .before .before .pre .0 .holds) .holds .node
 
 enum-known-step : tie.Need-enum-known-step Inv-loop μ-loop
 enum-known-step c = search needs
 
-stopped-requires : tie.Need-stopped-requires Inv-loop μ-loop
-stopped-requires c κs = search needs
-
-returns : tie.Need-returns Inv-loop μ-loop
-returns c = rw (c .stopped .ensures) (walk-stops _ _ _ _ _ (turn (c .before .before .before .before)) _ (c .before .before .step .given .1))
-
 enum-told : tie.Need-enum-told Inv-loop μ-loop
 enum-told c = search needs
 
-sub-stopped : tie.Need-sub-stopped Inv-loop μ-loop
-sub-stopped c = let k = asks (c .before .before) _ (c .enum-told .given .1) in omega arith
-
-stopped-requires-2 : tie.Need-stopped-requires-2 Inv-loop μ-loop
-stopped-requires-2 c κs = search needs
-
-returns-2 : tie.Need-returns-2 Inv-loop μ-loop
-returns-2 c = rw (c .stopped2 .ensures) (walk-fails _ _ _ _ _ (turn (c .before .before .before)) (c .before .enum-told .given .1))
+sub-left : tie.Need-sub-left Inv-loop μ-loop
+sub-left c =
+    let k = asks (c .before .before) _ (c .enum-told .given .1) in
+    omega arith
 
 enum-told-2 : tie.Need-enum-told-2 Inv-loop μ-loop
 enum-told-2 c = search needs
 
-sub-around : tie.Need-sub-around Inv-loop μ-loop
-sub-around c =
-    let k = asks (c .before .before .before) _ (c .before .enum-told2 .given .1) in
-    omega (arith, c .before .before .before .before .before .before .before .loop .inv .within .depth)
+sub-f : tie.Need-sub-f Inv-loop μ-loop
+sub-f c =
+    let k = inside (c .before .before .before) (c .before .enum-told2 .given .1) in
+    omega arith
 
-mul-frame : tie.Need-mul-frame Inv-loop μ-loop
-mul-frame c =
-    let k = asks (c .before .before .before) _ (c .before .enum-told2 .given .1) in
-    omega (arith, c .before .before .before .before .before .before .before .loop .inv .within .depth)
+mul-f : tie.Need-mul-f Inv-loop μ-loop
+mul-f c =
+    let k = inside (c .before .before .before) (c .before .enum-told2 .given .1) in
+    let h = held (c .before .before .before) in
+    omega arith
 
-element-copy-out-frame : tie.Need-element-copy-out-frame Inv-loop μ-loop
-element-copy-out-frame c =
-    let k = asks (c .before .before .before) _ (c .before .enum-told2 .given .1) in
-    omega (arith, c .before .before .before .before .before .before .before .loop .inv .within .depth)
+element-copy-out-f : tie.Need-element-copy-out-f Inv-loop μ-loop
+element-copy-out-f c =
+    let k = inside (c .before .before .before) (c .before .enum-told2 .given .1) in
+    let h = held (c .before .before .before) in
+    omega arith
 
 reopened-requires : tie.Need-reopened-requires Inv-loop μ-loop
-reopened-requires c κs =
-    let k = asks (c .before .before .before .before) _ (c .before .before .enum-told2 .given .1) in
-    omega (arith, c .before .before .before .before .before .before .before .before .loop .inv .within .depth)
+reopened-requires c κs = search needs
+
+closed-requires : tie.Need-closed-requires Inv-loop μ-loop
+closed-requires c κs = search needs
 
 loop-less : tie.Need-loop-less Inv-loop μ-loop
 loop-less c =
-    let k = asks (c .before .before .before .before .before) _ (c .before .before .before .enum-told2 .given .1) in
-    rw (c .reopened .ensures) (omega arith)
+    let k = inside (c .before .before .before .before .before .before) (c .before .before .before .before .enum-told2 .given .1) in
+    rw (c .closed .ensures, c .before .reopened .ensures) (omega arith)
 
 loop-again : tie.Need-loop-again Inv-loop μ-loop
 loop-again c =
-    rw (c .reopened .ensures) (walk-closes _ _ _ _ _ (turn (c .before .before .before .before .before))
-    (c .before .before .before .enum-told2 .given .1))
+    rw (c .closed .ensures, c .before .reopened .ensures)
+    (λ s₀ h. walk-closes _ _ _ _ _ _ _ _ _ _ _ (turn (c .before .before .before .before .before .before) s₀ h)
+    (c .before .before .before .before .enum-told2 .given .1))
 
 enum-known-step-2 : tie.Need-enum-known-step-2 Inv-loop μ-loop
 enum-known-step-2 c = search needs
 
-mul-frame-2 : tie.Need-mul-frame-2 Inv-loop μ-loop
-mul-frame-2 c = let k = asks (c .before .before .before) _ (c .before .step2 .given .1) in omega arith
+sub-left-2 : tie.Need-sub-left-2 Inv-loop μ-loop
+sub-left-2 c =
+    let k = asks (c .before .before .before) _ (c .before .step2 .given .1) .allowed in
+    omega arith
 
-element-set-from-frame : tie.Need-element-set-from-frame Inv-loop μ-loop
-element-set-from-frame c = let k = asks (c .before .before .before) _ (c .before .step2 .given .1) in omega arith
+frame-requires : tie.Need-frame-requires Inv-loop μ-loop
+frame-requires c κs =
+    let k = asks (c .before .before .before) _ (c .before .step2 .given .1) in
+    let h = held (c .before .before .before) in
+    (k .children, k .elements, omega arith)
 
-sub-left : tie.Need-sub-left Inv-loop μ-loop
-sub-left c = let k = asks (c .before .before .before) _ (c .before .step2 .given .1) in omega arith
+mul-frames : tie.Need-mul-frames Inv-loop μ-loop
+mul-frames c =
+    let k = asks (c .before .before .before .before) _ (c .before .before .step2 .given .1) in
+    let h = held (c .before .before .before .before) in
+    omega arith
+
+element-write-frames : tie.Need-element-write-frames Inv-loop μ-loop
+element-write-frames c =
+    let k = asks (c .before .before .before .before) _ (c .before .before .step2 .given .1) in
+    let h = held (c .before .before .before .before) in
+    omega arith
+
+entered-requires : tie.Need-entered-requires Inv-loop μ-loop
+entered-requires c κs =
+    let k = asks (c .before .before .before .before) _ (c .before .before .step2 .given .1) in
+    let l = short (c .before .before .before .before) in
+    (omega arith, omega arith)
+
+opened-requires : tie.Need-opened-requires Inv-loop μ-loop
+opened-requires c κs =
+    let k = asks (c .before .before .before .before .before) _ (c .before .before .before .step2 .given .1) in
+    let h = held (c .before .before .before .before .before) in
+    omega arith
 
 loop-less-2 : tie.Need-loop-less-2 Inv-loop μ-loop
-loop-less-2 c = let k = asks (c .before .before .before) _ (c .before .step2 .given .1) in omega arith
+loop-less-2 c =
+    let k = asks (c .before .before .before .before .before .before) _ (c .before .before .before .before .step2 .given .1) in
+    let h = held (c .before .before .before .before .before .before) in
+    rw (c .opened .ensures, c .before .entered .ensures) (omega arith)
 
 loop-again-2 : tie.Need-loop-again-2 Inv-loop μ-loop
-loop-again-2 c = walk-opens _ _ _ _ _ (turn (c .before .before .before)) _ _ (c .before .step2 .given .1)
+loop-again-2 c =
+    rw (c .opened .ensures, c .before .entered .ensures)
+    (λ s₀ h. walk-opens _ _ _ _ _ _ _ _ _ _ _ (turn (c .before .before .before .before .before .before) s₀ h) _ _ _ _
+    (c .before .before .before .before .step2 .given .1) (c .before .before .frame .ensures))
 
 enum-known-step-3 : tie.Need-enum-known-step-3 Inv-loop μ-loop
 enum-known-step-3 c = search needs
 
-sub-left-2 : tie.Need-sub-left-2 Inv-loop μ-loop
-sub-left-2 c = let k = asks (c .before .before .before) _ (c .before .step3 .given .1) in omega arith
+sub-left-3 : tie.Need-sub-left-3 Inv-loop μ-loop
+sub-left-3 c =
+    let k = asks (c .before .before .before) _ (c .before .step3 .given .1) .allowed in
+    omega arith
+
+passed-requires : tie.Need-passed-requires Inv-loop μ-loop
+passed-requires c κs =
+    let k = asks (c .before .before .before) _ (c .before .step3 .given .1) in
+    let l = short (c .before .before .before) in
+    (k .children, k .elements, omega arith, omega arith)
 
 loop-less-3 : tie.Need-loop-less-3 Inv-loop μ-loop
-loop-less-3 c = let k = asks (c .before .before .before) _ (c .before .step3 .given .1) in omega arith
+loop-less-3 c =
+    let k = asks (c .before .before .before .before) _ (c .before .before .step3 .given .1) in
+    rw (c .passed .ensures) (omega arith)
 
 loop-again-3 : tie.Need-loop-again-3 Inv-loop μ-loop
-loop-again-3 c = walk-passes _ _ _ _ _ (turn (c .before .before .before)) _ (c .before .step3 .given .1)
+loop-again-3 c =
+    rw (c .passed .ensures)
+    (λ s₀ h. walk-passes _ _ _ _ _ _ _ _ _ _ _ (turn (c .before .before .before .before) s₀ h) _ _ (c .before .before .step3 .given .1))
 
 enum-known-step-4 : tie.Need-enum-known-step-4 Inv-loop μ-loop
 enum-known-step-4 c = search needs
 
+sub-left-4 : tie.Need-sub-left-4 Inv-loop μ-loop
+sub-left-4 c =
+    let k = asks (c .before .before .before) _ (c .before .step4 .given .1) .1 .allowed in
+    omega arith
+
 wide-requires : tie.Need-wide-requires Inv-loop μ-loop
 wide-requires c κs = search needs
 
-mul-bound : tie.Need-mul-bound Inv-loop μ-loop
-mul-bound c = let k = asks (c .before .before .before .before) _ (c .before .before .step4 .given .1) in omega arith
+bound-requires : tie.Need-bound-requires Inv-loop μ-loop
+bound-requires c κs = search needs
 
-element-set-from-bound : tie.Need-element-set-from-bound Inv-loop μ-loop
-element-set-from-bound c = let k = asks (c .before .before .before .before) _ (c .before .before .step4 .given .1) in omega arith
+packed-requires : tie.Need-packed-requires Inv-loop μ-loop
+packed-requires c κs = search needs
 
-sub-left-3 : tie.Need-sub-left-3 Inv-loop μ-loop
-sub-left-3 c = let k = asks (c .before .before .before .before) _ (c .before .before .step4 .given .1) in omega arith
+mul-parts : tie.Need-mul-parts Inv-loop μ-loop
+mul-parts c =
+    let k = asks (c .before .before .before .before .before .before) _ (c .before .before .before .before .step4 .given .1) .0 .below in
+    omega (arith, c .before .before .wide .ensures)
+
+element-write-parts : tie.Need-element-write-parts Inv-loop μ-loop
+element-write-parts c =
+    let k = asks (c .before .before .before .before .before .before) _ (c .before .before .before .before .step4 .given .1) .0 .below in
+    omega (arith, c .before .before .wide .ensures)
+
+also-requires : tie.Need-also-requires Inv-loop μ-loop
+also-requires c κs =
+    let k = asks (c .before .before .before .before .before .before) _ (c .before .before .before .before .step4 .given .1) .0 .below in
+    omega (arith, c .before .before .wide .ensures)
+
+passed-requires-2 : tie.Need-passed-requires-2 Inv-loop μ-loop
+passed-requires-2 c κs =
+    let k = asks (c .before .before .before .before .before .before .before) _ (c .before .before .before .before .before .step4 .given .1) .1 in
+    let l = short (c .before .before .before .before .before .before .before) in
+    (k .children, k .elements, omega arith, omega arith)
 
 loop-less-4 : tie.Need-loop-less-4 Inv-loop μ-loop
-loop-less-4 c = let k = asks (c .before .before .before .before) _ (c .before .before .step4 .given .1) in omega arith
+loop-less-4 c =
+    let k = asks (c .before .before .before .before .before .before .before .before) _
+    (c .before .before .before .before .before .before .step4 .given .1) .1 in
+    rw (c .passed2 .ensures) (omega arith)
 
 loop-again-4 : tie.Need-loop-again-4 Inv-loop μ-loop
-loop-again-4 c = rw (c .wide .ensures) (walk-binds _ _ _ _ _ (turn (c .before .before .before .before)) _ _ _ (c .before .before .step4 .given .1))
+loop-again-4 c =
+    rw (
+      c .passed2 .ensures,
+      c .before .also .ensures,
+      c .before .before .packed .ensures,
+      c .before .before .before .bound .ensures,
+      c .before .before .before .before .wide .ensures,
+    )
+    (λ s₀ h. walk-binds _ _ _ _ _ _ _ _ _ _ _ (turn (c .before .before .before .before .before .before .before .before) s₀ h) _ _
+    (c .before .before .before .before .before .before .step4 .given .1)
+    (short (c .before .before .before .before .before .before .before .before)))
 
 enum-known-step-5 : tie.Need-enum-known-step-5 Inv-loop μ-loop
 enum-known-step-5 c = search needs
 
-mul-complement : tie.Need-mul-complement Inv-loop μ-loop
-mul-complement c = let k = asks (c .before .before .before) _ (c .before .step5 .given .1) in omega arith
+sub-left-5 : tie.Need-sub-left-5 Inv-loop μ-loop
+sub-left-5 c =
+    let k = asks (c .before .before .before) _ (c .before .step5 .given .1) .allowed in
+    omega arith
 
-element-set-from-complement : tie.Need-element-set-from-complement Inv-loop μ-loop
-element-set-from-complement c = let k = asks (c .before .before .before) _ (c .before .step5 .given .1) in omega arith
+complement-requires : tie.Need-complement-requires Inv-loop μ-loop
+complement-requires c κs =
+    let k = asks (c .before .before .before) _ (c .before .step5 .given .1) in
+    let h = held (c .before .before .before) in
+    let l = short (c .before .before .before) in
+    (k .some, omega arith, omega arith)
 
-sub-left-4 : tie.Need-sub-left-4 Inv-loop μ-loop
-sub-left-4 c = let k = asks (c .before .before .before) _ (c .before .step5 .given .1) in omega arith
+mul-waiting : tie.Need-mul-waiting Inv-loop μ-loop
+mul-waiting c =
+    let k = asks (c .before .before .before .before) _ (c .before .before .step5 .given .1) in
+    let h = held (c .before .before .before .before) in
+    omega arith
+
+element-write-waiting : tie.Need-element-write-waiting Inv-loop μ-loop
+element-write-waiting c =
+    let k = asks (c .before .before .before .before) _ (c .before .before .step5 .given .1) in
+    let h = held (c .before .before .before .before) in
+    omega arith
+
+passed-requires-3 : tie.Need-passed-requires-3 Inv-loop μ-loop
+passed-requires-3 c κs =
+    let k = asks (c .before .before .before .before) _ (c .before .before .step5 .given .1) in
+    let l = short (c .before .before .before .before) in
+    (k .children, k .elements, omega arith, omega arith)
+
+put-by-requires : tie.Need-put-by-requires Inv-loop μ-loop
+put-by-requires c κs =
+    let k = asks (c .before .before .before .before .before) _ (c .before .before .before .step5 .given .1) in
+    let h = held (c .before .before .before .before .before) in
+    omega arith
 
 loop-less-5 : tie.Need-loop-less-5 Inv-loop μ-loop
-loop-less-5 c = let k = asks (c .before .before .before) _ (c .before .step5 .given .1) in omega arith
+loop-less-5 c =
+    let k = asks (c .before .before .before .before .before .before) _ (c .before .before .before .before .step5 .given .1) in
+    rw (c .put-by .ensures, c .before .passed3 .ensures) (omega arith)
 
 loop-again-5 : tie.Need-loop-again-5 Inv-loop μ-loop
-loop-again-5 c = walk-puts _ _ _ _ _ (turn (c .before .before .before)) _ _ (c .before .step5 .given .1)
+loop-again-5 c =
+    rw (c .put-by .ensures, c .before .passed3 .ensures)
+    (λ s₀ h. walk-puts _ _ _ _ _ _ _ _ _ _ _ (turn (c .before .before .before .before .before .before) s₀ h) _ _ _
+    (c .before .before .before .before .step5 .given .1) (c .before .before .complement .ensures))
+
+returns : tie.Need-returns Inv-loop μ-loop
+returns c = λ s₀ h. walk-stops _ _ _ _ _ _ _ _ _ _ _ (turn (c .before .before .before) s₀ h) _ (c .before .step .given .1)
+
+returns-2 : tie.Need-returns-2 Inv-loop μ-loop
+returns-2 c = λ s₀ h. walk-fails _ _ _ _ _ _ _ _ _ _ _ (turn (c .before .before) s₀ h) (c .enum-told .given .1)
 
 pub walk-spec : {M : Type 1} → statement M
 walk-spec =
@@ -207,44 +368,51 @@ walk-spec =
     Inv-loop
     μ-loop
     loop-holds
-    variable-at-requires
-    mul-part
-    element-copy-out-part
     step-of-requires
     enum-known-step
-    stopped-requires
-    returns
     enum-told
-    sub-stopped
-    stopped-requires-2
-    returns-2
+    sub-left
     enum-told-2
-    sub-around
-    mul-frame
-    element-copy-out-frame
+    sub-f
+    mul-f
+    element-copy-out-f
     reopened-requires
+    closed-requires
     loop-less
     loop-again
     enum-known-step-2
-    mul-frame-2
-    element-set-from-frame
-    sub-left
+    sub-left-2
+    frame-requires
+    mul-frames
+    element-write-frames
+    entered-requires
+    opened-requires
     loop-less-2
     loop-again-2
     enum-known-step-3
-    sub-left-2
+    sub-left-3
+    passed-requires
     loop-less-3
     loop-again-3
     enum-known-step-4
+    sub-left-4
     wide-requires
-    mul-bound
-    element-set-from-bound
-    sub-left-3
+    bound-requires
+    packed-requires
+    mul-parts
+    element-write-parts
+    also-requires
+    passed-requires-2
     loop-less-4
     loop-again-4
     enum-known-step-5
-    mul-complement
-    element-set-from-complement
-    sub-left-4
+    sub-left-5
+    complement-requires
+    mul-waiting
+    element-write-waiting
+    passed-requires-3
+    put-by-requires
     loop-less-5
-    loop-again-5)
+    loop-again-5
+    returns
+    returns-2)

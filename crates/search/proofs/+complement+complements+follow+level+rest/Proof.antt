@@ -1,0 +1,500 @@
+-- The search of levels meets its contracts. Each level within another has less of the pattern, or starts further on in it: `levels` falls.
+-- Assumes nothing.
+use Prim.Native.Nat.{ℕ, _+_, _-_, _*_, _<_, _≤_}
+use native.Mathlib.Omega.{arith}
+use mathlib.Core.Path.{refl, sym, ap, subst, _∙_}
+use lib.ListN.{length}
+use denote.Ref.{now}
+use borrow.Author.Needs.{needs}
+use borrow.Author.Tests.{not-true, not-false}
+use Rattle.search.specs.Level.{levels}
+use Rattle.search.specs.Memory.{packed, putByIn}
+use Rattle.search.specs.Bounds.{Ready, StopsAt, Unassigned}
+use Rattle.search.proofs.Steps.{rest-length}
+use Rattle.search.proofs.Kept.{past, past-holds, none-free}
+use Rattle.search.proofs.Levels.{rest-follows, Trying, try-first, Written, written-holding, try-last, try-hit, try-spent, try-more, Testing, test-first, test-end, test-next, test-stop, test-on, inside-length, inside-holding, complement-tests, follow-fails, follow-spent, follow-none, follow-tests, follow-tries}
+use borrow.Fn.Kinds.{In}
+use borrow.Fn.PlainCycle.{Measures, is, falls, and}
+use Rattle.search.proofs.complement.Reads as complement
+use Rattle.search.proofs.complement.Kinds as complement-kinds
+use Rattle.search.proofs.+complement+complements+follow+level+rest.Lts-complement as complement-lts
+use Rattle.search.proofs.complements.Reads as complements
+use Rattle.search.proofs.complements.Kinds as complements-kinds
+use Rattle.search.proofs.+complement+complements+follow+level+rest.Lts-complements as complements-lts
+use Rattle.search.proofs.follow.Reads as follow
+use Rattle.search.proofs.follow.Kinds as follow-kinds
+use Rattle.search.proofs.+complement+complements+follow+level+rest.Lts-follow as follow-lts
+use Rattle.search.proofs.level.Reads as level
+use Rattle.search.proofs.level.Kinds as level-kinds
+use Rattle.search.proofs.+complement+complements+follow+level+rest.Lts-level as level-lts
+use Rattle.search.proofs.rest.Reads as rest
+use Rattle.search.proofs.rest.Kinds as rest-kinds
+use Rattle.search.proofs.+complement+complements+follow+level+rest.Lts-rest as rest-lts
+use Rattle.search.proofs.Marks.inside.Reads as inside-reads
+use Rattle.search.proofs.Place.passed.Reads as passed-reads
+use Rattle.search.proofs.Place.start.Reads as start-reads
+use Rattle.search.proofs.also.Reads as also-reads
+use Rattle.search.proofs.is_failed.Reads as is-failed-reads
+use Rattle.search.proofs.is_found.Reads as is-found-reads
+use Rattle.search.proofs.opposite.Reads as opposite-reads
+use Rattle.search.proofs.packed.Reads as packed-reads
+use Rattle.search.proofs.walk.Reads as walk-reads
+use Rattle.search.proofs.wide.Reads as wide-reads
+use Rattle.term.proofs.Part.bound.Reads as bound-reads
+use Rattle.term.proofs.extent.Reads as extent-reads
+use Rattle.search.proofs.+complement+complements+follow+level+rest.{statement}
+use Rattle.search.proofs.+complement+complements+follow+level+rest.Tie.{close}
+
+abbrev μ-complement : Measures 8 complement-kinds.ps ℕ
+μ-complement κs a = 5 * levels (now (a .1 .0)) (length (now (a .1 .0)))
+
+abbrev μ-complements : Measures 8 complements-kinds.ps ℕ
+μ-complements κs a = 5 * levels (now (a .1 .0)) (length (now (a .1 .0))) + 1
+
+abbrev μ-follow : Measures 8 follow-kinds.ps ℕ
+μ-follow κs a = 5 * levels (now (a .1 .0)) (a .1 .1 .1 .1 .1 .1 .1 .1 .1 .1 .0 .at) + 2
+
+abbrev μ-level : Measures 8 level-kinds.ps ℕ
+μ-level κs a = 5 * levels (now (a .1 .0)) (a .1 .1 .1 .1 .1 .1 .1 .1 .1 .1 .1 .0 .at) + 4
+
+abbrev μ-rest : Measures 8 rest-kinds.ps ℕ
+μ-rest κs a = 5 * levels (now (a .1 .0)) (a .1 .1 .1 .1 .1 .1 .1 .1 .1 .0 .at) + 3
+
+abbrev complement-at : ℕ → In 8 complement-kinds.ps
+complement-at t =
+    and 8 complement-kinds.ps (is 8 complement-kinds.ps μ-complement t) complement.Pre
+
+abbrev complement-below : ℕ → In 8 complement-kinds.ps
+complement-below t =
+    and 8 complement-kinds.ps (falls 8 complement-kinds.ps _<_ μ-complement t) complement.Pre
+
+abbrev complements-at : ℕ → In 8 complements-kinds.ps
+complements-at t =
+    and 8 complements-kinds.ps (is 8 complements-kinds.ps μ-complements t) complements.Pre
+
+abbrev complements-below : ℕ → In 8 complements-kinds.ps
+complements-below t =
+    and 8 complements-kinds.ps (falls 8 complements-kinds.ps _<_ μ-complements t) complements.Pre
+
+abbrev follow-at : ℕ → In 8 follow-kinds.ps
+follow-at t = and 8 follow-kinds.ps (is 8 follow-kinds.ps μ-follow t) follow.Pre
+
+abbrev follow-below : ℕ → In 8 follow-kinds.ps
+follow-below t = and 8 follow-kinds.ps (falls 8 follow-kinds.ps _<_ μ-follow t) follow.Pre
+
+abbrev level-at : ℕ → In 8 level-kinds.ps
+level-at t = and 8 level-kinds.ps (is 8 level-kinds.ps μ-level t) level.Pre
+
+abbrev level-below : ℕ → In 8 level-kinds.ps
+level-below t = and 8 level-kinds.ps (falls 8 level-kinds.ps _<_ μ-level t) level.Pre
+
+abbrev rest-at : ℕ → In 8 rest-kinds.ps
+rest-at t = and 8 rest-kinds.ps (is 8 rest-kinds.ps μ-rest t) rest.Pre
+
+abbrev rest-below : ℕ → In 8 rest-kinds.ps
+rest-below t = and 8 rest-kinds.ps (falls 8 rest-kinds.ps _<_ μ-rest t) rest.Pre
+
+abbrev complement-claims : ℕ → complement-lts.Claims
+complement-claims t = (
+  inside-reads.Asked,
+  inside-reads.Learnt,
+  start-reads.Asked,
+  start-reads.Learnt,
+  level-below t,
+  level.Post,
+  opposite-reads.Asked,
+  opposite-reads.Learnt,
+)
+
+complement-cast-from : (t : ℕ) → complement-lts.Need-cast-from (complement-claims t) (complement-at t) complement.Post
+complement-cast-from t c = omega arith
+
+complement-add-from : (t : ℕ) → complement-lts.Need-add-from (complement-claims t) (complement-at t) complement.Post
+complement-add-from t c = omega arith
+
+complement-cast-stop : (t : ℕ) → complement-lts.Need-cast-stop (complement-claims t) (complement-at t) complement.Post
+complement-cast-stop t c = omega arith
+
+complement-add-stop : (t : ℕ) → complement-lts.Need-add-stop (complement-claims t) (complement-at t) complement.Post
+complement-add-stop t c = omega arith
+
+complement-cast-node : (t : ℕ) → complement-lts.Need-cast-node (complement-claims t) (complement-at t) complement.Post
+complement-cast-node t c = omega arith
+
+complement-sub-level : (t : ℕ) → complement-lts.Need-sub-level (complement-claims t) (complement-at t) complement.Post
+complement-sub-level t c = omega arith
+
+complement-part-level-start : (t : ℕ) → complement-lts.Need-part-level-start (complement-claims t) (complement-at t) complement.Post
+complement-part-level-start t c = omega arith
+
+complement-part-level-end : (t : ℕ) → complement-lts.Need-part-level-end (complement-claims t) (complement-at t) complement.Post
+complement-part-level-end t c = omega (arith, c .before .before .before .pre .1 .0 .within)
+
+complement-inside-requires : (t : ℕ) → complement-lts.Need-inside-requires (complement-claims t) (complement-at t) complement.Post
+complement-inside-requires t c κs = search needs
+
+complement-start-requires : (t : ℕ) → complement-lts.Need-start-requires (complement-claims t) (complement-at t) complement.Post
+complement-start-requires t c κs = search needs
+
+complement-level-requires : (t : ℕ) → complement-lts.Need-level-requires (complement-claims t) (complement-at t) complement.Post
+complement-level-requires t c κs = let w = c .before .before .before .before .before .before .before .before .before .before .before .pre .1 .0 .within in
+    let d = inside-length (c .before .before .before .before .before .before .before .before .before .before .before .args .pattern .now) (putByIn (c .before .before .before .before .before .before .before .before .before .before .before .args .c)) w in
+    rw (c .start .ensures, c .before .inside .ensures) (
+      omega (arith, c .before .before .before .before .before .before .before .before .before .before .before .pre .0, w, d, c .before .before .before .before .before .before .before .before .before .before .before .pre .1 .1 .of-pattern),
+      (
+        inside-holding _ _ w (c .before .before .before .before .before .before .before .before .before .before .before .pre .1 .0),
+        none-free,
+        omega arith,
+        record { of-pattern = omega (arith, w, d, c .before .before .before .before .before .before .before .before .before .before .before .pre .1 .1 .of-pattern); of-record = c .before .before .before .before .before .before .before .before .before .before .before .pre .1 .1 .of-record },
+      ),
+    )
+
+complement-opposite-requires : (t : ℕ) → complement-lts.Need-opposite-requires (complement-claims t) (complement-at t) complement.Post
+complement-opposite-requires t c κs = search needs
+
+complement-returns : (t : ℕ) → complement-lts.Need-returns (complement-claims t) (complement-at t) complement.Post
+complement-returns t c = complement-tests _ _ (c .before .before .before .before .before .before .before .before .before .before .before .before .before .pre .1 .0 .within) _ _ _ _ _ _ _ _ (c .before .before .before .before .before .before .before .before .before .before .before .before .before .pre .1 .1 .of-pattern) (c .before .before .before .inside .ensures) (c .before .before .start .ensures)
+    (c .before .level .ensures) (c .opposite .ensures)
+
+abbrev complements-claims : ℕ → complements-lts.Claims
+complements-claims t = (
+  complement-below t,
+  complement.Post,
+  is-found-reads.Asked,
+  is-found-reads.Learnt,
+)
+
+abbrev complements-Inv-loop : complements-lts.InvT-loop
+complements-Inv-loop table pattern «record» parts₀ frames₀ waiting₀ assigned₀ left₀ marks outside end i₀ parts frames waiting assigned left i = Testing table pattern «record» assigned₀ left₀ parts₀ frames₀ waiting₀ marks assigned left parts frames waiting i
+
+abbrev complements-μ-loop : complements-lts.MeasureT-loop
+complements-μ-loop table pattern «record» parts₀ frames₀ waiting₀ assigned₀ left₀ marks outside end i₀ parts frames waiting assigned left i = marks .waiting - i
+
+complements-loop-holds : (t : ℕ) → complements-lts.Need-loop-holds (complements-claims t) (complements-at t) complements.Post complements-Inv-loop complements-μ-loop
+complements-loop-holds t c = test-first _ _ _ _ _ _ _ _ _
+
+complements-mul-c : (t : ℕ) → complements-lts.Need-mul-c (complements-claims t) (complements-at t) complements.Post complements-Inv-loop complements-μ-loop
+complements-mul-c t c = omega (arith, c .before .before .before .before .before .before .pre .1 .0 .holding .holds .waiting-left)
+
+complements-element-copy-out-c : (t : ℕ) → complements-lts.Need-element-copy-out-c (complements-claims t) (complements-at t) complements.Post complements-Inv-loop complements-μ-loop
+complements-element-copy-out-c t c = omega (arith, c .before .before .before .before .before .before .pre .1 .0 .holding .holds .waiting-left)
+
+complements-complement-requires : (t : ℕ) → complements-lts.Need-complement-requires (complements-claims t) (complements-at t) complements.Post complements-Inv-loop complements-μ-loop
+complements-complement-requires t c κs = (omega arith, (test-next _ _ _ _ _ _ _ _ _ (c .before .before .before .before .before .before .before .loop .inv) (c .before .before .before .before .before .before .loop-test .taken) (c .before .before .before .before .before .before .before .before .before .before .before .before .pre .1 .0), c .before .before .before .before .before .before .before .before .before .before .before .before .pre .1 .1))
+
+complements-is-found-requires : (t : ℕ) → complements-lts.Need-is-found-requires (complements-claims t) (complements-at t) complements.Post complements-Inv-loop complements-μ-loop
+complements-is-found-requires t c κs = search needs
+
+complements-returns : (t : ℕ) → complements-lts.Need-returns (complements-claims t) (complements-at t) complements.Post complements-Inv-loop complements-μ-loop
+complements-returns t c = test-stop _ _ _ _ _ _ _ _ _ (c .before .before .before .before .before .before .before .before .before .before .loop .inv) (c .before .before .before .before .before .before .before .before .before .loop-test .taken) (c .before .before .complement .ensures)
+    (sym (c .before .is-found .ensures) ∙ not-true _ (c .if1 .taken))
+
+complements-add-i : (t : ℕ) → complements-lts.Need-add-i (complements-claims t) (complements-at t) complements.Post complements-Inv-loop complements-μ-loop
+complements-add-i t c = omega arith
+
+complements-loop-less : (t : ℕ) → complements-lts.Need-loop-less (complements-claims t) (complements-at t) complements.Post complements-Inv-loop complements-μ-loop
+complements-loop-less t c = omega arith
+
+complements-loop-again : (t : ℕ) → complements-lts.Need-loop-again (complements-claims t) (complements-at t) complements.Post complements-Inv-loop complements-μ-loop
+complements-loop-again t c = test-on _ _ _ _ _ _ _ _ _ (c .before .before .before .before .before .before .before .before .before .before .loop .inv) (c .before .before .before .before .before .before .before .before .before .loop-test .taken) (c .before .before .complement .ensures)
+    (sym (c .before .is-found .ensures) ∙ not-false _ (c .if1 .left))
+
+complements-returns-2 : (t : ℕ) → complements-lts.Need-returns-2 (complements-claims t) (complements-at t) complements.Post complements-Inv-loop complements-μ-loop
+complements-returns-2 t c = test-end _ _ _ _ _ _ _ _ _ (c .before .loop .inv) (omega arith)
+
+abbrev follow-claims : ℕ → follow-lts.Claims
+follow-claims t = (
+  complements-below t,
+  complements.Post,
+  wide-reads.Asked,
+  wide-reads.Learnt,
+  passed-reads.Asked,
+  passed-reads.Learnt,
+  level-below t,
+  level.Post,
+)
+
+-- the run name
+follow-ready : (t : ℕ) (c : follow-lts.After-wide (follow-claims t) (follow-at t) follow.Post)
+    → Ready (length (c .before .before .before .before .before .before .before .before .before .before .before .before .before .before .args .pattern .now)) (c .before .before .before .before .before .before .before .before .before .stop .given .0 .0) (c .before .before .before .before .before .before .before .before .before .before .before .before .before .before .args .place)
+follow-ready t c = subst (StopsAt (length (c .before .before .before .before .before .before .before .before .before .before .before .before .before .before .args .pattern .now)) (c .before .before .before .before .before .before .before .before .before .before .before .before .before .before .args .place)) (c .before .before .before .before .before .before .before .before .before .stop .given .1) (c .before .before .before .before .before .before .before .before .before .before .before .before .before .before .pre .1 .1)
+
+follow-enum-told : (t : ℕ) → follow-lts.Need-enum-told (follow-claims t) (follow-at t) follow.Post
+follow-enum-told t c = search needs
+
+follow-enum-told-2 : (t : ℕ) → follow-lts.Need-enum-told-2 (follow-claims t) (follow-at t) follow.Post
+follow-enum-told-2 t c = search needs
+
+follow-enum-told-3 : (t : ℕ) → follow-lts.Need-enum-told-3 (follow-claims t) (follow-at t) follow.Post
+follow-enum-told-3 t c = search needs
+
+follow-complements-requires : (t : ℕ) → follow-lts.Need-complements-requires (follow-claims t) (follow-at t) follow.Post
+follow-complements-requires t c κs = (omega (arith, c .before .before .before .before .before .before .before .before .before .before .pre .0), (record { place = c .before .before .before .before .before .before .before .before .before .before .args .place; holding = c .before .before .before .before .before .before .before .before .before .before .pre .1 .0 }, c .before .before .before .before .before .before .before .before .before .before .pre .1 .3))
+
+follow-enum-known-stop : (t : ℕ) → follow-lts.Need-enum-known-stop (follow-claims t) (follow-at t) follow.Post
+follow-enum-known-stop t c = search needs
+
+follow-returns : (t : ℕ) → follow-lts.Need-returns (follow-claims t) (follow-at t) follow.Post
+follow-returns t c = follow-none _ _ _ _ _ _ _ _ _ _ _ _ (c .before .before .before .stop .given .1) (c .if1 .taken)
+
+follow-sub-left : (t : ℕ) → follow-lts.Need-sub-left (follow-claims t) (follow-at t) follow.Post
+follow-sub-left t c = omega arith
+
+follow-wide-requires : (t : ℕ) → follow-lts.Need-wide-requires (follow-claims t) (follow-at t) follow.Post
+follow-wide-requires t c κs = search needs
+
+follow-passed-requires : (t : ℕ) → follow-lts.Need-passed-requires (follow-claims t) (follow-at t) follow.Post
+follow-passed-requires t c κs = let ready = follow-ready t c in (
+  ready .children,
+  omega arith,
+  omega (arith, ready .at, c .before .before .before .before .before .before .before .before .before .before .before .before .before .before .pre .1 .3 .of-pattern),
+  omega (arith, c .before .before .before .before .before .before .before .before .before .before .before .before .before .before .pre .1 .0 .holds .node, c .before .before .before .before .before .before .before .before .before .before .before .before .before .before .pre .1 .3 .of-record),
+)
+
+follow-level-requires : (t : ℕ) → follow-lts.Need-level-requires (follow-claims t) (follow-at t) follow.Post
+follow-level-requires t c κs = let ready = follow-ready t (c .before) in
+    rw (c .passed .ensures, c .before .wide .ensures) (
+      omega (arith, c .before .before .before .before .before .before .before .before .before .before .before .before .before .before .before .pre .0, ready .at),
+      (
+        record { state = past (c .before .before .before .before .before .before .before .before .before .before .before .before .before .before .before .pre .1 .0 .state); holds = past-holds (ready .at) (c .before .before .before .before .before .before .before .before .before .before .before .before .before .before .before .pre .1 .0 .holds) },
+        record { below = omega (arith, ready .variable); free = λ l. subst (Unassigned (c .before .before .before .before .before .before .before .before .before .before .before .before .before .before .before .args .assigned .now)) (c .before .before .before .before .before .before .before .before .before .before .stop .given .1) (c .before .before .before .before .before .before .before .before .before .before .before .before .before .before .before .pre .1 .2) },
+        omega arith,
+        c .before .before .before .before .before .before .before .before .before .before .before .before .before .before .before .pre .1 .3,
+      ),
+    )
+
+follow-returns-2 : (t : ℕ) → follow-lts.Need-returns-2 (follow-claims t) (follow-at t) follow.Post
+follow-returns-2 t c = follow-fails _ _ _ _ _ _ _ _ _ _ _ (c .enum-told .given .1)
+
+follow-returns-3 : (t : ℕ) → follow-lts.Need-returns-3 (follow-claims t) (follow-at t) follow.Post
+follow-returns-3 t c = follow-spent _ _ _ _ _ _ _ _ _ _ _ (c .enum-told2 .given .1)
+
+follow-returns-4 : (t : ℕ) → follow-lts.Need-returns-4 (follow-claims t) (follow-at t) follow.Post
+follow-returns-4 t c = follow-tests _ _ _ _ _ _ _ _ _ _ _ (c .before .before .before .before .before .before .enum-told3 .given .1) (c .complements .ensures)
+
+follow-returns-5 : (t : ℕ) → follow-lts.Need-returns-5 (follow-claims t) (follow-at t) follow.Post
+follow-returns-5 t c = follow-tries _ _ _ _ _ _ _ _ _ _ _ _ _ _ (c .before .before .before .before .before .before .before .before .before .before .before .stop .given .1) (c .before .before .wide .ensures) (c .before .passed .ensures) (c .before .before .before .before .before .before .before .before .if1 .left)
+    (follow-ready t (c .before .before) .at) (c .level .ensures)
+
+abbrev level-claims : ℕ → level-lts.Claims
+level-claims t = (
+  also-reads.Asked,
+  also-reads.Learnt,
+  bound-reads.Asked,
+  bound-reads.Learnt,
+  packed-reads.Asked,
+  packed-reads.Learnt,
+  rest-below t,
+  rest.Post,
+  is-failed-reads.Asked,
+  is-failed-reads.Learnt,
+  extent-reads.Asked,
+  extent-reads.Learnt,
+)
+
+abbrev level-Inv-loop : level-lts.InvT-loop
+level-Inv-loop table pattern «record» parts₀ frames₀ waiting₀ assigned₀ left₀ v most marks seen node place₀ n₀ parts frames waiting assigned left place n = Trying table pattern «record» assigned₀ left₀ parts₀ frames₀ waiting₀ v most marks place₀ left parts frames waiting place n
+
+abbrev level-μ-loop : level-lts.MeasureT-loop
+level-μ-loop table pattern «record» parts₀ frames₀ waiting₀ assigned₀ left₀ v most marks seen node place₀ n₀ parts frames waiting assigned left place n = most - n
+
+-- the variable's part is written
+level-written : (t : ℕ) (c : level-lts.After-packed (level-claims t) (level-at t) level.Post level-Inv-loop level-μ-loop)
+    → Written _ _ _ _ _ _ _ _ _ _ _ _ (c .before .before .before .loop .inv) (c .packed .result) (c .before .before .before .before .also .result)
+level-written t c = record {
+  holding = c .before .before .before .before .before .before .before .before .before .pre .1 .0;
+  free = c .before .before .before .before .before .before .before .before .before .pre .1 .1;
+  short = c .before .before .before .before .before .before .before .before .before .pre .1 .3 .of-record;
+  byte = omega (arith, c .before .before .before .loop .inv .few, c .before .before .before .before .before .before .before .before .before .fits .most);
+  is-part = c .packed .ensures ∙ ap packed (c .before .bound .ensures);
+  is-seen = c .before .before .before .before .also .ensures;
+}
+
+-- one element more stays within the record
+level-grows : (t : ℕ) (c : level-lts.After-extent (level-claims t) (level-at t) level.Post level-Inv-loop level-μ-loop)
+    → c .before .before .before .before .before .before .before .before .before .before .before .before .before .before .before .before .loop .place .node + c .extent .result ≤ length (c .before .before .before .before .before .before .before .before .before .before .before .before .before .before .before .before .before .before .before .before .before .before .args .«record» .now)
+level-grows t c =
+    omega (arith, c .before .before .before .before .before .before .before .before .before .before .before .before .before .before .before .before .loop .inv .within, c .extent .ensures .1, rest-length (c .before .before .before .before .before .before .before .before .before .before .before .before .before .before .before .before .loop .place .node) (c .before .before .before .before .before .before .before .before .before .before .before .before .before .before .before .before .before .before .before .before .before .before .args .«record» .now))
+
+level-also-requires : (t : ℕ) → level-lts.Need-also-requires (level-claims t) (level-at t) level.Post level-Inv-loop level-μ-loop
+level-also-requires t c κs = c .before .before .before .before .pre .1 .1 .below
+
+level-loop-holds : (t : ℕ) → level-lts.Need-loop-holds (level-claims t) (level-at t) level.Post level-Inv-loop level-μ-loop
+level-loop-holds t c = try-first _ _ _ _ _ _ _ _ _ _ _ _ (c .before .before .before .before .before .pre .1 .0 .holds .node)
+
+level-sub-bound : (t : ℕ) → level-lts.Need-sub-bound (level-claims t) (level-at t) level.Post level-Inv-loop level-μ-loop
+level-sub-bound t c = c .before .loop .inv .further
+
+level-bound-requires : (t : ℕ) → level-lts.Need-bound-requires (level-claims t) (level-at t) level.Post level-Inv-loop level-μ-loop
+level-bound-requires t c κs = search needs
+
+level-packed-requires : (t : ℕ) → level-lts.Need-packed-requires (level-claims t) (level-at t) level.Post level-Inv-loop level-μ-loop
+level-packed-requires t c κs = search needs
+
+level-mul-parts : (t : ℕ) → level-lts.Need-mul-parts (level-claims t) (level-at t) level.Post level-Inv-loop level-μ-loop
+level-mul-parts t c = omega (arith, c .before .before .before .before .before .before .before .before .before .pre .1 .1 .below)
+
+level-element-write-parts : (t : ℕ) → level-lts.Need-element-write-parts (level-claims t) (level-at t) level.Post level-Inv-loop level-μ-loop
+level-element-write-parts t c = omega (arith, c .before .before .before .before .before .before .before .before .before .pre .1 .1 .below)
+
+level-rest-requires : (t : ℕ) → level-lts.Need-rest-requires (level-claims t) (level-at t) level.Post level-Inv-loop level-μ-loop
+level-rest-requires t c κs = let inv = c .before .before .before .before .before .before .before .before .loop .inv in (
+  omega (arith, c .before .before .before .before .before .before .before .before .before .before .before .before .before .before .pre .0, inv .at),
+  (written-holding _ _ _ _ _ _ _ _ _ _ _ _ (c .before .before .before .before .before .before .before .before .loop .inv) (level-written t (c .before .before .before .before .before)), c .before .before .before .before .before .before .before .before .before .before .before .before .before .before .pre .1 .3),
+)
+
+level-is-failed-requires : (t : ℕ) → level-lts.Need-is-failed-requires (level-claims t) (level-at t) level.Post level-Inv-loop level-μ-loop
+level-is-failed-requires t c κs = search needs
+
+level-sub-left : (t : ℕ) → level-lts.Need-sub-left (level-claims t) (level-at t) level.Post level-Inv-loop level-μ-loop
+level-sub-left t c = omega (arith, c .if3 .left)
+
+level-sub-extent : (t : ℕ) → level-lts.Need-sub-extent (level-claims t) (level-at t) level.Post level-Inv-loop level-μ-loop
+level-sub-extent t c = c .before .before .before .before .before .before .before .before .before .before .before .before .before .before .loop .inv .within
+
+level-part-extent-start : (t : ℕ) → level-lts.Need-part-extent-start (level-claims t) (level-at t) level.Post level-Inv-loop level-μ-loop
+level-part-extent-start t c = c .before .before .before .before .before .before .before .before .before .before .before .before .before .before .loop .inv .within
+
+level-part-extent-end : (t : ℕ) → level-lts.Need-part-extent-end (level-claims t) (level-at t) level.Post level-Inv-loop level-μ-loop
+level-part-extent-end t c = omega arith
+
+level-extent-requires : (t : ℕ) → level-lts.Need-extent-requires (level-claims t) (level-at t) level.Post level-Inv-loop level-μ-loop
+level-extent-requires t c κs = search needs
+
+level-add-place : (t : ℕ) → level-lts.Need-add-place (level-claims t) (level-at t) level.Post level-Inv-loop level-μ-loop
+level-add-place t c = omega (arith, level-grows t c, c .before .before .before .before .before .before .before .before .before .before .before .before .before .before .before .before .before .before .before .before .before .before .pre .1 .3 .of-record)
+
+level-sub-place : (t : ℕ) → level-lts.Need-sub-place (level-claims t) (level-at t) level.Post level-Inv-loop level-μ-loop
+level-sub-place t c = omega (arith, c .before .before .before .before .before .before .before .before .before .before .before .before .before .before .before .before .before .loop .inv .elements, c .before .before .before .before .before .if2 .left, c .before .before .before .before .before .before .before .before .before .before .before .before .before .before .before .before .before .before .before .before .before .before .before .pre .1 .2)
+
+level-add-n : (t : ℕ) → level-lts.Need-add-n (level-claims t) (level-at t) level.Post level-Inv-loop level-μ-loop
+level-add-n t c = omega (arith, c .before .before .before .before .before .if2 .left, c .before .before .before .before .before .before .before .before .before .before .before .before .before .before .before .before .before .before .before .before .before .before .before .fits .most)
+
+level-loop-less : (t : ℕ) → level-lts.Need-loop-less (level-claims t) (level-at t) level.Post level-Inv-loop level-μ-loop
+level-loop-less t c = omega (arith, c .before .before .before .before .before .if2 .left)
+
+level-loop-again : (t : ℕ) → level-lts.Need-loop-again (level-claims t) (level-at t) level.Post level-Inv-loop level-μ-loop
+level-loop-again t c = try-more _ _ _ _ _ _ _ _ _ _ _ _ (c .before .before .before .before .before .before .before .before .before .before .before .before .before .before .before .before .before .loop .inv) (level-written t (c .before .before .before .before .before .before .before .before .before .before .before .before .before .before)) (c .before .before .before .before .before .before .before .before .rest .ensures)
+    (sym (c .before .before .before .before .before .before .before .is-failed .ensures) ∙ not-false _ (c .before .before .before .before .before .before .if1 .left)) (omega (arith, c .before .before .before .before .before .if2 .left)) (c .before .before .before .if3 .left) _ (c .before .extent .result)
+    (c .before .extent .ensures .0) refl refl refl refl (level-grows t (c .before))
+
+level-returns : (t : ℕ) → level-lts.Need-returns (level-claims t) (level-at t) level.Post level-Inv-loop level-μ-loop
+level-returns t c = try-hit _ _ _ _ _ _ _ _ _ _ _ _ (c .before .before .before .before .before .before .before .before .before .before .before .loop .inv) (level-written t (c .before .before .before .before .before .before .before .before)) (c .before .before .rest .ensures)
+    (sym (c .before .is-failed .ensures) ∙ not-true _ (c .if1 .taken))
+
+level-returns-2 : (t : ℕ) → level-lts.Need-returns-2 (level-claims t) (level-at t) level.Post level-Inv-loop level-μ-loop
+level-returns-2 t c = try-last _ _ _ _ _ _ _ _ _ _ _ _ (c .before .before .before .before .before .before .before .before .before .before .before .before .loop .inv) (level-written t (c .before .before .before .before .before .before .before .before .before)) (c .before .before .before .rest .ensures) (c .if2 .taken)
+
+level-returns-3 : (t : ℕ) → level-lts.Need-returns-3 (level-claims t) (level-at t) level.Post level-Inv-loop level-μ-loop
+level-returns-3 t c = try-spent _ _ _ _ _ _ _ _ _ _ _ _ (c .before .before .before .before .before .before .before .before .before .before .before .before .before .before .loop .inv) (level-written t (c .before .before .before .before .before .before .before .before .before .before .before)) (c .before .before .before .before .before .rest .ensures)
+    (sym (c .before .before .before .before .is-failed .ensures) ∙ not-false _ (c .before .before .before .if1 .left)) (omega (arith, c .before .before .if2 .left)) (c .if3 .taken)
+
+abbrev rest-claims : ℕ → rest-lts.Claims
+rest-claims t = (
+  walk-reads.Asked,
+  walk-reads.Learnt,
+  follow-below t,
+  follow.Post,
+)
+
+rest-walk-requires : (t : ℕ) → rest-lts.Need-walk-requires (rest-claims t) (rest-at t) rest.Post
+rest-walk-requires t c κs = c .before .before .before .before .before .before .before .before .pre .1
+
+rest-follow-requires : (t : ℕ) → rest-lts.Need-follow-requires (rest-claims t) (rest-at t) rest.Post
+rest-follow-requires t c κs = let h = c .before .before .before .before .before .before .before .before .before .before .before .before .before .before .before .before .pre .1 .0 in
+    let w = c .before .before .before .before .before .before .before .walk .ensures (h .state) (h .holds) in (
+      omega (arith, c .before .before .before .before .before .before .before .before .before .before .before .before .before .before .before .before .pre .0, w .further),
+      (record { state = w .end; holds = w .holds }, w .stops, w .unassigned, c .before .before .before .before .before .before .before .before .before .before .before .before .before .before .before .before .pre .1 .1),
+    )
+
+rest-returns : (t : ℕ) → rest-lts.Need-returns (rest-claims t) (rest-at t) rest.Post
+rest-returns t c = rest-follows (c .before .before .before .before .before .before .before .before .before .before .before .before .before .before .before .before .before .pre .1 .0) (c .before .before .before .before .before .before .before .before .walk .ensures) (c .follow .ensures)
+
+pub +complement+complements+follow+level+rest-spec : {M : Type 1} → statement M
++complement+complements+follow+level+rest-spec =
+    close μ-complement μ-complements μ-follow μ-level μ-rest (λ t. complement-lts.spec
+    (complement-claims t)
+    (complement-at t)
+    complement.Post
+    (complement-cast-from t)
+    (complement-add-from t)
+    (complement-cast-stop t)
+    (complement-add-stop t)
+    (complement-cast-node t)
+    (complement-sub-level t)
+    (complement-part-level-start t)
+    (complement-part-level-end t)
+    (complement-inside-requires t)
+    (complement-start-requires t)
+    (complement-level-requires t)
+    (complement-opposite-requires t)
+    (complement-returns t))
+    (λ t. complements-lts.spec
+    (complements-claims t)
+    (complements-at t)
+    complements.Post
+    complements-Inv-loop
+    complements-μ-loop
+    (complements-loop-holds t)
+    (complements-mul-c t)
+    (complements-element-copy-out-c t)
+    (complements-complement-requires t)
+    (complements-is-found-requires t)
+    (complements-returns t)
+    (complements-add-i t)
+    (complements-loop-less t)
+    (complements-loop-again t)
+    (complements-returns-2 t))
+    (λ t. follow-lts.spec
+    (follow-claims t)
+    (follow-at t)
+    follow.Post
+    (follow-enum-told t)
+    (follow-enum-told-2 t)
+    (follow-enum-told-3 t)
+    (follow-complements-requires t)
+    (follow-enum-known-stop t)
+    (follow-returns t)
+    (follow-sub-left t)
+    (follow-wide-requires t)
+    (follow-passed-requires t)
+    (follow-level-requires t)
+    (follow-returns-2 t)
+    (follow-returns-3 t)
+    (follow-returns-4 t)
+    (follow-returns-5 t))
+    (λ t. level-lts.spec
+    (level-claims t)
+    (level-at t)
+    level.Post
+    level-Inv-loop
+    level-μ-loop
+    (level-also-requires t)
+    (level-loop-holds t)
+    (level-sub-bound t)
+    (level-bound-requires t)
+    (level-packed-requires t)
+    (level-mul-parts t)
+    (level-element-write-parts t)
+    (level-rest-requires t)
+    (level-is-failed-requires t)
+    (level-sub-left t)
+    (level-sub-extent t)
+    (level-part-extent-start t)
+    (level-part-extent-end t)
+    (level-extent-requires t)
+    (level-add-place t)
+    (level-sub-place t)
+    (level-add-n t)
+    (level-loop-less t)
+    (level-loop-again t)
+    (level-returns t)
+    (level-returns-2 t)
+    (level-returns-3 t))
+    λ t. rest-lts.spec
+    (walk-reads.Asked, walk-reads.Learnt, follow-below t, follow.Post)
+    (rest-at t)
+    rest.Post
+    (rest-walk-requires t)
+    (rest-follow-requires t)
+    (rest-returns t)

@@ -1,0 +1,213 @@
+-- What a step asks for: bytes of pattern and record, elements, allowance, and a variable that is not assigned.
+-- Assumes nothing.
+use Prim.Native.Nat.{ℕ, zero, suc, _+_, _<_, _≤_}
+use native.Mathlib.Nat.{pos-of-ne-zero, le-refl}
+use native.Mathlib.Omega.{arith}
+use mathlib.Core.Bool.{Bool, true, false, _&&_, _||_}
+use mathlib.Core.List.{List, [], _∷_}
+use mathlib.Core.Path.{_≡_, refl}
+use lib.Dec.{leb, eqb, ltb}
+use lib.ListN.{length, getD, drop, length-drop}
+use borrow.Author.Tests.{leb-true, leb-false, eqb-false, ltb-true}
+use Rattle.term.proofs.Answers.{cond-all}
+use Rattle.term.proofs.Codes.{decode-below}
+use Rattle.term.proofs.Extents.{extent-some}
+use Rattle.term.specs.Code.{decodeOf, VariableBelow}
+use Rattle.term.specs.Extent.{entryOf, spanOf, extentOf}
+use Rattle.term.specs.Part.{isAbsent}
+use Rattle.term.specs.declared.Code.the-variants.{Symbol, Name, Run, Complement}
+use Rattle.term.specs.declared.Code.{Code}
+use Rattle.term.specs.declared.Part.{Part}
+use Rattle.search.specs.Bounds.{Ready}
+use Rattle.search.specs.State.{standsOf, overStep, symbolStep, assignedStep, nameStep, runStep, pairStep, plainStep, codeStep, stepOf, variableOf, variableAt}
+use Rattle.search.specs.declared.Place.{Place}
+use Rattle.search.specs.declared.Step.the-variants.{Stops, Fails, Closes, Opens, Passes, Binds, PutsBy}
+use Rattle.search.specs.declared.Step.{Step}
+use Rattle.search.specs.declared.Stop.the-variants.{Failure, NoAllowance, NoPair, RunName}
+
+-- a pair: so many elements, and so many bytes of pattern and record
+pub record Takes (codes bytes : ℕ) (p : Place) (left k n size : ℕ) : Type 0 where
+  pub allowed : 0 < left
+  pub children : 0 < p .children
+  pub elements : k ≤ p .elements
+  pub some : 0 < n
+  pub at : p .at + n ≤ codes
+  pub node : p .node + size ≤ bytes
+
+-- the variable of this place, which is not assigned
+pub record Free (pattern : List ℕ) (had : Part) (at v : ℕ) : Type 0 where
+  pub below : v < 48
+  pub here : v ≡ variableAt pattern at
+  pub absent : isAbsent had ≡ true
+
+abbrev pub Asks : Bool → List ℕ → List ℕ → Part → Place → ℕ → Step → Type 0
+Asks outermost pattern bytes had p left (Stops Failure) = Unit {0}
+Asks outermost pattern bytes had p left (Stops NoAllowance) = Unit {0}
+Asks outermost pattern bytes had p left (Stops NoPair) = Unit {0}
+Asks outermost pattern bytes had p left (Stops (RunName v)) = Free pattern had (p .at) v × Ready (length pattern) v p
+Asks outermost pattern bytes had p left Fails = 0 < left
+Asks outermost pattern bytes had p left Closes = outermost ≡ false
+Asks outermost pattern bytes had p left (Opens children elements width) = Takes (length pattern) (length bytes) p left 1 width width
+Asks outermost pattern bytes had p left (Passes elements size) = Takes (length pattern) (length bytes) p left elements 1 size
+Asks outermost pattern bytes had p left (Binds v size) = Free pattern had (p .at) v × Takes (length pattern) (length bytes) p left 1 1 size
+Asks outermost pattern bytes had p left (PutsBy n size) = Takes (length pattern) (length bytes) p left 1 n size
+
+span-within : (table s : List ℕ) (counting : Bool) (n : ℕ) → spanOf table s counting n ≤ length s
+unfolding spanOf
+span-within table [] counting n = le-refl 0
+span-within table (b ∷ s) true n = omega (arith, span-within table s false (b + n))
+span-within table (b ∷ s) false zero = omega arith
+span-within table (b ∷ s) false (suc n) =
+    omega (
+      arith,
+      cond-all (λ (m : ℕ). m ≤ length s) (eqb (entryOf table b) 255)
+          (λ e. span-within table s true n) (λ e. span-within table s false (entryOf table b + n)),
+    )
+
+-- the bytes at a place end within the list
+extent-within : (table l : List ℕ) (a : ℕ) → a ≤ length l → a + extentOf table (drop a l) ≤ length l
+unfolding extentOf
+extent-within table l a h = omega (arith, span-within table (drop a l) false 1, length-drop a l)
+
+both : (a b : Bool) → a && b ≡ true → (a ≡ true) × (b ≡ true)
+both true b e = (refl, e)
+both false true e = (e, refl)
+both false false e = (e, e)
+
+stands-length : (bytes : List ℕ) (had : Part) (r : List ℕ) → standsOf bytes had r ≡ true → had .length ≤ length r
+unfolding standsOf
+stands-length bytes had r h = leb-true (had .length) (length r) (both _ _ h .0)
+
+neither : (a b : Bool) → a || b ≡ false → (a ≡ false) × (b ≡ false)
+neither true true e = (e, e)
+neither true false e = (e, refl)
+neither false b e = (refl, e)
+
+pub variable-below : (pattern : List ℕ) (at : ℕ) → variableAt pattern at < 48
+unfolding variableAt VariableBelow
+variable-below pattern at =
+    cond-all (λ (v : ℕ). v < 48) (ltb at (length pattern)) (λ e. by (decodeOf (getD pattern at 0)) (decode-below (getD pattern at 0)))
+    (λ e. omega arith)
+  where
+    by : (c : Code) → VariableBelow c → variableOf c < 48
+    by (Symbol b) h = omega arith
+    by (Name v) h = h
+    by (Run v) h = h
+    by Complement h = omega arith
+    by Code.Refused h = omega arith
+
+module _ (outermost : Bool) (table pattern bytes : List ℕ) (had : Part) (p : Place) (left : ℕ) (node : p .node ≤ length bytes) where
+  asks-over : Asks outermost pattern bytes had p left (overStep outermost (p .elements))
+  unfolding overStep
+  asks-over =
+      cond-all (Asks outermost pattern bytes had p left) (eqb (p .elements) 0)
+      (λ e. cond-all (Asks outermost pattern bytes had p left) outermost (λ o. tt) (λ o. o)) (λ e. tt)
+
+  module _ (children : 0 < p .children) (at : p .at < length pattern) where
+    asks-assigned : 0 < left → Asks outermost pattern bytes had p left (assignedStep bytes had (drop (p .node) bytes) (p .elements))
+    unfolding assignedStep
+    asks-assigned l =
+        cond-all (Asks outermost pattern bytes had p left) (leb (had .elements) (p .elements) && standsOf bytes had (drop (p .node) bytes))
+        (λ e. takes (both _ _ e)) (λ e. l)
+      where
+        takes : (leb (had .elements) (p .elements) ≡ true) × (standsOf bytes had (drop (p .node) bytes) ≡ true)
+            → Takes (length pattern) (length bytes) p left (had .elements) 1 (had .length)
+        takes e = record {
+          allowed = l;
+          children = children;
+          elements = leb-true (had .elements) (p .elements) (e .0);
+          some = omega arith;
+          at = omega arith;
+          node = omega (arith, stands-length bytes had (drop (p .node) bytes) (e .1), length-drop (p .node) bytes);
+        }
+
+    asks-run : (v : ℕ) → v < 48 → v ≡ variableAt pattern (p .at)
+        → Asks outermost pattern bytes had p left (runStep bytes v had (drop (p .node) bytes) (p .elements) left)
+    unfolding runStep
+    asks-run v low here =
+        cond-all (Asks outermost pattern bytes had p left) (isAbsent had)
+        (λ e. (record { below = low; here = here; absent = e }, record { variable = low; children = children; at = at }))
+        (λ e. cond-all (Asks outermost pattern bytes had p left) (eqb left 0) (λ z. tt) (λ z. asks-assigned (pos-of-ne-zero (eqb-false left 0 z))))
+
+    -- a plain child pattern against an element
+    module _ (elements : 0 < p .elements) (inside : p .node < length bytes) (l : 0 < left) where
+      asks-symbol : (b : ℕ) → Asks outermost pattern bytes had p left (symbolStep table (drop (p .at) pattern) (drop (p .node) bytes) b)
+      unfolding symbolStep
+      asks-symbol b =
+          cond-all (Asks outermost pattern bytes had p left) (eqb b (getD (drop (p .node) bytes) 0 0))
+          (λ e. cond-all (Asks outermost pattern bytes had p left) (eqb (entryOf table b) 0) (λ z. one)
+          (λ z. cond-all (Asks outermost pattern bytes had p left) (eqb (entryOf table b) 255)
+          (λ y. cond-all (Asks outermost pattern bytes had p left) _ (λ f. two (both _ _ f)) (λ f. l)) (λ y. one)))
+          (λ e. l)
+        where
+          one : Takes (length pattern) (length bytes) p left 1 1 1
+          one = record { allowed = l; children = children; elements = elements; some = omega arith; at = omega arith; node = omega arith }
+
+          two : (leb 2 (length (drop (p .at) pattern)) ≡ true) × (leb 2 (length (drop (p .node) bytes)) ≡ true)
+              → Takes (length pattern) (length bytes) p left 1 2 2
+          two f = record {
+            allowed = l;
+            children = children;
+            elements = elements;
+            some = omega arith;
+            at = omega (arith, leb-true 2 (length (drop (p .at) pattern)) (f .0), length-drop (p .at) pattern);
+            node = omega (arith, leb-true 2 (length (drop (p .node) bytes)) (f .1), length-drop (p .node) bytes);
+          }
+
+      asks-pair : (c : Code) → VariableBelow c → variableOf c ≡ variableAt pattern (p .at)
+          → Asks outermost pattern bytes had p left (pairStep c table bytes (drop (p .at) pattern) (drop (p .node) bytes) had (p .elements))
+      unfolding pairStep nameStep VariableBelow
+      asks-pair (Symbol b) low here = asks-symbol b
+      asks-pair (Name v) low here =
+          cond-all (Asks outermost pattern bytes had p left) (isAbsent had)
+          (λ e. (
+            record { below = low; here = here; absent = e },
+            record {
+              allowed = l;
+              children = children;
+              elements = elements;
+              some = omega arith;
+              at = omega arith;
+              node = extent-within table bytes (p .node) node;
+            },
+          ))
+          (λ e. asks-assigned l)
+      asks-pair (Run v) low here = l
+      asks-pair Complement low here = record {
+        allowed = l;
+        children = children;
+        elements = elements;
+        some = extent-some table (drop (p .at) pattern) (omega (arith, length-drop (p .at) pattern));
+        at = extent-within table pattern (p .at) (omega arith);
+        node = extent-within table bytes (p .node) node;
+      }
+      asks-pair Code.Refused low here = l
+
+    asks-plain : (c : Code) → VariableBelow c → variableOf c ≡ variableAt pattern (p .at)
+        → Asks outermost pattern bytes had p left (plainStep c table pattern bytes had p left)
+    unfolding plainStep
+    asks-plain c low here =
+        cond-all (Asks outermost pattern bytes had p left) _ (λ e. tt)
+        (λ e.
+        let f = neither _ _ e in
+        cond-all (Asks outermost pattern bytes had p left) (eqb left 0) (λ z. tt)
+        (λ z. asks-pair (pos-of-ne-zero (eqb-false (p .elements) 0 (f .0))) (leb-false (length bytes) (p .node) (f .1))
+        (pos-of-ne-zero (eqb-false left 0 z)) c low here))
+
+    asks-code : (c : Code) → VariableBelow c → variableOf c ≡ variableAt pattern (p .at)
+        → Asks outermost pattern bytes had p left (codeStep c table pattern bytes had p left)
+    unfolding codeStep VariableBelow
+    asks-code (Symbol b) low here = asks-plain (Symbol b) low here
+    asks-code (Name v) low here = asks-plain (Name v) low here
+    asks-code (Run v) low here = asks-run v low here
+    asks-code Complement low here = asks-plain Complement low here
+    asks-code Code.Refused low here = tt
+
+  pub step-asks : Asks outermost pattern bytes had p left (stepOf outermost table pattern bytes had p left)
+  unfolding stepOf variableAt
+  step-asks =
+      cond-all (Asks outermost pattern bytes had p left) (eqb (p .children) 0) (λ e. asks-over)
+      (λ e. cond-all (Asks outermost pattern bytes had p left) (ltb (p .at) (length pattern))
+      (λ f. asks-code (pos-of-ne-zero (eqb-false (p .children) 0 e)) (ltb-true (p .at) (length pattern) f) (decodeOf (getD pattern (p .at) 0))
+      (decode-below (getD pattern (p .at) 0)) (rw f))
+      (λ f. tt))

@@ -1,0 +1,217 @@
+-- The buffers hold the state after each step, and keep what they must keep.
+-- Assumes nothing.
+use Prim.Native.Nat.{ℕ, _+_, _-_, _%_, _^_, _<_, _≤_}
+use native.Mathlib.Nat.{le-refl}
+use native.Mathlib.Omega.{arith}
+use mathlib.Core.Bool.{Bool, true, false, true≢false}
+use mathlib.Core.List.{List, [], _∷_, _++_}
+use mathlib.Core.Path.{_≡_, refl, sym, ap, subst, _∙_}
+use lib.Bits.{bitOr}
+use lib.Dec.{eqb}
+use lib.ListN.{length, getD, set, length-set}
+use lib.Seq.{getD-set-same, getD-set-other}
+use borrow.Author.Tests.{eqb-true, eqb-false, ne-eqb}
+use Rattle.term.specs.Part.{part, isAbsent, boundPart}
+use Rattle.term.specs.declared.Part.{Part}
+use Rattle.search.specs.Memory.{bit, packed, partIn, frameIn, outer, openedMarks, closedMarks, Linked, putByIn, putByMarks, Holds, Kept}
+use Rattle.search.specs.State.{Frame, PutBy, frame, putBy, state, passed, entered, reopened}
+use Rattle.search.specs.declared.Marks.{Marks}
+use Rattle.search.specs.declared.Place.{Place}
+use Rattle.search.proofs.Asks.{Takes}
+use Rattle.search.proofs.Buffers.{below-set, sized-part, sized-frame, sized-waiting, linked-push, queued-push, insides-on, insides-push}
+use Rattle.search.proofs.Masks.{bit-new, bit-other, part-back}
+
+-- Variables: v is assigned n elements of so many bytes
+
+module _ (assigned v node size n : ℕ) (parts : List ℕ) (vs : List Part) where
+  pub shown-assigned : v < length parts → n < 256 → length vs ≡ 48
+      → ((w : ℕ) → w < 48 → getD vs w (part 0 0 0) ≡ partIn assigned parts w) → (w : ℕ) → w < 48
+      → getD (set vs v (boundPart node size n)) w (part 0 0 0) ≡ partIn (bitOr assigned (2 ^ v)) (set parts v (packed (boundPart node size n))) w
+  shown-assigned room small many h w low = by (eqb v w) refl
+    where
+      by : (b : Bool) → eqb v w ≡ b
+          → getD (set vs v (boundPart node size n)) w (part 0 0 0) ≡ partIn (bitOr assigned (2 ^ v)) (set parts v (packed (boundPart node size n))) w
+      by true e =
+          let i : v ≡ w = eqb-true v w e in
+          rw (← i, bit-new assigned v, getD-set-same parts v (packed (boundPart node size n)) 0 room, part-back node size n small)
+          (getD-set-same vs v (boundPart node size n) (part 0 0 0) (omega arith))
+      by false e =
+          let d = eqb-false v w e in
+          rw (bit-other assigned v w d, getD-set-other parts v w (packed (boundPart node size n)) 0 (λ i. d (sym i)))
+          (getD-set-other vs v w (boundPart node size n) (part 0 0 0) (λ i. d (sym i)) ∙ h w low)
+
+  pub present-assigned : node ≤ 4096 → length vs ≡ 48
+      → ((w : ℕ) → w < 48 → bit assigned w ≡ true → isAbsent (getD vs w (part 0 0 0)) ≡ false) → (w : ℕ) → w < 48
+      → bit (bitOr assigned (2 ^ v)) w ≡ true → isAbsent (getD (set vs v (boundPart node size n)) w (part 0 0 0)) ≡ false
+  present-assigned low-node many h w low b = by (eqb v w) refl
+    where
+      by : (c : Bool) → eqb v w ≡ c → isAbsent (getD (set vs v (boundPart node size n)) w (part 0 0 0)) ≡ false
+      by true e =
+          let i : v ≡ w = eqb-true v w e in
+          rw (← i, getD-set-same vs v (boundPart node size n) (part 0 0 0) (omega arith)) (ne-eqb (node % 65536) 65535 (λ z. omega arith))
+      by false e =
+          let d = eqb-false v w e in
+          rw (getD-set-other vs v w (boundPart node size n) (part 0 0 0) (λ i. d (sym i))) (h w low (sym (bit-other assigned v w d) ∙ b))
+
+-- Steps
+
+module _ (codes bytes assigned : ℕ) (parts frames waiting : List ℕ) (m : Marks) (p : Place) (vs : List Part) (fs : List Frame) (cs : List PutBy)
+    (h : Holds codes bytes assigned parts frames waiting m p (state vs fs cs p)) where
+  -- a variable whose part is the absent mark is not assigned
+  pub unassigned : (v : ℕ) → v < 48 → isAbsent (partIn assigned parts v) ≡ true → bit assigned v ≡ false
+  unassigned v low e = by (bit assigned v) refl
+    where
+      by : (b : Bool) → bit assigned v ≡ b → b ≡ false
+      by true i = sym e ∙ ap isAbsent (sym (h .shown v low)) ∙ h .present v low i
+      by false i = refl
+
+  pub holds-closed : (gs : List Frame) → Linked frames (outer (getD frames (m .inner - 1) 0)) gs → outer (getD frames (m .inner - 1) 0) < m .inner
+      → Holds codes bytes assigned parts frames waiting (closedMarks m (getD frames (m .inner - 1) 0))
+      (reopened p (frameIn (getD frames (m .inner - 1) 0)))
+      (state vs gs cs (reopened p (frameIn (getD frames (m .inner - 1) 0))))
+  holds-closed gs l less = record {
+    sized = h .sized;
+    place = refl;
+    variables = h .variables;
+    shown = h .shown;
+    present = h .present;
+    linked = l;
+    innermost = let i = h .innermost in omega arith;
+    queued = h .queued;
+    insides = insides-on codes bytes (p .at) (p .at) m (closedMarks m (getD frames (m .inner - 1) 0)) (le-refl _) (le-refl _) cs (h .insides);
+    at = h .at;
+    node = h .node;
+    frames-left = h .frames-left;
+    waiting-left = h .waiting-left;
+  }
+
+  pub holds-opened : (left children elements width x : ℕ) → Takes codes bytes p left 1 width width
+      → (frameIn x ≡ frame (p .children - 1) (p .elements - 1)) × (outer x ≡ m .inner)
+      → Holds codes bytes assigned parts (set frames (m .frames) x) waiting (openedMarks m) (entered p children elements width)
+      (state vs (frame (p .children - 1) (p .elements - 1) ∷ fs) cs (entered p children elements width))
+  holds-opened left children elements width x t is =
+      let z = h .sized .of-frames in
+      let f = h .frames-left in
+      let w = h .waiting-left in
+      let some = t .some in
+      let at = t .at in
+      record {
+        sized = sized-frame (h .sized) (m .frames) x;
+        place = refl;
+        variables = h .variables;
+        shown = h .shown;
+        present = h .present;
+        linked = linked-push frames (m .inner) (m .frames) x (frame (p .children - 1) (p .elements - 1)) fs (h .innermost) (omega arith) (is .0)
+            (is .1)
+            (h .linked);
+        innermost = le-refl (m .frames + 1);
+        queued = h .queued;
+        insides = insides-on codes bytes (p .at) (p .at + width) m (openedMarks m) (omega arith) (omega arith) cs (h .insides);
+        at = at;
+        node = t .node;
+        frames-left = omega arith;
+        waiting-left = omega arith;
+      }
+
+  pub holds-passed : (left elements size : ℕ) → Takes codes bytes p left elements 1 size
+      → Holds codes bytes assigned parts frames waiting m (passed p elements 1 size) (state vs fs cs (passed p elements 1 size))
+  holds-passed left elements size t =
+      let f = h .frames-left in
+      let w = h .waiting-left in
+      record {
+        sized = h .sized;
+        place = refl;
+        variables = h .variables;
+        shown = h .shown;
+        present = h .present;
+        linked = h .linked;
+        innermost = h .innermost;
+        queued = h .queued;
+        insides = insides-on codes bytes (p .at) (p .at + 1) m m (omega arith) (omega arith) cs (h .insides);
+        at = t .at;
+        node = t .node;
+        frames-left = omega arith;
+        waiting-left = omega arith;
+      }
+
+  pub holds-bound : (left v size : ℕ) → v < 48 → Takes codes bytes p left 1 1 size → p .node ≤ 4096
+      → Holds codes bytes (bitOr assigned (2 ^ v)) (set parts v (packed (boundPart (p .node) size 1))) frames waiting m (passed p 1 1 size)
+      (state (set vs v (boundPart (p .node) size 1)) fs cs (passed p 1 1 size))
+  holds-bound left v size low t node =
+      let z = h .sized .of-parts in
+      let f = h .frames-left in
+      let w = h .waiting-left in
+      record {
+        sized = sized-part (h .sized) v (packed (boundPart (p .node) size 1));
+        place = refl;
+        variables = length-set vs v (boundPart (p .node) size 1) ∙ h .variables;
+        shown = shown-assigned assigned v (p .node) size 1 parts vs (omega arith) (omega arith) (h .variables) (h .shown);
+        present = present-assigned assigned v (p .node) size 1 parts vs node (h .variables) (h .present);
+        linked = h .linked;
+        innermost = h .innermost;
+        queued = h .queued;
+        insides = insides-on codes bytes (p .at) (p .at + 1) m m (omega arith) (omega arith) cs (h .insides);
+        at = t .at;
+        node = t .node;
+        frames-left = omega arith;
+        waiting-left = omega arith;
+      }
+
+  pub holds-put : (left n size x : ℕ) → Takes codes bytes p left 1 n size → putByIn x ≡ putBy (p .at) (n - 1) (p .node)
+      → Holds codes bytes assigned parts frames (set waiting (m .waiting) x) (putByMarks m) (passed p 1 n size)
+      (state vs fs (cs ++ putBy (p .at) (n - 1) (p .node) ∷ []) (passed p 1 n size))
+  holds-put left n size x t is =
+      let z = h .sized .of-waiting in
+      let f = h .frames-left in
+      let w = h .waiting-left in
+      let some = t .some in
+      let at = t .at in
+      record {
+        sized = sized-waiting (h .sized) (m .waiting) x;
+        place = refl;
+        variables = h .variables;
+        shown = h .shown;
+        present = h .present;
+        linked = h .linked;
+        innermost = h .innermost;
+        queued = queued-push waiting (m .waiting) x (putBy (p .at) (n - 1) (p .node)) (omega arith) is (m .first) cs (h .queued);
+        insides = insides-push codes bytes (p .at + n) (putByMarks m) (putBy (p .at) (n - 1) (p .node))
+            (record { within = omega arith; node = h .node; frames = omega arith; waiting = omega arith }) cs
+            (insides-on codes bytes (p .at) (p .at + n) m (putByMarks m) (omega arith) (omega arith) cs (h .insides));
+        at = at;
+        node = t .node;
+        frames-left = omega arith;
+        waiting-left = omega arith;
+      }
+
+-- What is kept from the start of a call, under the mask and the marks there
+
+module _ (assigned₀ assigned : ℕ) (m₀ m : Marks) (parts₀ frames₀ waiting₀ parts frames waiting : List ℕ)
+    (k : Kept assigned₀ m₀ parts₀ frames₀ waiting₀ parts frames waiting) where
+  pub kept-part : ((v : ℕ) → bit assigned₀ v ≡ true → bit assigned v ≡ true) → (v x : ℕ) → (v < 48 → bit assigned v ≡ false)
+      → Kept assigned₀ m₀ parts₀ frames₀ waiting₀ (set parts v x) frames waiting
+  kept-part still v x free = record {
+    of-parts = λ w low b. getD-set-other parts v w x 0 (other w low b) ∙ k .of-parts w low b;
+    of-frames = k .of-frames;
+    of-waiting = k .of-waiting;
+    sized = λ z. sized-part (k .sized z) v x;
+  }
+    where
+      other : (w : ℕ) → w < 48 → bit assigned₀ w ≡ true → w ≡ v → ⊥
+      other w low b e = true≢false (sym (still w b) ∙ ap (bit assigned) e ∙ free (subst (λ (u : ℕ). u < 48) e low))
+
+  pub kept-frame : (x : ℕ) → m₀ .frames ≤ m .frames → Kept assigned₀ m₀ parts₀ frames₀ waiting₀ parts (set frames (m .frames) x) waiting
+  kept-frame x more = record {
+    of-parts = k .of-parts;
+    of-frames = λ i low. below-set frames (m .frames) x i (omega arith) ∙ k .of-frames i low;
+    of-waiting = k .of-waiting;
+    sized = λ z. sized-frame (k .sized z) (m .frames) x;
+  }
+
+  pub kept-waiting : (x : ℕ) → m₀ .waiting ≤ m .waiting → Kept assigned₀ m₀ parts₀ frames₀ waiting₀ parts frames (set waiting (m .waiting) x)
+  kept-waiting x more = record {
+    of-parts = k .of-parts;
+    of-frames = k .of-frames;
+    of-waiting = λ i low. below-set waiting (m .waiting) x i (omega arith) ∙ k .of-waiting i low;
+    sized = λ z. sized-waiting (k .sized z) (m .waiting) x;
+  }

@@ -1,0 +1,207 @@
+-- What a call leaves alone, and what its caller then holds again: why nothing is undone.
+-- Assumes nothing.
+use Prim.Native.Nat.{ℕ, zero, suc, _+_, _%_, _^_, _<_, _≤_}
+use native.Mathlib.Omega.{arith}
+use native.Mathlib.Nat.{lt-of-lt-of-le, zero-div}
+use mathlib.Core.Path.{_≡_, refl, sym, ap, subst, _∙_}
+use mathlib.Core.List.{List, [], _∷_}
+use mathlib.Core.Bool.{Bool, true, false, cond, true≢false}
+use lib.Bits.{bitOr}
+use lib.ListN.{length, getD, set, replicate, length-set, length-replicate, getD-replicate}
+use lib.Seq.{getD-set-same, getD-set-other}
+use lib.Dec.{eqb}
+use borrow.Author.Tests.{eqb-true, eqb-false}
+use Rattle.term.specs.Part.{part, absent, boundPart}
+use Rattle.term.specs.declared.Part.{Part}
+use Rattle.search.specs.State.{PutBy, State, place, state, passed}
+use Rattle.search.specs.Level.{startOf}
+use Rattle.search.specs.Memory.{marks, bit, packed, unpacked, partIn, Inside, Sized, Holds, Kept}
+use Rattle.search.specs.Replies.{partsIn, given, inside, Free}
+use Rattle.search.specs.declared.Place.{Place}
+use Rattle.search.specs.declared.Marks.{Marks}
+use Rattle.search.proofs.Buffers.{sized-part, linked-kept, queued-kept, insides-on}
+use Rattle.search.proofs.Held.{shown-assigned, present-assigned}
+
+-- nothing is changed
+pub kept-all : {assigned : ℕ} {m : Marks} {parts frames waiting : List ℕ} → Kept assigned m parts frames waiting parts frames waiting
+kept-all = record { of-parts = λ v l b. refl; of-frames = λ i l. refl; of-waiting = λ i l. refl; sized = λ z. z }
+
+-- one call after another, that has at least as much to keep
+pub kept-then : {assigned assigned₁ : ℕ} {m m₁ : Marks} {parts frames waiting parts₁ frames₁ waiting₁ parts₂ frames₂ waiting₂ : List ℕ}
+    → ((v : ℕ) → bit assigned v ≡ true → bit assigned₁ v ≡ true) → m .frames ≤ m₁ .frames → m .waiting ≤ m₁ .waiting
+    → Kept assigned m parts frames waiting parts₁ frames₁ waiting₁ → Kept assigned₁ m₁ parts₁ frames₁ waiting₁ parts₂ frames₂ waiting₂
+    → Kept assigned m parts frames waiting parts₂ frames₂ waiting₂
+kept-then still f w k l = record {
+  of-parts = λ v h b. l .of-parts v h (still v b) ∙ k .of-parts v h b;
+  of-frames = λ i h. l .of-frames i (lt-of-lt-of-le h f) ∙ k .of-frames i h;
+  of-waiting = λ i h. l .of-waiting i (lt-of-lt-of-le h w) ∙ k .of-waiting i h;
+  sized = λ z. l .sized (k .sized z);
+}
+
+module _ {assigned : ℕ} {m : Marks} {parts frames waiting parts′ frames′ waiting′ : List ℕ}
+    (k : Kept assigned m parts frames waiting parts′ frames′ waiting′) where
+  pub part-kept : (v : ℕ) → v < 48 → partIn assigned parts′ v ≡ partIn assigned parts v
+  part-kept v h = by (bit assigned v) refl
+    where
+      by : (b : Bool) → bit assigned v ≡ b → cond b (unpacked (getD parts′ v 0)) absent ≡ cond b (unpacked (getD parts v 0)) absent
+      by true e = ap unpacked (k .of-parts v h e)
+      by false e = refl
+
+  -- THE INVARIANT HOLDS AGAIN after a call that leaves alone what it must
+  pub restored : {codes bytes : ℕ} {p : Place} {s : State}
+      → Holds codes bytes assigned parts frames waiting m p s → Holds codes bytes assigned parts′ frames′ waiting′ m p s
+  restored {s = s} h = record {
+    place = h .place;
+    variables = h .variables;
+    shown = λ v l. h .shown v l ∙ sym (part-kept v l);
+    present = h .present;
+    linked = linked-kept frames frames′ (m .frames) (k .of-frames) (m .inner) (s .frames) (h .innermost) (h .linked);
+    innermost = h .innermost;
+    queued = queued-kept waiting waiting′ (m .waiting) (k .of-waiting) (m .first) (s .waiting) (h .queued);
+    insides = h .insides;
+    at = h .at;
+    node = h .node;
+    frames-left = h .frames-left;
+    waiting-left = h .waiting-left;
+    sized = k .sized (h .sized);
+  }
+
+-- past a run name
+abbrev pub past : State → State
+past s = state (s .parts) (s .frames) (s .waiting) (passed (s .place) 0 1 0)
+
+pub past-holds : {codes bytes assigned : ℕ} {parts frames waiting : List ℕ} {m : Marks} {p : Place} {s : State} → p .at < codes
+    → Holds codes bytes assigned parts frames waiting m p s → Holds codes bytes assigned parts frames waiting m (passed p 0 1 0) (past s)
+past-holds {codes} {bytes} {m = m} {p = p} {s = s} l h = record {
+  place = ap (λ (q : Place). passed q 0 1 0) (h .place);
+  variables = h .variables;
+  shown = h .shown;
+  present = h .present;
+  linked = h .linked;
+  innermost = h .innermost;
+  queued = h .queued;
+  insides = insides-on codes bytes (p .at) (p .at + 1) m m (omega arith) (omega arith) (s .waiting) (h .insides);
+  at = omega arith;
+  node = omega (arith, h .node);
+  frames-left = omega (arith, h .frames-left);
+  waiting-left = omega (arith, h .waiting-left);
+  sized = h .sized;
+}
+
+-- One more variable is assigned
+
+pub none-free : {assigned : ℕ} → Free assigned 48
+none-free = record { below = omega arith; free = λ l. absurd (omega (arith, l)) }
+
+-- v is given n elements of so many bytes
+module _ (assigned v offset size n : ℕ) (offset-fits : offset ≤ 4096) (v-fits : v ≤ 48) (n-fits : n < 256) where
+  pub given-holds : {codes bytes : ℕ} {parts frames waiting : List ℕ} {m : Marks} {s : State} → s .place .node ≡ offset → offset + size ≤ bytes
+      → Holds codes bytes assigned parts frames waiting m (s .place) s
+      → Holds codes bytes (bitOr assigned (2 ^ v)) (set parts v (packed (boundPart offset size n))) frames waiting m (given s v n size .place) (given s v n size)
+  given-holds {parts = parts} {s = s} o w h = record {
+    place = refl;
+    variables = length-set (s .parts) v (boundPart (s .place .node) size n) ∙ h .variables;
+    shown = rw o (shown-assigned assigned v offset size n parts (s .parts) (omega (arith, h .sized .of-parts)) n-fits (h .variables) (h .shown));
+    present = rw o (present-assigned assigned v offset size n parts (s .parts) offset-fits (h .variables) (h .present));
+    linked = h .linked;
+    innermost = h .innermost;
+    queued = h .queued;
+    insides = h .insides;
+    at = h .at;
+    node = rw o w;
+    frames-left = h .frames-left;
+    waiting-left = h .waiting-left;
+    sized = sized-part (h .sized) v (packed (boundPart offset size n));
+  }
+
+-- a level's start within another
+
+pub start-holds : {codes bytes assigned : ℕ} {parts frames waiting : List ℕ} {m : Marks} {p : Place} {s : State} (c : PutBy)
+    → Holds codes bytes assigned parts frames waiting m p s → Inside codes bytes (p .at) m c
+    → Holds (c .size) bytes assigned parts frames waiting (inside m) (place 1 1 0 (c .node)) (startOf (s .parts) (c .node))
+start-holds c h i = record {
+  place = refl;
+  variables = h .variables;
+  shown = h .shown;
+  present = h .present;
+  linked = refl;
+  innermost = omega arith;
+  queued = refl;
+  insides = tt;
+  at = omega arith;
+  node = i .node;
+  frames-left = omega (arith, i .frames);
+  waiting-left = omega (arith, i .waiting);
+  sized = h .sized;
+}
+
+-- and the whole pattern's, with nothing assigned
+pub first-holds : (codes bytes : ℕ) (parts frames waiting : List ℕ) → codes ≤ 256 → Sized parts frames waiting
+    → Holds codes bytes 0 parts frames waiting (marks 0 0 0 0) (place 1 1 0 0) (startOf (replicate 48 absent) 0)
+first-holds codes bytes parts frames waiting h z = record {
+  place = refl;
+  variables = length-replicate 48 absent;
+  shown = λ v l. getD-replicate 48 v absent (part 0 0 0) l ∙ rw (none v);
+  present = λ v l b. absurd (true≢false (sym b ∙ none v));
+  linked = refl;
+  innermost = omega arith;
+  queued = refl;
+  insides = tt;
+  at = omega arith;
+  node = omega arith;
+  frames-left = omega arith;
+  waiting-left = omega arith;
+  sized = z;
+}
+  where
+    none : (v : ℕ) → bit 0 v ≡ false
+    none v = ap (λ (x : ℕ). eqb (x % 2) 1) (zero-div (2 ^ v))
+
+-- the parts shown are the state's
+
+pub parts-shown : (assigned : ℕ) (parts : List ℕ) (v k : ℕ) (shows : List Part) → length shows ≡ k
+    → ((i : ℕ) → i < k → getD shows i (part 0 0 0) ≡ partIn assigned parts (v + i)) → shows ≡ partsIn assigned parts v k
+unfolding partsIn
+parts-shown assigned parts v zero [] l h = refl
+parts-shown assigned parts v zero (x ∷ xs) l h = absurd (omega (arith, l))
+parts-shown assigned parts v (suc k) [] l h = absurd (omega (arith, l))
+parts-shown assigned parts v (suc k) (x ∷ xs) l h =
+    let z : v + 0 ≡ v = omega arith in
+    let first : x ≡ partIn assigned parts v = h 0 (omega arith) ∙ ap (partIn assigned parts) z in
+    let rest : xs ≡ partsIn assigned parts (v + 1) k = parts-shown assigned parts (v + 1) k xs (omega (arith, l)) (λ i j. next i j) in
+    rw (first, rest)
+  where
+    next : (i : ℕ) → i < k → getD xs i (part 0 0 0) ≡ partIn assigned parts (v + 1 + i)
+    next i j = let z : v + suc i ≡ v + 1 + i = omega arith in h (suc i) (omega arith) ∙ ap (partIn assigned parts) z
+
+pub state-shown : {codes bytes assigned : ℕ} {parts frames waiting : List ℕ} {m : Marks} {p : Place} {s : State}
+    → Holds codes bytes assigned parts frames waiting m p s → s .parts ≡ partsIn assigned parts 0 48
+state-shown {assigned = assigned} {parts = parts} {s = s} h =
+    parts-shown assigned parts 0 48 (s .parts) (h .variables) (λ i l. let z : 0 + i ≡ i = omega arith in h .shown i l ∙ ap (partIn assigned parts) (sym z))
+
+-- the first i are shown
+pub record Showing (assigned : ℕ) (parts : List ℕ) (shows : List Part) (i : ℕ) : Type 0 where
+  pub few : i ≤ 48
+  pub whole : length shows ≡ 48
+  pub same : (j : ℕ) → j < i → getD shows j (part 0 0 0) ≡ partIn assigned parts j
+
+pub show-first : (assigned : ℕ) (parts : List ℕ) (shows : List Part) → length shows ≡ 48 → Showing assigned parts shows 0
+show-first assigned parts shows h = record { few = omega arith; whole = h; same = λ j l. absurd (omega (arith, l)) }
+
+module _ {assigned : ℕ} {parts : List ℕ} {shows : List Part} {i : ℕ} (t : Showing assigned parts shows i) where
+  pub show-next : i < 48 → (k : ℕ) (x : Part) → k ≡ i → x ≡ partIn assigned parts i → Showing assigned parts (set shows k x) (i + 1)
+  show-next h k x e is = record {
+    few = omega arith;
+    whole = length-set shows k x ∙ t .whole;
+    same = λ j l. by j l (eqb j k) refl;
+  }
+    where
+      by : (j : ℕ) → j < i + 1 → (b : Bool) → eqb j k ≡ b → getD (set shows k x) j (part 0 0 0) ≡ partIn assigned parts j
+      by j l true z =
+          let y : k ≡ j = sym (eqb-true j k z) in
+          subst (λ (n : ℕ). getD (set shows k x) n (part 0 0 0) ≡ partIn assigned parts n) y
+          (getD-set-same shows k x (part 0 0 0) (omega (arith, e, t .whole)) ∙ is ∙ ap (partIn assigned parts) (sym e))
+      by j l false z = let d = eqb-false j k z in getD-set-other shows k j x (part 0 0 0) d ∙ t .same j (omega (arith, d, e, l))
+
+  pub show-end : 48 ≤ i → shows ≡ partsIn assigned parts 0 48
+  show-end h = parts-shown assigned parts 0 48 shows (t .whole) (λ j l. let z : j ≡ 0 + j = omega arith in t .same j (omega arith) ∙ ap (partIn assigned parts) z)

@@ -1,0 +1,116 @@
+-- The laws of what is kept as a number: the mask of the assigned variables, a part, an open node, a complement put by.
+-- Assumes nothing.
+use Prim.Native.Nat.{ℕ, suc, _+_, _-_, _*_, _/_, _%_, _^_, _<_, _≤_, max}
+use native.Mathlib.Nat.{max-zero, max-le, le-max-right, pow-suc}
+use native.Mathlib.Omega.{arith}
+use mathlib.Core.Bool.{Bool, true, false}
+use mathlib.Core.Path.{_≡_, refl, _∙_, ap, subst}
+use lib.Bits.{bitOr, or-step, or-shr}
+use lib.Dec.{eqb, ltb}
+use lib.Pow.{pow-lt, pow-add, shl-shr, shr-lt}
+use borrow.Author.Tests.{eqb-true, eqb-false, ltb-true, ltb-false, eq-eqb}
+use Rattle.term.specs.Part.{part, boundPart}
+use Rattle.search.specs.Memory.{bit, packed, unpacked, frameIn, outer, putByIn}
+use Rattle.search.specs.State.{frame, putBy}
+
+-- The mask
+
+pub power-fits : (v : ℕ) → v ≤ 48 → 1 * 2 ^ v % 18446744073709551616 ≡ 2 ^ v
+power-fits v h = by (2 ^ v) (pow-lt h′)
+  where
+    h′ : v < 64
+    h′ = omega arith
+
+    by : (n : ℕ) → n < 2 ^ 64 → 1 * n % 18446744073709551616 ≡ n
+    by n l = omega arith
+
+or-odd : (x y : ℕ) → bitOr x y % 2 ≡ max (x % 2) (y % 2)
+or-odd x y =
+    let r : max (x % 2) (y % 2) ≤ 1 = max-le (omega arith) (omega arith) in
+    by (bitOr x y) (bitOr (x / 2) (y / 2)) (max (x % 2) (y % 2)) r (or-step x y)
+  where
+    by : (n q k : ℕ) → k ≤ 1 → n ≡ q * 2 + k → n % 2 ≡ k
+    by n q k l e = omega arith
+
+one-same : (v : ℕ) → 2 ^ v / 2 ^ v ≡ 1
+one-same v = let z : 2 ^ v ≡ 1 * 2 ^ v = omega arith in ap (λ (n : ℕ). n / 2 ^ v) z ∙ shl-shr 1 v
+
+one-below : (i v : ℕ) → i < v → 2 ^ i / 2 ^ v ≡ 0
+one-below i v h =
+    let z : v ≡ 0 + v = omega arith in
+    let l : 2 ^ i / 2 ^ v < 2 ^ 0 = shr-lt 0 v (subst (λ (n : ℕ). 2 ^ i < 2 ^ n) z (pow-lt h)) in
+    omega (arith, l)
+
+one-above : (d v : ℕ) → 2 ^ (suc d + v) / 2 ^ v % 2 ≡ 0
+one-above d v =
+    let e : 2 ^ (suc d + v) / 2 ^ v ≡ 2 ^ d * 2 = ap (λ (n : ℕ). n / 2 ^ v) (pow-add 2 (suc d) v) ∙ shl-shr (2 ^ suc d) v ∙ pow-suc 2 d in
+    by (2 ^ (suc d + v) / 2 ^ v) (2 ^ d) e
+  where
+    by : (n k : ℕ) → n ≡ k * 2 → n % 2 ≡ 0
+    by n k e = omega arith
+
+one-other : (i v : ℕ) → (i ≡ v → ⊥) → 2 ^ i / 2 ^ v % 2 ≡ 0
+one-other i v d = by (ltb i v) refl
+  where
+    by : (b : Bool) → ltb i v ≡ b → 2 ^ i / 2 ^ v % 2 ≡ 0
+    by true h = ap (λ (n : ℕ). n % 2) (one-below i v (ltb-true i v h))
+    by false h =
+        let l = ltb-false i v h in
+        let z : i ≡ suc (i - v - 1) + v = arrange l d in
+        ap (λ (n : ℕ). 2 ^ n / 2 ^ v % 2) z ∙ one-above (i - v - 1) v
+      where
+        arrange : v ≤ i → (i ≡ v → ⊥) → i ≡ suc (i - v - 1) + v
+        arrange l d = omega arith
+
+or-bit : (a i v : ℕ) → bitOr a (2 ^ i) / 2 ^ v % 2 ≡ max (a / 2 ^ v % 2) (2 ^ i / 2 ^ v % 2)
+or-bit a i v = ap (λ (n : ℕ). n % 2) (or-shr a (2 ^ i) v) ∙ or-odd (a / 2 ^ v) (2 ^ i / 2 ^ v)
+
+-- one more variable in the mask
+pub bit-new : (a v : ℕ) → bit (bitOr a (2 ^ v)) v ≡ true
+bit-new a v =
+    let e : 2 ^ v / 2 ^ v % 2 ≡ 1 = ap (λ (n : ℕ). n % 2) (one-same v) in
+    let k : bitOr a (2 ^ v) / 2 ^ v % 2 ≡ max (a / 2 ^ v % 2) 1 = or-bit a v v ∙ ap (max (a / 2 ^ v % 2)) e in
+    let u : max (a / 2 ^ v % 2) 1 ≤ 1 = max-le (omega arith) (omega arith) in
+    let w : 1 ≤ max (a / 2 ^ v % 2) 1 = le-max-right (a / 2 ^ v % 2) 1 in
+    eq-eqb (bitOr a (2 ^ v) / 2 ^ v % 2) 1 (omega (arith, k, u, w))
+
+pub bit-other : (a i v : ℕ) → (i ≡ v → ⊥) → bit (bitOr a (2 ^ i)) v ≡ bit a v
+bit-other a i v d = ap (λ (n : ℕ). eqb n 1) (or-bit a i v ∙ ap (max (a / 2 ^ v % 2)) (one-other i v d) ∙ max-zero (a / 2 ^ v % 2))
+
+-- whoever was in the mask stays
+pub bit-still : (a i v : ℕ) → bit a v ≡ true → bit (bitOr a (2 ^ i)) v ≡ true
+bit-still a i v h = by (eqb i v) refl
+  where
+    by : (b : Bool) → eqb i v ≡ b → bit (bitOr a (2 ^ i)) v ≡ true
+    by true e = ap (λ (n : ℕ). bit (bitOr a (2 ^ n)) v) (eqb-true i v e) ∙ bit-new a v
+    by false e = bit-other a i v (eqb-false i v e) ∙ h
+
+-- Numbers that are packed into one
+
+pub part-back : (offset size n : ℕ) → n < 256 → unpacked (packed (boundPart offset size n)) ≡ boundPart offset size n
+part-back offset size n h = by (offset % 65536) (size % 65536) (omega arith) (omega arith)
+  where
+    by : (o l : ℕ) → o < 65536 → l < 65536 → unpacked (packed (part o l n)) ≡ part o l n
+    by o l i j =
+        let x : (o + 65536 * l + 4294967296 * n) % 65536 ≡ o = omega arith in
+        let q : (o + 65536 * l + 4294967296 * n) / 65536 ≡ l + 65536 * n = omega arith in
+        let y : (l + 65536 * n) % 65536 ≡ l = omega arith in
+        let d : (o + 65536 * l + 4294967296 * n) / 4294967296 ≡ n = omega arith in
+        let z : n % 256 ≡ n = omega arith in
+        rw (x, q, y, d, z)
+
+module _ (a b c : ℕ) (h : a < 256) (i : b < 256) where
+  low : (a + 256 * b + 65536 * c) % 256 ≡ a
+  low = omega arith
+
+  middle : (a + 256 * b + 65536 * c) / 256 % 256 ≡ b
+  middle = omega arith
+
+  pub outer-back : outer (a + 256 * b + 65536 * c) ≡ c
+  outer-back = omega arith
+
+  pub frame-back : frameIn (a + 256 * b + 65536 * c) ≡ frame a b
+  frame-back = rw (low, middle)
+
+  pub put-by-back : putByIn (a + 256 * b + 65536 * c) ≡ putBy a b c
+  put-by-back = rw (low, middle, outer-back)

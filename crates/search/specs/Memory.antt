@@ -1,0 +1,113 @@
+-- What the search keeps in the buffers that are lent to it, and what a call leaves there. Nothing is undone: an entry that is still in use lies
+-- below the marks of every call that can change the buffers, or belongs to a variable that is assigned before it.
+use Prim.Native.Nat.{ℕ, suc, _+_, _-_, _*_, _/_, _%_, _^_, _<_, _≤_}
+use mathlib.Core.Path.{_≡_}
+use mathlib.Core.List.{List, [], _∷_}
+use mathlib.Core.Bool.{Bool, true, false, cond}
+use lib.ListN.{length, getD}
+use lib.Dec.{eqb}
+use Rattle.term.specs.Part.{part, absent, isAbsent}
+use Rattle.term.specs.declared.Part.{Part}
+use Rattle.search.specs.State.{Frame, PutBy, State, frame, putBy, partAt}
+use Rattle.search.specs.declared.Place.{Place}
+use Rattle.search.specs.declared.Marks.{Marks}
+
+-- Variables: whether one is assigned is a bit of one number, its part is a number
+
+abbrev pub bit : ℕ → ℕ → Bool
+bit assigned v = eqb (assigned / 2 ^ v % 2) 1
+
+abbrev pub packed : Part → ℕ
+packed p = p .offset + 65536 * p .length + 4294967296 * p .elements
+
+abbrev pub unpacked : ℕ → Part
+unpacked x = part (x % 65536) (x / 65536 % 65536) (x / 4294967296 % 256)
+
+abbrev pub partIn : ℕ → List ℕ → ℕ → Part
+partIn assigned parts v = cond (bit assigned v) (unpacked (getD parts v 0)) absent
+
+-- How much of the buffers is in use
+
+abbrev pub marks : ℕ → ℕ → ℕ → ℕ → Marks
+marks inner frames first waiting = record { inner = inner; frames = frames; first = first; waiting = waiting }
+
+-- Open nodes: each is a number, with 1 more than the place of the one around it, or 0
+
+abbrev pub frameIn : ℕ → Frame
+frameIn x = frame (x % 256) (x / 256 % 256)
+
+abbrev pub outer : ℕ → ℕ
+outer x = x / 65536
+
+-- one more is opened, on top
+abbrev pub openedMarks : Marks → Marks
+openedMarks m = marks (m .frames + 1) (m .frames + 1) (m .first) (m .waiting)
+
+-- the innermost one, of this number, is closed
+abbrev pub closedMarks : Marks → ℕ → Marks
+closedMarks m x = marks (outer x) (m .frames) (m .first) (m .waiting)
+
+-- those from the one at inner - 1 outwards
+abbrev pub Linked : List ℕ → ℕ → List Frame → Type 0
+Linked frames inner [] = inner ≡ 0
+Linked frames inner (f ∷ fs) =
+    (0 < inner) × (frameIn (getD frames (inner - 1) 0) ≡ f) × (outer (getD frames (inner - 1) 0) < inner) × Linked frames (outer (getD frames (inner - 1) 0)) fs
+
+-- Complements put by: each is a number
+
+abbrev pub putByIn : ℕ → PutBy
+putByIn x = putBy (x % 256) (x / 256 % 256) (x / 65536)
+
+-- one more is put by
+abbrev pub putByMarks : Marks → Marks
+putByMarks m = marks (m .inner) (m .frames) (m .first) (m .waiting + 1)
+
+-- those from the one at first up to the end
+abbrev pub Queued : List ℕ → ℕ → ℕ → List PutBy → Type 0
+Queued waiting first end [] = first ≡ end
+Queued waiting first end (c ∷ cs) = (first < end) × (putByIn (getD waiting first 0) ≡ c) × Queued waiting (suc first) end cs
+
+-- the inside of one lies within the pattern, and the buffers have room for its search
+pub record Inside (codes bytes at : ℕ) (m : Marks) (c : PutBy) : Type 0 where
+  pub within : c .at + 1 + c .size ≤ codes
+  pub node : c .node ≤ bytes
+  pub frames : m .frames + c .size + (codes - at) ≤ 256
+  pub waiting : m .waiting + c .size + (codes - at) ≤ 256
+
+abbrev pub Insides : ℕ → ℕ → ℕ → Marks → List PutBy → Type 0
+Insides codes bytes at m [] = Unit {0}
+Insides codes bytes at m (c ∷ cs) = Inside codes bytes at m c × Insides codes bytes at m cs
+
+-- the buffers' lengths
+pub record Sized (parts frames waiting : List ℕ) : Type 0 where
+  pub of-parts : length parts ≡ 49
+  pub of-frames : length frames ≡ 256
+  pub of-waiting : length waiting ≡ 256
+
+-- THE INVARIANT: the buffers hold the state s of a level, whose pattern has so many bytes, on a record of so many; every byte of the pattern that
+-- is left has room in them
+pub record Holds (codes bytes assigned : ℕ) (parts frames waiting : List ℕ) (m : Marks) (p : Place) (s : State) : Type 0 where
+  pub sized : Sized parts frames waiting
+  pub place : s .place ≡ p
+  pub variables : length (s .parts) ≡ 48
+  pub shown : (v : ℕ) → v < 48 → partAt s v ≡ partIn assigned parts v
+  pub present : (v : ℕ) → v < 48 → bit assigned v ≡ true → isAbsent (partAt s v) ≡ false
+  pub linked : Linked frames (m .inner) (s .frames)
+  pub innermost : m .inner ≤ m .frames
+  pub queued : Queued waiting (m .first) (m .waiting) (s .waiting)
+  pub insides : Insides codes bytes (p .at) m (s .waiting)
+  pub at : p .at ≤ codes
+  pub node : p .node ≤ bytes
+  pub frames-left : m .frames + (codes - p .at) ≤ 256
+  pub waiting-left : m .waiting + (codes - p .at) ≤ 256
+
+pub record Holding (codes bytes assigned : ℕ) (parts frames waiting : List ℕ) (m : Marks) (p : Place) : Type 0 where
+  pub state : State
+  pub holds : Holds codes bytes assigned parts frames waiting m p state
+
+-- THE FRAME CONDITION: what a call with these marks leaves alone
+pub record Kept (assigned : ℕ) (m : Marks) (parts frames waiting parts′ frames′ waiting′ : List ℕ) : Type 0 where
+  pub of-parts : (v : ℕ) → v < 48 → bit assigned v ≡ true → getD parts′ v 0 ≡ getD parts v 0
+  pub of-frames : (i : ℕ) → i < m .frames → getD frames′ i 0 ≡ getD frames i 0
+  pub of-waiting : (i : ℕ) → i < m .waiting → getD waiting′ i 0 ≡ getD waiting i 0
+  pub sized : Sized parts frames waiting → Sized parts′ frames′ waiting′

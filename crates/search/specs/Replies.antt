@@ -1,0 +1,112 @@
+-- What the functions of the search of levels reply, and what they ask for.
+use Prim.Native.Nat.{ℕ, zero, suc, _+_, _-_, _<_, _≤_}
+use mathlib.Core.Path.{_≡_}
+use mathlib.Core.List.{List, [], _∷_}
+use mathlib.Core.Bool.{Bool, true, false, cond}
+use lib.ListN.{length, drop, set}
+use lib.Dec.{eqb}
+use Rattle.term.specs.Extent.{extentOf}
+use Rattle.term.specs.Part.{boundPart}
+use Rattle.term.specs.declared.Part.{Part}
+use Rattle.search.specs.State.{PutBy, State, place, state}
+use Rattle.search.specs.Level.{reply, failedAt, spentAt, startOf, orElse, insideOf, complementsOf, stopBy, levelOf, levels}
+use Rattle.search.specs.Memory.{bit, partIn, Holds, Holding, Kept}
+use Rattle.search.specs.declared.Place.{Place}
+use Rattle.search.specs.declared.Marks.{Marks}
+use Rattle.search.specs.declared.Stop.{Stop}
+use Rattle.search.specs.declared.Outcome.{Outcome}
+use Rattle.search.specs.declared.Outcome.the-variants.{Found, Failed, Spent}
+use Rattle.search.specs.declared.Reply.{Reply}
+
+abbrev pub found : Outcome → Bool
+found Found = true
+found Failed = false
+found Spent = false
+
+abbrev pub turned : Outcome → Outcome
+turned Found = Failed
+turned Failed = Found
+turned Spent = Spent
+
+-- the parts of k variables from v on
+unfoldable pub partsIn : ℕ → List ℕ → ℕ → ℕ → List Part
+partsIn assigned parts v zero = []
+partsIn assigned parts v (suc k) = partIn assigned parts v ∷ partsIn assigned parts (v + 1) k
+
+-- the reply that outcome, allowance, mask and parts stand for
+abbrev pub replyOf : Outcome → ℕ → ℕ → List ℕ → Reply
+replyOf Found left assigned parts = reply Found left (partsIn assigned parts 0 48)
+replyOf Failed left assigned parts = failedAt left
+replyOf Spent left assigned parts = spentAt left
+
+-- Lengths
+
+-- the variable v is given n elements of so many bytes, from the place on
+abbrev pub given : State → ℕ → ℕ → ℕ → State
+given s v n size =
+    state (set (s .parts) v (boundPart (s .place .node) size n)) (s .frames) (s .waiting)
+    (place (s .place .children) (s .place .elements - n) (s .place .at) (s .place .node + size))
+
+-- n elements are given, and k lengths more tried where that fails; the first is counted already
+unfoldable pub triesOf : (State → ℕ → Reply) → List ℕ → List ℕ → ℕ → State → ℕ → ℕ → ℕ → ℕ → Reply
+triesOf lv table bytes v s zero n size left = lv (given s v n size) left
+triesOf lv table bytes v s (suc k) n size left =
+    orElse (lv (given s v n size) left)
+    (λ l. cond (eqb l 0) (spentAt l)
+    (triesOf lv table bytes v s k (n + 1) (size + extentOf table (drop (s .place .node + size) bytes)) (l - 1)))
+
+-- What is asked for
+
+-- a variable that is not assigned, or 48 for none
+pub record Free (assigned v : ℕ) : Type 0 where
+  pub below : v ≤ 48
+  pub free : v < 48 → bit assigned v ≡ false
+
+-- the buffers hold a state at some place
+pub record Resting (codes bytes assigned : ℕ) (parts frames waiting : List ℕ) (m : Marks) : Type 0 where
+  pub place : Place
+  pub holding : Holding codes bytes assigned parts frames waiting m place
+
+-- the marks of a level that starts with these in use
+abbrev pub inside : Marks → Marks
+inside m = record { inner = 0; frames = m .frames; first = m .waiting; waiting = m .waiting }
+
+-- a complement whose inside can be searched
+pub record Testable (codes bytes assigned : ℕ) (parts frames waiting : List ℕ) (m : Marks) (c : PutBy) : Type 0 where
+  pub within : c .at + 1 + c .size ≤ codes
+  pub holding : Holding (c .size) bytes assigned parts frames waiting (inside m) (place 1 1 0 (c .node))
+
+-- The replies: the definition's, with any number of levels that is enough, and what is left alone
+
+pub record LevelIs (table pattern bytes : List ℕ) (assigned left : ℕ) (parts frames waiting : List ℕ) (v most : ℕ) (m : Marks) (p : Place)
+    (outcome : Outcome) (assigned′ left′ : ℕ) (parts′ frames′ waiting′ : List ℕ) : Type 0 where
+  pub replies : (s : State) → Holds (length pattern) (length bytes) assigned parts frames waiting m p s → (n : ℕ) → levels pattern (p .at) ≤ n
+      → replyOf outcome left′ assigned′ parts′ ≡ triesOf (levelOf n table bytes pattern) table bytes v s most 0 0 left
+  pub kept : Kept assigned m parts frames waiting parts′ frames′ waiting′
+
+pub record RestIs (table pattern bytes : List ℕ) (assigned left : ℕ) (parts frames waiting : List ℕ) (m : Marks) (p : Place)
+    (outcome : Outcome) (assigned′ left′ : ℕ) (parts′ frames′ waiting′ : List ℕ) : Type 0 where
+  pub replies : (s : State) → Holds (length pattern) (length bytes) assigned parts frames waiting m p s → (n : ℕ) → levels pattern (p .at) ≤ n
+      → replyOf outcome left′ assigned′ parts′ ≡ levelOf n table bytes pattern s left
+  pub kept : Kept assigned m parts frames waiting parts′ frames′ waiting′
+
+pub record FollowIs (table pattern bytes : List ℕ) (assigned left : ℕ) (parts frames waiting : List ℕ) (stop : Stop) (m : Marks) (p : Place)
+    (outcome : Outcome) (assigned′ left′ : ℕ) (parts′ frames′ waiting′ : List ℕ) : Type 0 where
+  pub replies : (s : State) → Holds (length pattern) (length bytes) assigned parts frames waiting m p s → (n : ℕ) → levels pattern (p .at) ≤ suc n
+      → replyOf outcome left′ assigned′ parts′ ≡ stopBy stop (levelOf n table bytes) table pattern bytes s left
+  pub kept : Kept assigned m parts frames waiting parts′ frames′ waiting′
+
+pub record ComplementIs (table pattern bytes : List ℕ) (assigned left : ℕ) (parts frames waiting : List ℕ) (c : PutBy) (m : Marks)
+    (outcome : Outcome) (left′ : ℕ) (parts′ frames′ waiting′ : List ℕ) : Type 0 where
+  pub replies : (shown : List Part)
+      → Holds (c .size) (length bytes) assigned parts frames waiting (inside m) (place 1 1 0 (c .node)) (startOf shown (c .node))
+      → (n : ℕ) → levels pattern (length pattern) ≤ suc n
+      → (outcome ≡ turned (insideOf (levelOf n table bytes) pattern shown c left .outcome)) × (left′ ≡ insideOf (levelOf n table bytes) pattern shown c left .left)
+  pub kept : Kept assigned m parts frames waiting parts′ frames′ waiting′
+
+pub record ComplementsAre (table pattern bytes : List ℕ) (assigned left : ℕ) (parts frames waiting : List ℕ) (m : Marks)
+    (outcome : Outcome) (assigned′ left′ : ℕ) (parts′ frames′ waiting′ : List ℕ) : Type 0 where
+  pub replies : (p : Place) (s : State) → Holds (length pattern) (length bytes) assigned parts frames waiting m p s
+      → (n : ℕ) → levels pattern (length pattern) ≤ suc n
+      → replyOf outcome left′ assigned′ parts′ ≡ complementsOf (levelOf n table bytes) pattern (s .parts) (s .waiting) left
+  pub kept : Kept assigned m parts frames waiting parts′ frames′ waiting′
