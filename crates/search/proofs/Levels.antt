@@ -18,7 +18,7 @@ use Rattle.search.specs.State.{PutBy, State, place, passed, walked, walk
 use Rattle.search.specs.Level.{reply, failedAt, spentAt, failed, refuted, startOf, tried, lengthsOf, insideOf, complementsOf, stopBy, afterWalk, levelOf, levels, searchOf}
 use Rattle.search.specs.Memory.{marks, packed, putByIn, Queued, Insides, Sized, Holds, Holding, Kept}
 use Rattle.search.specs.Bounds.{Walks}
-use Rattle.search.specs.Replies.{found, turned, partsIn, replyOf, given, triesOf, inside, Free, Resting, Testable, LevelIs, RestIs, FollowIs, ComplementIs, ComplementsAre}
+use Rattle.search.specs.Replies.{failure, found, turned, partsIn, replyOf, given, triesOf, inside, Free, Resting, Testable, LevelIs, RestIs, FollowIs, ComplementIs, ComplementsAre}
 use Rattle.search.specs.declared.Place.{Place}
 use Rattle.search.specs.declared.Marks.{Marks}
 use Rattle.search.specs.declared.Stop.{Stop}
@@ -315,6 +315,24 @@ module _ (table pattern bytes : List ℕ) (assigned left : ℕ) (parts frames wa
             assigned′ left′ parts′ frames′ waiting′) is-w
             (subst (λ (x : Place). LevelIs table pattern bytes assigned (left - 1) parts frames waiting w (p .elements) m x o
             assigned′ left′ parts′ frames′ waiting′) is-q r)
+
+-- a walk that fails
+
+failure-is : (stop : Stop) → failure stop ≡ true → stop ≡ Failure
+failure-is Failure e = refl
+failure-is NoAllowance e = absurd (true≢false (sym e))
+failure-is NoPair e = absurd (true≢false (sym e))
+failure-is (RunName v) e = absurd (true≢false (sym e))
+
+pub rest-fails : {table pattern bytes : List ℕ} {assigned left : ℕ} {parts frames waiting : List ℕ} {m : Marks} {p : Place} {r : Reached}
+    {parts₁ frames₁ waiting₁ : List ℕ} → Holding (length pattern) (length bytes) assigned parts frames waiting m p
+    → Walks table pattern bytes assigned left parts frames waiting m p parts₁ frames₁ waiting₁ r → failure (r .stop) ≡ true
+    → RestIs table pattern bytes assigned left parts frames waiting m p Failed assigned (r .left) parts₁ frames₁ waiting₁
+rest-fails {table} {pattern} {bytes} {r = r} {parts₁ = parts₁} {frames₁ = frames₁} {waiting₁ = waiting₁} holding walks e =
+    let x =
+    rest-follows holding walks
+    (follow-fails table pattern bytes (r .assigned) (r .left) parts₁ frames₁ waiting₁ (r .marks) (r .place) (r .stop) (failure-is (r .stop) e)) in
+    record { replies = x .replies; kept = x .kept }
 
 -- Complements
 

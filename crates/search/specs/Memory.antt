@@ -84,7 +84,7 @@ pub record Sized (parts frames waiting : List ℕ) : Type 0 where
   pub of-frames : length frames ≡ 256
   pub of-waiting : length waiting ≡ 256
 
--- THE INVARIANT: the buffers hold the state s of a level, whose pattern has so many bytes, on a record of so many; every byte of the pattern that
+-- The invariant: the buffers hold the state s of a level, whose pattern has so many bytes, on a record of so many; every byte of the pattern that
 -- is left has room in them
 pub record Holds (codes bytes assigned : ℕ) (parts frames waiting : List ℕ) (m : Marks) (p : Place) (s : State) : Type 0 where
   pub sized : Sized parts frames waiting
@@ -105,7 +105,7 @@ pub record Holding (codes bytes assigned : ℕ) (parts frames waiting : List ℕ
   pub state : State
   pub holds : Holds codes bytes assigned parts frames waiting m p state
 
--- THE FRAME CONDITION: what a call with these marks leaves alone
+-- The frame condition: what a call with these marks leaves alone
 pub record Kept (assigned : ℕ) (m : Marks) (parts frames waiting parts′ frames′ waiting′ : List ℕ) : Type 0 where
   pub of-parts : (v : ℕ) → v < 48 → bit assigned v ≡ true → getD parts′ v 0 ≡ getD parts v 0
   pub of-frames : (i : ℕ) → i < m .frames → getD frames′ i 0 ≡ getD frames i 0

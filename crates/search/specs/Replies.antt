@@ -14,9 +14,16 @@ use Rattle.search.specs.Memory.{bit, partIn, Holds, Holding, Kept}
 use Rattle.search.specs.declared.Place.{Place}
 use Rattle.search.specs.declared.Marks.{Marks}
 use Rattle.search.specs.declared.Stop.{Stop}
+use Rattle.search.specs.declared.Stop.the-variants.{Failure, NoAllowance, NoPair, RunName}
 use Rattle.search.specs.declared.Outcome.{Outcome}
 use Rattle.search.specs.declared.Outcome.the-variants.{Found, Failed, Spent}
 use Rattle.search.specs.declared.Reply.{Reply}
+
+abbrev pub failure : Stop → Bool
+failure Failure = true
+failure NoAllowance = false
+failure NoPair = false
+failure (RunName v) = false
 
 abbrev pub found : Outcome → Bool
 found Found = true

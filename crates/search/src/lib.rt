@@ -16,7 +16,7 @@ ghost use Rattle.search.specs.State.{place, frame, putBy, passed, entere
 ghost use Rattle.search.specs.Level.{failed, searchOf};
 ghost use Rattle.search.specs.Memory.{bit, packed, unpacked, partIn, frameIn, outer, putByIn, openedMarks, closedMarks, putByMarks, Holding};
 ghost use Rattle.search.specs.Bounds.{Short, Walks, StopsAt, Unassigned};
-ghost use Rattle.search.specs.Replies.{found, turned, partsIn, replyOf, inside, Free, Resting, Testable, LevelIs, RestIs, FollowIs, ComplementIs, ComplementsAre};
+ghost use Rattle.search.specs.Replies.{failure, found, turned, partsIn, replyOf, inside, Free, Resting, Testable, LevelIs, RestIs, FollowIs, ComplementIs, ComplementsAre};
 
 // Where the search of a level stands: what is left of the innermost open node, child patterns and elements of the record, and the next byte of
 // the pattern and of the record.
@@ -473,6 +473,17 @@ fn walk(
     }
 }
 
+fn is_failure(stop: Stop) -> bool
+    ensures { λ r. ⌜ r ≡ failure stop ⌝ }
+{
+    match stop {
+        Stop::Failure => true,
+        Stop::NoAllowance => false,
+        Stop::NoPair => false,
+        Stop::RunName(_) => false,
+    }
+}
+
 fn is_failed(outcome: Outcome) -> bool
     ensures { λ r. ⌜ r ≡ failed outcome ⌝ }
 {
@@ -627,8 +638,11 @@ fn rest(
     let stop = w.stop;
     let ends = w.marks;
     let end = w.place;
-    *assigned = w.assigned;
     *left = w.left;
+    if is_failure(stop) {
+        return Outcome::Failed;
+    }
+    *assigned = w.assigned;
     follow(
         table,
         pattern,

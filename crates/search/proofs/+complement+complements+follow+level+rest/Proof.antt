@@ -12,7 +12,7 @@ use Rattle.search.specs.Memory.{packed, putByIn}
 use Rattle.search.specs.Bounds.{Ready, StopsAt, Unassigned}
 use Rattle.search.proofs.Steps.{rest-length}
 use Rattle.search.proofs.Kept.{past, past-holds, none-free}
-use Rattle.search.proofs.Levels.{rest-follows, Trying, try-first, Written, written-holding, try-last, try-hit, try-spent, try-more, Testing, test-first, test-end, test-next, test-stop, test-on, inside-length, inside-holding, complement-tests, follow-fails, follow-spent, follow-none, follow-tests, follow-tries}
+use Rattle.search.proofs.Levels.{rest-follows, rest-fails, Trying, try-first, Written, written-holding, try-last, try-hit, try-spent, try-more, Testing, test-first, test-end, test-next, test-stop, test-on, inside-length, inside-holding, complement-tests, follow-fails, follow-spent, follow-none, follow-tests, follow-tries}
 use borrow.Fn.Kinds.{In}
 use borrow.Fn.PlainCycle.{Measures, is, falls, and}
 use Rattle.search.proofs.complement.Reads as complement
@@ -35,6 +35,7 @@ use Rattle.search.proofs.Place.passed.Reads as passed-reads
 use Rattle.search.proofs.Place.start.Reads as start-reads
 use Rattle.search.proofs.also.Reads as also-reads
 use Rattle.search.proofs.is_failed.Reads as is-failed-reads
+use Rattle.search.proofs.is_failure.Reads as is-failure-reads
 use Rattle.search.proofs.is_found.Reads as is-found-reads
 use Rattle.search.proofs.opposite.Reads as opposite-reads
 use Rattle.search.proofs.packed.Reads as packed-reads
@@ -137,15 +138,18 @@ complement-start-requires : (t : ℕ) → complement-lts.Need-start-requires (co
 complement-start-requires t c κs = search needs
 
 complement-level-requires : (t : ℕ) → complement-lts.Need-level-requires (complement-claims t) (complement-at t) complement.Post
-complement-level-requires t c κs = let w = c .before .before .before .before .before .before .before .before .before .before .before .pre .1 .0 .within in
-    let d = inside-length (c .before .before .before .before .before .before .before .before .before .before .before .args .pattern .now) (putByIn (c .before .before .before .before .before .before .before .before .before .before .before .args .c)) w in
+complement-level-requires t c κs =
+    let args = c .before .before .before .before .before .before .before .before .before .before .before .args in
+    let pre = c .before .before .before .before .before .before .before .before .before .before .before .pre in
+    let w = pre .1 .0 .within in
+    let d = inside-length (args .pattern .now) (putByIn (args .c)) w in
     rw (c .start .ensures, c .before .inside .ensures) (
-      omega (arith, c .before .before .before .before .before .before .before .before .before .before .before .pre .0, w, d, c .before .before .before .before .before .before .before .before .before .before .before .pre .1 .1 .of-pattern),
+      omega (arith, pre .0, w, d, pre .1 .1 .of-pattern),
       (
-        inside-holding _ _ w (c .before .before .before .before .before .before .before .before .before .before .before .pre .1 .0),
+        inside-holding _ _ w (pre .1 .0),
         none-free,
         omega arith,
-        record { of-pattern = omega (arith, w, d, c .before .before .before .before .before .before .before .before .before .before .before .pre .1 .1 .of-pattern); of-record = c .before .before .before .before .before .before .before .before .before .before .before .pre .1 .1 .of-record },
+        record { of-pattern = omega (arith, w, d, pre .1 .1 .of-pattern); of-record = pre .1 .1 .of-record },
       ),
     )
 
@@ -153,7 +157,11 @@ complement-opposite-requires : (t : ℕ) → complement-lts.Need-opposite-requir
 complement-opposite-requires t c κs = search needs
 
 complement-returns : (t : ℕ) → complement-lts.Need-returns (complement-claims t) (complement-at t) complement.Post
-complement-returns t c = complement-tests _ _ (c .before .before .before .before .before .before .before .before .before .before .before .before .before .pre .1 .0 .within) _ _ _ _ _ _ _ _ (c .before .before .before .before .before .before .before .before .before .before .before .before .before .pre .1 .1 .of-pattern) (c .before .before .before .inside .ensures) (c .before .before .start .ensures)
+complement-returns t c =
+    complement-tests _ _
+    (c .before .before .before .before .before .before .before .before .before .before .before .before .before .pre .1 .0 .within) _ _ _ _ _ _ _ _
+    (c .before .before .before .before .before .before .before .before .before .before .before .before .before .pre .1 .1 .of-pattern)
+    (c .before .before .before .inside .ensures) (c .before .before .start .ensures)
     (c .before .level .ensures) (c .opposite .ensures)
 
 abbrev complements-claims : ℕ → complements-lts.Claims
@@ -165,10 +173,12 @@ complements-claims t = (
 )
 
 abbrev complements-Inv-loop : complements-lts.InvT-loop
-complements-Inv-loop table pattern «record» parts₀ frames₀ waiting₀ assigned₀ left₀ marks outside end i₀ parts frames waiting assigned left i = Testing table pattern «record» assigned₀ left₀ parts₀ frames₀ waiting₀ marks assigned left parts frames waiting i
+complements-Inv-loop table pattern «record» parts₀ frames₀ waiting₀ assigned₀ left₀ marks outside end i₀ parts frames waiting assigned left i =
+    Testing table pattern «record» assigned₀ left₀ parts₀ frames₀ waiting₀ marks assigned left parts frames waiting i
 
 abbrev complements-μ-loop : complements-lts.MeasureT-loop
-complements-μ-loop table pattern «record» parts₀ frames₀ waiting₀ assigned₀ left₀ marks outside end i₀ parts frames waiting assigned left i = marks .waiting - i
+complements-μ-loop table pattern «record» parts₀ frames₀ waiting₀ assigned₀ left₀ marks outside end i₀ parts frames waiting assigned left i =
+    marks .waiting - i
 
 complements-loop-holds : (t : ℕ) → complements-lts.Need-loop-holds (complements-claims t) (complements-at t) complements.Post complements-Inv-loop complements-μ-loop
 complements-loop-holds t c = test-first _ _ _ _ _ _ _ _ _
@@ -180,13 +190,17 @@ complements-element-copy-out-c : (t : ℕ) → complements-lts.Need-element-copy
 complements-element-copy-out-c t c = omega (arith, c .before .before .before .before .before .before .pre .1 .0 .holding .holds .waiting-left)
 
 complements-complement-requires : (t : ℕ) → complements-lts.Need-complement-requires (complements-claims t) (complements-at t) complements.Post complements-Inv-loop complements-μ-loop
-complements-complement-requires t c κs = (omega arith, (test-next _ _ _ _ _ _ _ _ _ (c .before .before .before .before .before .before .before .loop .inv) (c .before .before .before .before .before .before .loop-test .taken) (c .before .before .before .before .before .before .before .before .before .before .before .before .pre .1 .0), c .before .before .before .before .before .before .before .before .before .before .before .before .pre .1 .1))
+complements-complement-requires t c κs =
+    let pre = c .before .before .before .before .before .before .before .before .before .before .before .before .pre in
+    (omega arith, (test-next _ _ _ _ _ _ _ _ _ (c .before .before .before .before .before .before .before .loop .inv) (c .before .before .before .before .before .before .loop-test .taken) (pre .1 .0), pre .1 .1))
 
 complements-is-found-requires : (t : ℕ) → complements-lts.Need-is-found-requires (complements-claims t) (complements-at t) complements.Post complements-Inv-loop complements-μ-loop
 complements-is-found-requires t c κs = search needs
 
 complements-returns : (t : ℕ) → complements-lts.Need-returns (complements-claims t) (complements-at t) complements.Post complements-Inv-loop complements-μ-loop
-complements-returns t c = test-stop _ _ _ _ _ _ _ _ _ (c .before .before .before .before .before .before .before .before .before .before .loop .inv) (c .before .before .before .before .before .before .before .before .before .loop-test .taken) (c .before .before .complement .ensures)
+complements-returns t c =
+    test-stop _ _ _ _ _ _ _ _ _ (c .before .before .before .before .before .before .before .before .before .before .loop .inv)
+    (c .before .before .before .before .before .before .before .before .before .loop-test .taken) (c .before .before .complement .ensures)
     (sym (c .before .is-found .ensures) ∙ not-true _ (c .if1 .taken))
 
 complements-add-i : (t : ℕ) → complements-lts.Need-add-i (complements-claims t) (complements-at t) complements.Post complements-Inv-loop complements-μ-loop
@@ -196,7 +210,9 @@ complements-loop-less : (t : ℕ) → complements-lts.Need-loop-less (complement
 complements-loop-less t c = omega arith
 
 complements-loop-again : (t : ℕ) → complements-lts.Need-loop-again (complements-claims t) (complements-at t) complements.Post complements-Inv-loop complements-μ-loop
-complements-loop-again t c = test-on _ _ _ _ _ _ _ _ _ (c .before .before .before .before .before .before .before .before .before .before .loop .inv) (c .before .before .before .before .before .before .before .before .before .loop-test .taken) (c .before .before .complement .ensures)
+complements-loop-again t c =
+    test-on _ _ _ _ _ _ _ _ _ (c .before .before .before .before .before .before .before .before .before .before .loop .inv)
+    (c .before .before .before .before .before .before .before .before .before .loop-test .taken) (c .before .before .complement .ensures)
     (sym (c .before .is-found .ensures) ∙ not-false _ (c .if1 .left))
 
 complements-returns-2 : (t : ℕ) → complements-lts.Need-returns-2 (complements-claims t) (complements-at t) complements.Post complements-Inv-loop complements-μ-loop
@@ -217,7 +233,10 @@ follow-claims t = (
 -- the run name
 follow-ready : (t : ℕ) (c : follow-lts.After-wide (follow-claims t) (follow-at t) follow.Post)
     → Ready (length (c .before .before .before .before .before .before .before .before .before .before .before .before .before .before .args .pattern .now)) (c .before .before .before .before .before .before .before .before .before .stop .given .0 .0) (c .before .before .before .before .before .before .before .before .before .before .before .before .before .before .args .place)
-follow-ready t c = subst (StopsAt (length (c .before .before .before .before .before .before .before .before .before .before .before .before .before .before .args .pattern .now)) (c .before .before .before .before .before .before .before .before .before .before .before .before .before .before .args .place)) (c .before .before .before .before .before .before .before .before .before .stop .given .1) (c .before .before .before .before .before .before .before .before .before .before .before .before .before .before .pre .1 .1)
+follow-ready t c =
+    let args = c .before .before .before .before .before .before .before .before .before .before .before .before .before .before .args in
+    subst (StopsAt (length (args .pattern .now)) (args .place)) (c .before .before .before .before .before .before .before .before .before .stop .given .1)
+    (c .before .before .before .before .before .before .before .before .before .before .before .before .before .before .pre .1 .1)
 
 follow-enum-told : (t : ℕ) → follow-lts.Need-enum-told (follow-claims t) (follow-at t) follow.Post
 follow-enum-told t c = search needs
@@ -229,7 +248,9 @@ follow-enum-told-3 : (t : ℕ) → follow-lts.Need-enum-told-3 (follow-claims t)
 follow-enum-told-3 t c = search needs
 
 follow-complements-requires : (t : ℕ) → follow-lts.Need-complements-requires (follow-claims t) (follow-at t) follow.Post
-follow-complements-requires t c κs = (omega (arith, c .before .before .before .before .before .before .before .before .before .before .pre .0), (record { place = c .before .before .before .before .before .before .before .before .before .before .args .place; holding = c .before .before .before .before .before .before .before .before .before .before .pre .1 .0 }, c .before .before .before .before .before .before .before .before .before .before .pre .1 .3))
+follow-complements-requires t c κs =
+    let pre = c .before .before .before .before .before .before .before .before .before .before .pre in
+    (omega (arith, pre .0), (record { place = c .before .before .before .before .before .before .before .before .before .before .args .place; holding = pre .1 .0 }, pre .1 .3))
 
 follow-enum-known-stop : (t : ℕ) → follow-lts.Need-enum-known-stop (follow-claims t) (follow-at t) follow.Post
 follow-enum-known-stop t c = search needs
@@ -244,22 +265,24 @@ follow-wide-requires : (t : ℕ) → follow-lts.Need-wide-requires (follow-claim
 follow-wide-requires t c κs = search needs
 
 follow-passed-requires : (t : ℕ) → follow-lts.Need-passed-requires (follow-claims t) (follow-at t) follow.Post
-follow-passed-requires t c κs = let ready = follow-ready t c in (
-  ready .children,
-  omega arith,
-  omega (arith, ready .at, c .before .before .before .before .before .before .before .before .before .before .before .before .before .before .pre .1 .3 .of-pattern),
-  omega (arith, c .before .before .before .before .before .before .before .before .before .before .before .before .before .before .pre .1 .0 .holds .node, c .before .before .before .before .before .before .before .before .before .before .before .before .before .before .pre .1 .3 .of-record),
-)
+follow-passed-requires t c κs =
+    let ready = follow-ready t c in
+    let pre = c .before .before .before .before .before .before .before .before .before .before .before .before .before .before .pre in
+    (ready .children, omega arith, omega (arith, ready .at, pre .1 .3 .of-pattern), omega (arith, pre .1 .0 .holds .node, pre .1 .3 .of-record))
 
 follow-level-requires : (t : ℕ) → follow-lts.Need-level-requires (follow-claims t) (follow-at t) follow.Post
-follow-level-requires t c κs = let ready = follow-ready t (c .before) in
+follow-level-requires t c κs =
+    let ready = follow-ready t (c .before) in
+    let pre = c .before .before .before .before .before .before .before .before .before .before .before .before .before .before .before .pre in
+    let unassigned = subst (Unassigned (c .before .before .before .before .before .before .before .before .before .before .before .before .before .before .before .args .assigned .now))
+    (c .before .before .before .before .before .before .before .before .before .before .stop .given .1) (pre .1 .2) in
     rw (c .passed .ensures, c .before .wide .ensures) (
-      omega (arith, c .before .before .before .before .before .before .before .before .before .before .before .before .before .before .before .pre .0, ready .at),
+      omega (arith, pre .0, ready .at),
       (
-        record { state = past (c .before .before .before .before .before .before .before .before .before .before .before .before .before .before .before .pre .1 .0 .state); holds = past-holds (ready .at) (c .before .before .before .before .before .before .before .before .before .before .before .before .before .before .before .pre .1 .0 .holds) },
-        record { below = omega (arith, ready .variable); free = λ l. subst (Unassigned (c .before .before .before .before .before .before .before .before .before .before .before .before .before .before .before .args .assigned .now)) (c .before .before .before .before .before .before .before .before .before .before .stop .given .1) (c .before .before .before .before .before .before .before .before .before .before .before .before .before .before .before .pre .1 .2) },
+        record { state = past (pre .1 .0 .state); holds = past-holds (ready .at) (pre .1 .0 .holds) },
+        record { below = omega (arith, ready .variable); free = λ l. unassigned },
         omega arith,
-        c .before .before .before .before .before .before .before .before .before .before .before .before .before .before .before .pre .1 .3,
+        pre .1 .3,
       ),
     )
 
@@ -270,10 +293,14 @@ follow-returns-3 : (t : ℕ) → follow-lts.Need-returns-3 (follow-claims t) (fo
 follow-returns-3 t c = follow-spent _ _ _ _ _ _ _ _ _ _ _ (c .enum-told2 .given .1)
 
 follow-returns-4 : (t : ℕ) → follow-lts.Need-returns-4 (follow-claims t) (follow-at t) follow.Post
-follow-returns-4 t c = follow-tests _ _ _ _ _ _ _ _ _ _ _ (c .before .before .before .before .before .before .enum-told3 .given .1) (c .complements .ensures)
+follow-returns-4 t c =
+    follow-tests _ _ _ _ _ _ _ _ _ _ _ (c .before .before .before .before .before .before .enum-told3 .given .1) (c .complements .ensures)
 
 follow-returns-5 : (t : ℕ) → follow-lts.Need-returns-5 (follow-claims t) (follow-at t) follow.Post
-follow-returns-5 t c = follow-tries _ _ _ _ _ _ _ _ _ _ _ _ _ _ (c .before .before .before .before .before .before .before .before .before .before .before .stop .given .1) (c .before .before .wide .ensures) (c .before .passed .ensures) (c .before .before .before .before .before .before .before .before .if1 .left)
+follow-returns-5 t c =
+    follow-tries _ _ _ _ _ _ _ _ _ _ _ _ _ _
+    (c .before .before .before .before .before .before .before .before .before .before .before .stop .given .1) (c .before .before .wide .ensures)
+    (c .before .passed .ensures) (c .before .before .before .before .before .before .before .before .if1 .left)
     (follow-ready t (c .before .before) .at) (c .level .ensures)
 
 abbrev level-claims : ℕ → level-lts.Claims
@@ -293,10 +320,12 @@ level-claims t = (
 )
 
 abbrev level-Inv-loop : level-lts.InvT-loop
-level-Inv-loop table pattern «record» parts₀ frames₀ waiting₀ assigned₀ left₀ v most marks seen node place₀ n₀ parts frames waiting assigned left place n = Trying table pattern «record» assigned₀ left₀ parts₀ frames₀ waiting₀ v most marks place₀ left parts frames waiting place n
+level-Inv-loop table pattern «record» parts₀ frames₀ waiting₀ assigned₀ left₀ v most marks seen node place₀ n₀ parts frames waiting assigned left place n =
+    Trying table pattern «record» assigned₀ left₀ parts₀ frames₀ waiting₀ v most marks place₀ left parts frames waiting place n
 
 abbrev level-μ-loop : level-lts.MeasureT-loop
-level-μ-loop table pattern «record» parts₀ frames₀ waiting₀ assigned₀ left₀ v most marks seen node place₀ n₀ parts frames waiting assigned left place n = most - n
+level-μ-loop table pattern «record» parts₀ frames₀ waiting₀ assigned₀ left₀ v most marks seen node place₀ n₀ parts frames waiting assigned left place n =
+    most - n
 
 -- the variable's part is written
 level-written : (t : ℕ) (c : level-lts.After-packed (level-claims t) (level-at t) level.Post level-Inv-loop level-μ-loop)
@@ -314,7 +343,13 @@ level-written t c = record {
 level-grows : (t : ℕ) (c : level-lts.After-extent (level-claims t) (level-at t) level.Post level-Inv-loop level-μ-loop)
     → c .before .before .before .before .before .before .before .before .before .before .before .before .before .before .before .before .loop .place .node + c .extent .result ≤ length (c .before .before .before .before .before .before .before .before .before .before .before .before .before .before .before .before .before .before .before .before .before .before .args .«record» .now)
 level-grows t c =
-    omega (arith, c .before .before .before .before .before .before .before .before .before .before .before .before .before .before .before .before .loop .inv .within, c .extent .ensures .1, rest-length (c .before .before .before .before .before .before .before .before .before .before .before .before .before .before .before .before .loop .place .node) (c .before .before .before .before .before .before .before .before .before .before .before .before .before .before .before .before .before .before .before .before .before .before .args .«record» .now))
+    let loop = c .before .before .before .before .before .before .before .before .before .before .before .before .before .before .before .before .loop in
+    omega (
+      arith,
+      loop .inv .within,
+      c .extent .ensures .1,
+      rest-length (loop .place .node) (c .before .before .before .before .before .before .before .before .before .before .before .before .before .before .before .before .before .before .before .before .before .before .args .«record» .now),
+    )
 
 level-also-requires : (t : ℕ) → level-lts.Need-also-requires (level-claims t) (level-at t) level.Post level-Inv-loop level-μ-loop
 level-also-requires t c κs = c .before .before .before .before .pre .1 .1 .below
@@ -338,10 +373,10 @@ level-element-write-parts : (t : ℕ) → level-lts.Need-element-write-parts (le
 level-element-write-parts t c = omega (arith, c .before .before .before .before .before .before .before .before .before .pre .1 .1 .below)
 
 level-rest-requires : (t : ℕ) → level-lts.Need-rest-requires (level-claims t) (level-at t) level.Post level-Inv-loop level-μ-loop
-level-rest-requires t c κs = let inv = c .before .before .before .before .before .before .before .before .loop .inv in (
-  omega (arith, c .before .before .before .before .before .before .before .before .before .before .before .before .before .before .pre .0, inv .at),
-  (written-holding _ _ _ _ _ _ _ _ _ _ _ _ (c .before .before .before .before .before .before .before .before .loop .inv) (level-written t (c .before .before .before .before .before)), c .before .before .before .before .before .before .before .before .before .before .before .before .before .before .pre .1 .3),
-)
+level-rest-requires t c κs =
+    let pre = c .before .before .before .before .before .before .before .before .before .before .before .before .before .before .pre in
+    let inv = c .before .before .before .before .before .before .before .before .loop .inv in
+    (omega (arith, pre .0, inv .at), (written-holding _ _ _ _ _ _ _ _ _ _ _ _ inv (level-written t (c .before .before .before .before .before)), pre .1 .3))
 
 level-is-failed-requires : (t : ℕ) → level-lts.Need-is-failed-requires (level-claims t) (level-at t) level.Post level-Inv-loop level-μ-loop
 level-is-failed-requires t c κs = search needs
@@ -350,10 +385,12 @@ level-sub-left : (t : ℕ) → level-lts.Need-sub-left (level-claims t) (level-a
 level-sub-left t c = omega (arith, c .if3 .left)
 
 level-sub-extent : (t : ℕ) → level-lts.Need-sub-extent (level-claims t) (level-at t) level.Post level-Inv-loop level-μ-loop
-level-sub-extent t c = c .before .before .before .before .before .before .before .before .before .before .before .before .before .before .loop .inv .within
+level-sub-extent t c =
+    c .before .before .before .before .before .before .before .before .before .before .before .before .before .before .loop .inv .within
 
 level-part-extent-start : (t : ℕ) → level-lts.Need-part-extent-start (level-claims t) (level-at t) level.Post level-Inv-loop level-μ-loop
-level-part-extent-start t c = c .before .before .before .before .before .before .before .before .before .before .before .before .before .before .loop .inv .within
+level-part-extent-start t c =
+    c .before .before .before .before .before .before .before .before .before .before .before .before .before .before .loop .inv .within
 
 level-part-extent-end : (t : ℕ) → level-lts.Need-part-extent-end (level-claims t) (level-at t) level.Post level-Inv-loop level-μ-loop
 level-part-extent-end t c = omega arith
@@ -362,37 +399,59 @@ level-extent-requires : (t : ℕ) → level-lts.Need-extent-requires (level-clai
 level-extent-requires t c κs = search needs
 
 level-add-place : (t : ℕ) → level-lts.Need-add-place (level-claims t) (level-at t) level.Post level-Inv-loop level-μ-loop
-level-add-place t c = omega (arith, level-grows t c, c .before .before .before .before .before .before .before .before .before .before .before .before .before .before .before .before .before .before .before .before .before .before .pre .1 .3 .of-record)
+level-add-place t c =
+    let pre = c .before .before .before .before .before .before .before .before .before .before .before .before .before .before .before .before .before .before .before .before .before .before .pre in
+    omega (arith, level-grows t c, pre .1 .3 .of-record)
 
 level-sub-place : (t : ℕ) → level-lts.Need-sub-place (level-claims t) (level-at t) level.Post level-Inv-loop level-μ-loop
-level-sub-place t c = omega (arith, c .before .before .before .before .before .before .before .before .before .before .before .before .before .before .before .before .before .loop .inv .elements, c .before .before .before .before .before .if2 .left, c .before .before .before .before .before .before .before .before .before .before .before .before .before .before .before .before .before .before .before .before .before .before .before .pre .1 .2)
+level-sub-place t c =
+    let pre = c .before .before .before .before .before .before .before .before .before .before .before .before .before .before .before .before .before .before .before .before .before .before .before .pre in
+    let inv = c .before .before .before .before .before .before .before .before .before .before .before .before .before .before .before .before .before .loop .inv in
+    omega (arith, inv .elements, c .before .before .before .before .before .if2 .left, pre .1 .2)
 
 level-add-n : (t : ℕ) → level-lts.Need-add-n (level-claims t) (level-at t) level.Post level-Inv-loop level-μ-loop
-level-add-n t c = omega (arith, c .before .before .before .before .before .if2 .left, c .before .before .before .before .before .before .before .before .before .before .before .before .before .before .before .before .before .before .before .before .before .before .before .fits .most)
+level-add-n t c =
+    let fits = c .before .before .before .before .before .before .before .before .before .before .before .before .before .before .before .before .before .before .before .before .before .before .before .fits in
+    omega (arith, c .before .before .before .before .before .if2 .left, fits .most)
 
 level-loop-less : (t : ℕ) → level-lts.Need-loop-less (level-claims t) (level-at t) level.Post level-Inv-loop level-μ-loop
 level-loop-less t c = omega (arith, c .before .before .before .before .before .if2 .left)
 
 level-loop-again : (t : ℕ) → level-lts.Need-loop-again (level-claims t) (level-at t) level.Post level-Inv-loop level-μ-loop
-level-loop-again t c = try-more _ _ _ _ _ _ _ _ _ _ _ _ (c .before .before .before .before .before .before .before .before .before .before .before .before .before .before .before .before .before .loop .inv) (level-written t (c .before .before .before .before .before .before .before .before .before .before .before .before .before .before)) (c .before .before .before .before .before .before .before .before .rest .ensures)
+level-loop-again t c =
+    try-more _ _ _ _ _ _ _ _ _ _ _ _
+    (c .before .before .before .before .before .before .before .before .before .before .before .before .before .before .before .before .before .loop .inv)
+    (level-written t (c .before .before .before .before .before .before .before .before .before .before .before .before .before .before))
+    (c .before .before .before .before .before .before .before .before .rest .ensures)
     (sym (c .before .before .before .before .before .before .before .is-failed .ensures) ∙ not-false _ (c .before .before .before .before .before .before .if1 .left)) (omega (arith, c .before .before .before .before .before .if2 .left)) (c .before .before .before .if3 .left) _ (c .before .extent .result)
     (c .before .extent .ensures .0) refl refl refl refl (level-grows t (c .before))
 
 level-returns : (t : ℕ) → level-lts.Need-returns (level-claims t) (level-at t) level.Post level-Inv-loop level-μ-loop
-level-returns t c = try-hit _ _ _ _ _ _ _ _ _ _ _ _ (c .before .before .before .before .before .before .before .before .before .before .before .loop .inv) (level-written t (c .before .before .before .before .before .before .before .before)) (c .before .before .rest .ensures)
+level-returns t c =
+    try-hit _ _ _ _ _ _ _ _ _ _ _ _ (c .before .before .before .before .before .before .before .before .before .before .before .loop .inv)
+    (level-written t (c .before .before .before .before .before .before .before .before)) (c .before .before .rest .ensures)
     (sym (c .before .is-failed .ensures) ∙ not-true _ (c .if1 .taken))
 
 level-returns-2 : (t : ℕ) → level-lts.Need-returns-2 (level-claims t) (level-at t) level.Post level-Inv-loop level-μ-loop
-level-returns-2 t c = try-last _ _ _ _ _ _ _ _ _ _ _ _ (c .before .before .before .before .before .before .before .before .before .before .before .before .loop .inv) (level-written t (c .before .before .before .before .before .before .before .before .before)) (c .before .before .before .rest .ensures) (c .if2 .taken)
+level-returns-2 t c =
+    try-last _ _ _ _ _ _ _ _ _ _ _ _ (c .before .before .before .before .before .before .before .before .before .before .before .before .loop .inv)
+    (level-written t (c .before .before .before .before .before .before .before .before .before)) (c .before .before .before .rest .ensures)
+    (c .if2 .taken)
 
 level-returns-3 : (t : ℕ) → level-lts.Need-returns-3 (level-claims t) (level-at t) level.Post level-Inv-loop level-μ-loop
-level-returns-3 t c = try-spent _ _ _ _ _ _ _ _ _ _ _ _ (c .before .before .before .before .before .before .before .before .before .before .before .before .before .before .loop .inv) (level-written t (c .before .before .before .before .before .before .before .before .before .before .before)) (c .before .before .before .before .before .rest .ensures)
+level-returns-3 t c =
+    try-spent _ _ _ _ _ _ _ _ _ _ _ _
+    (c .before .before .before .before .before .before .before .before .before .before .before .before .before .before .loop .inv)
+    (level-written t (c .before .before .before .before .before .before .before .before .before .before .before))
+    (c .before .before .before .before .before .rest .ensures)
     (sym (c .before .before .before .before .is-failed .ensures) ∙ not-false _ (c .before .before .before .if1 .left)) (omega (arith, c .before .before .if2 .left)) (c .if3 .taken)
 
 abbrev rest-claims : ℕ → rest-lts.Claims
 rest-claims t = (
   walk-reads.Asked,
   walk-reads.Learnt,
+  is-failure-reads.Asked,
+  is-failure-reads.Learnt,
   follow-below t,
   follow.Post,
 )
@@ -400,15 +459,25 @@ rest-claims t = (
 rest-walk-requires : (t : ℕ) → rest-lts.Need-walk-requires (rest-claims t) (rest-at t) rest.Post
 rest-walk-requires t c κs = c .before .before .before .before .before .before .before .before .pre .1
 
-rest-follow-requires : (t : ℕ) → rest-lts.Need-follow-requires (rest-claims t) (rest-at t) rest.Post
-rest-follow-requires t c κs = let h = c .before .before .before .before .before .before .before .before .before .before .before .before .before .before .before .before .pre .1 .0 in
-    let w = c .before .before .before .before .before .before .before .walk .ensures (h .state) (h .holds) in (
-      omega (arith, c .before .before .before .before .before .before .before .before .before .before .before .before .before .before .before .before .pre .0, w .further),
-      (record { state = w .end; holds = w .holds }, w .stops, w .unassigned, c .before .before .before .before .before .before .before .before .before .before .before .before .before .before .before .before .pre .1 .1),
-    )
+rest-is-failure-requires : (t : ℕ) → rest-lts.Need-is-failure-requires (rest-claims t) (rest-at t) rest.Post
+rest-is-failure-requires t c κs = search needs
 
 rest-returns : (t : ℕ) → rest-lts.Need-returns (rest-claims t) (rest-at t) rest.Post
-rest-returns t c = rest-follows (c .before .before .before .before .before .before .before .before .before .before .before .before .before .before .before .before .before .pre .1 .0) (c .before .before .before .before .before .before .before .before .walk .ensures) (c .follow .ensures)
+rest-returns t c =
+    rest-fails (c .before .before .before .before .before .before .before .before .before .before .before .before .before .pre .1 .0)
+    (c .before .before .before .before .walk .ensures) (sym (c .before .is-failure .ensures) ∙ c .if1 .taken)
+
+rest-follow-requires : (t : ℕ) → rest-lts.Need-follow-requires (rest-claims t) (rest-at t) rest.Post
+rest-follow-requires t c κs =
+    let pre = c .before .before .before .before .before .before .before .before .before .before .before .before .before .before .before .before .before .before .pre in
+    let w = c .before .before .before .before .before .before .before .before .before .walk .ensures (pre .1 .0 .state) (pre .1 .0 .holds) in
+    (omega (arith, pre .0, w .further), (record { state = w .end; holds = w .holds }, w .stops, w .unassigned, pre .1 .1))
+
+rest-returns-2 : (t : ℕ) → rest-lts.Need-returns-2 (rest-claims t) (rest-at t) rest.Post
+rest-returns-2 t c =
+    rest-follows
+    (c .before .before .before .before .before .before .before .before .before .before .before .before .before .before .before .before .before .before .before .pre .1 .0)
+    (c .before .before .before .before .before .before .before .before .before .before .walk .ensures) (c .follow .ensures)
 
 pub +complement+complements+follow+level+rest-spec : {M : Type 1} → statement M
 +complement+complements+follow+level+rest-spec =
@@ -492,9 +561,11 @@ pub +complement+complements+follow+level+rest-spec : {M : Type 1} → statement 
     (level-returns-2 t)
     (level-returns-3 t))
     λ t. rest-lts.spec
-    (walk-reads.Asked, walk-reads.Learnt, follow-below t, follow.Post)
+    (rest-claims t)
     (rest-at t)
     rest.Post
     (rest-walk-requires t)
-    (rest-follow-requires t)
+    (rest-is-failure-requires t)
     (rest-returns t)
+    (rest-follow-requires t)
+    (rest-returns-2 t)
