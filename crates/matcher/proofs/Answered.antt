@@ -27,8 +27,7 @@ use Rattle.anti_pattern.specs.Variables.{vars, varsAll, free, among}
 use Rattle.anti_pattern.proofs.Allowance.{answer-over, answer-within, bound-found}
 use Rattle.anti_pattern.proofs.Demands.{search-decides, parts-shown, answer-exact, published-agrees, published-answer}
 use Rattle.anti_pattern.proofs.Metering.{meter-within}
-use Rattle.search.specs.Level.{searchOf}
-use Rattle.search.specs.declared.Reply.{Reply}
+use Rattle.search.specs.Level.{Reply, searchOf}
 use Rattle.matcher.specs.Call.{answerNumber, answerCount, Input, Checked, trees, checked, told, answerBy, answerOf, numbers, written, bufferBy, bufferOf}
 use Rattle.matcher.specs.Demands.{offsetIn, lengthIn, Shows, Answered, Published}
 use Rattle.matcher.specs.Represents.{Shown, Agrees, is-found}

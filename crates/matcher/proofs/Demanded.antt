@@ -17,10 +17,11 @@ use Rattle.matcher.specs.declared.Answer.the-variants.{Refused}
 use Rattle.matcher.specs.declared.Check.{Check}
 use Rattle.matcher.specs.declared.Check.the-variants.{Passed, Failed}
 use Rattle.matcher.proofs.Answered.{same-call, answered, published}
-use Rattle.matcher.proofs.Buffers.{numbers-length, past-numbers, written-untouched}
+use Rattle.matcher.proofs.Buffers.{past-numbers, written-untouched}
 use Rattle.matcher.proofs.Checks.{checked-input}
 use Rattle.anti_pattern.proofs.Allowance.{bound-found}
 use Rattle.anti_pattern.proofs.Each.{length-each}
+use Rattle.search.proofs.Shown.{numbers-length}
 
 -- what is told is no refusal
 told-refused : (o : Outcome) (r : Refusal) → told o ≡ Refused r → ⊥

@@ -20,8 +20,7 @@ use Rattle.anti_pattern.proofs.Facts.{join-one, count-join}
 use Rattle.anti_pattern.proofs.Metering.{Split, enough, over, split}
 use Rattle.anti_pattern.proofs.Steps.{step-found, step-refute, step-length, step-last-length, length-used-up}
 use Rattle.search.specs.State.{PutBy, State}
-use Rattle.search.specs.Level.{reply, spentAt, startOf, tried, orElse, lengthsOf, insideOf, andThen, complementsOf, levels}
-use Rattle.search.specs.declared.Reply.{Reply}
+use Rattle.search.specs.Level.{Reply, reply, spentAt, startOf, tried, orElse, lengthsOf, insideOf, andThen, complementsOf, levels}
 use Rattle.search.specs.declared.Outcome.the-variants.{Found}
 use Rattle.matcher.specs.Represents.{Limited, bytesLeft, Stands, Shown, Waits, AllWait, Represents, Agrees, is-found, is-failed, is-spent}
 use Rattle.term.proofs.Joins.{sizes-join, sizes-none}

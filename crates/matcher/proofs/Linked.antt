@@ -22,11 +22,9 @@ use Rattle.anti_pattern.specs.Meter.{Metered, meter, answered}
 use Rattle.anti_pattern.proofs.Machinery.{machine-level}
 use Rattle.anti_pattern.proofs.Allowance.{answer-metered}
 use Rattle.anti_pattern.proofs.Each.{each-at}
-use Rattle.search.specs.Level.{startOf, levels, levelOf, searchOf}
-use Rattle.search.specs.declared.Outcome.{Outcome}
-use Rattle.search.specs.declared.Reply.{Reply}
+use Rattle.search.specs.Level.{Reply, startOf, levels, levelOf, searchOf}
 use Rattle.matcher.specs.Call.{Input}
-use Rattle.matcher.specs.Represents.{Limited, Shown, Represents, Agrees, is-found, is-failed, is-spent, repliedBy, replied}
+use Rattle.matcher.specs.Represents.{Limited, Shown, Represents, Agrees, is-found, is-failed, is-spent, replied}
 use Rattle.matcher.proofs.Parts.{shown-start}
 use Rattle.matcher.proofs.Levels.{carry, start-represents, Searches}
 use Rattle.matcher.proofs.Walks.{walk-goes}
@@ -49,9 +47,6 @@ shown-parts table bytes ps e h =
     let z : 0 + i ≡ i = omega arith in
     each-at (λ v. partOf table (e .value v) (e .offset v)) 0 48 i k
     ∙ ap (λ (v : ℕ). partOf table (e .value v) (e .offset v)) z ∙ sym (h .shown i k))
-
-pub replied-by : (allowance : ℕ) (r : Reply) {o : Outcome} → r .outcome ≡ o → replied allowance r ≡ repliedBy o allowance (r .left) (r .parts)
-replied-by allowance r h = ap (λ (x : Outcome). repliedBy x allowance (r .left) (r .parts)) h
 
 answers : (table bytes : List ℕ) (allowance : ℕ) {m : Metered} {r : Reply} → Agrees table bytes m r → answered table allowance m ≡ replied allowance r
 answers table bytes allowance (is-found {e} {left} {parts} h) = ap (λ (ps : List Part). bound ps (allowance - left)) (shown-parts table bytes parts e h)

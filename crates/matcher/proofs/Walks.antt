@@ -30,12 +30,11 @@ use Rattle.anti_pattern.proofs.Machinery.{machine-end, machine-run-fresh}
 use Rattle.anti_pattern.proofs.Metering.{Split, enough, over, split}
 use Rattle.anti_pattern.proofs.Steps.{step-over, step-short, pair-used-up, step-name, step-name-differs, step-symbol, step-symbol-differs, step-complement, step-run, step-run-differs, run-used-up}
 use Rattle.search.specs.State.{Frame as Counts, frame as counts, PutBy, putBy, State, state, partAt, passed, entered, closedBy, closed, alone, variableOf, variableAt, assignedStep, symbolStep, nameStep, runStep, pairStep, codeStep, stepOf, nextOf, walkOf}
-use Rattle.search.specs.Level.{failedAt, stopBy, afterWalk, levels}
+use Rattle.search.specs.Level.{Reply, failedAt, stopBy, afterWalk, levels}
 use Rattle.search.specs.declared.Step.{Step}
 use Rattle.search.specs.declared.Step.the-variants.{Stops, Fails, Closes, Opens, Passes, Binds, PutsBy}
 use Rattle.search.specs.declared.Stop.{Stop}
 use Rattle.search.specs.declared.Stop.the-variants.{Failure, NoAllowance, NoPair, RunName}
-use Rattle.search.specs.declared.Reply.{Reply}
 use Rattle.matcher.specs.Represents.{Limited, codesLeft, Here, Shown, Waits, AllWait, Represents, Agrees, is-failed, is-spent}
 use Rattle.term.proofs.Joins.{sizes-single}
 use Rattle.matcher.proofs.Places.{limited-children, childless, some-width, stacked-alone, stacked-open, here-past, here-stands, here-open, here-close, close-at, past-leaf}

@@ -1,7 +1,7 @@
 -- The call: what the match of one pattern against one record answers, and what it leaves in the answer buffer, on all inputs.
 use Prim.Native.Nat.{ℕ, zero}
 use mathlib.Core.Path.{_≡_}
-use mathlib.Core.List.{List, [], _∷_, _++_}
+use mathlib.Core.List.{List, [], _++_}
 use mathlib.Core.Bool.{true, cond}
 use lib.ListN.{length, drop}
 use lib.Dec.{ltb}
@@ -11,10 +11,10 @@ use Rattle.term.specs.Pattern.{Pattern, patternBytes}
 use Rattle.term.specs.Limits.{TermAccepted, PatternAccepted}
 use Rattle.term.specs.Refusal.{numberOf}
 use Rattle.term.specs.Reading.{Answer as Reading, refused, read, readPattern, readRecord}
-use Rattle.term.specs.declared.Part.{Part}
 use Rattle.term.specs.declared.Refusal.{Refusal}
 use Rattle.term.specs.declared.Refusal.the-variants.{Table, Narrow}
 use Rattle.anti_pattern.specs.Answer.{Answer as Outcome, bound, nothing, spent, answer}
+pub use Rattle.search.specs.Shown.{numbers}
 use Rattle.matcher.specs.declared.Answer.{Answer}
 use Rattle.matcher.specs.declared.Answer.the-variants.{Bound, None, Spent, Refused}
 use Rattle.matcher.specs.declared.Check.{Check}
@@ -76,11 +76,7 @@ answerBy (trees q t) table allowance = told (answer table q t allowance)
 unfoldable pub answerOf : List ℕ → List ℕ → List ℕ → ℕ → ℕ → Answer
 answerOf table pattern bytes allowance width = answerBy (checked table pattern bytes width) table allowance
 
--- The answer buffer: "the pairs of ?0 to ?31, then of @0 to @15. Each pair is offset and length in the record's bytes"
-
-abbrev pub numbers : List Part → List ℕ
-numbers [] = []
-numbers (p ∷ ps) = p .offset ∷ p .length ∷ numbers ps
+-- The answer buffer
 
 -- "What lies past 96 stays."; "All but bound leave the answer buffer untouched."
 abbrev pub written : Outcome → List ℕ → List ℕ

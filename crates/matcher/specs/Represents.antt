@@ -17,11 +17,10 @@ use Rattle.anti_pattern.specs.Answer.{Answer, bound, nothing, spent}
 use Rattle.anti_pattern.specs.Machine.{Frame, Pending}
 use Rattle.anti_pattern.specs.Meter.{Metered, met, missed, usedUp}
 use Rattle.search.specs.State.{Frame as Counts, frame as counts, PutBy, State}
-use Rattle.search.specs.Level.{reply, failedAt, spentAt}
+use Rattle.search.specs.Level.{Reply, reply, failedAt, spentAt}
 use Rattle.search.specs.declared.Place.{Place}
 use Rattle.search.specs.declared.Outcome.{Outcome}
 use Rattle.search.specs.declared.Outcome.the-variants.{Found, Failed, Spent}
-use Rattle.search.specs.declared.Reply.{Reply}
 
 -- trees within the limits
 pub record Limited (table : List ℕ) (records : Bool) (ts : Trees) : Type 0 where

@@ -1,16 +1,11 @@
 // The match of one pattern against one record: the checks, the search, and the answer in the caller's buffer.
 use search::Outcome;
-use search::Reply;
-use term::Part;
 use term::Read;
 use term::Refusal;
 ghost use mathlib.Core.Path.{_≡_};
-ghost use mathlib.Core.List.{_++_};
-ghost use Prim.Native.Nat.{_≤_};
-ghost use lib.ListN.{length, drop};
-ghost use Rattle.matcher.specs.Call.{answerNumber, answerCount, checked, checkOf, told, answerOf, numbers, written, bufferOf};
+ghost use lib.ListN.{length};
+ghost use Rattle.matcher.specs.Call.{answerNumber, answerCount, checked, checkOf, answerOf, bufferOf};
 ghost use Rattle.matcher.specs.Demands.{Demanded, Matched};
-ghost use Rattle.matcher.specs.Represents.{replied};
 
 // Bound, none or spent, with the count; or why the input is refused.
 pub enum Answer {
@@ -73,39 +68,6 @@ fn check_input(table: &[u8], pattern: &[u8], record: &[u8], width: usize) -> Che
     Check::Passed
 }
 
-// Writes offset and length of each part; what lies past these 96 numbers stays.
-fn show(parts: [Part; 48], answer: &mut [u16])
-    requires { ⌜ 96 ≤ length (now answer) ⌝ }
-    ensures { λ _. ⌜ now (answer .exit) ≡ numbers parts ++ drop 96 (now (answer .entry)) ⌝ }
-{
-    let mut i: usize = 0;
-    while i < 48 {
-        let p = parts[i];
-        answer[2 * i] = p.offset;
-        answer[2 * i + 1] = p.length;
-        i = i + 1;
-    }
-}
-
-// What the search's reply comes to, with the parts in the buffer where it is found.
-fn tell(reply: Reply, allowance: u32, answer: &mut [u16]) -> Answer
-    requires { ⌜ (96 ≤ length (now answer)) × (reply .left ≤ allowance) ⌝ }
-    ensures is { λ r. ⌜ r ≡ told (replied allowance reply) ⌝ }
-    ensures buffer { λ r. ⌜ now (answer .exit) ≡ written (replied allowance reply) (now (answer .entry)) ⌝ }
-{
-    let outcome = reply.outcome;
-    let left = reply.left;
-    match outcome {
-        Outcome::Found => {
-            let parts = reply.parts;
-            show(parts, answer);
-            Answer::Bound(allowance - left)
-        }
-        Outcome::Failed => Answer::None(allowance - left),
-        Outcome::Spent => Answer::Spent(allowance),
-    }
-}
-
 // The match of a pattern and a record that passed their checks by this table. Only the buffer is checked here.
 pub fn match_checked(
     table: &[u8],
@@ -119,8 +81,14 @@ pub fn match_checked(
     if answer.len() < 96 {
         return Answer::Refused(Refusal::Narrow);
     }
-    let reply = search::search(table, pattern, record, allowance);
-    tell(reply, allowance, answer)
+    let end = search::search(table, pattern, record, allowance, answer);
+    let outcome = end.outcome;
+    let left = end.left;
+    match outcome {
+        Outcome::Found => Answer::Bound(allowance - left),
+        Outcome::Failed => Answer::None(allowance - left),
+        Outcome::Spent => Answer::Spent(allowance),
+    }
 }
 
 // The match of a pattern against a record, with every check.

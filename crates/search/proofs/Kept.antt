@@ -3,14 +3,12 @@
 use Prim.Native.Nat.{ℕ, zero, suc, _+_, _%_, _^_, _<_, _≤_}
 use native.Mathlib.Omega.{arith}
 use native.Mathlib.Nat.{lt-of-lt-of-le, zero-div}
-use mathlib.Core.Path.{_≡_, refl, sym, ap, subst, _∙_}
+use mathlib.Core.Path.{_≡_, refl, sym, ap, _∙_}
 use mathlib.Core.List.{List, [], _∷_}
 use mathlib.Core.Bool.{Bool, true, false, cond, true≢false}
 use lib.Bits.{bitOr}
 use lib.ListN.{length, getD, set, replicate, length-set, length-replicate, getD-replicate}
-use lib.Seq.{getD-set-same, getD-set-other}
 use lib.Dec.{eqb}
-use borrow.Author.Tests.{eqb-true, eqb-false}
 use Rattle.term.specs.Part.{part, absent, boundPart}
 use Rattle.term.specs.declared.Part.{Part}
 use Rattle.search.specs.State.{PutBy, State, place, state, passed}
@@ -178,30 +176,3 @@ pub state-shown : {codes bytes assigned : ℕ} {parts frames waiting : List ℕ}
     → Holds codes bytes assigned parts frames waiting m p s → s .parts ≡ partsIn assigned parts 0 48
 state-shown {assigned = assigned} {parts = parts} {s = s} h =
     parts-shown assigned parts 0 48 (s .parts) (h .variables) (λ i l. let z : 0 + i ≡ i = omega arith in h .shown i l ∙ ap (partIn assigned parts) (sym z))
-
--- the first i are shown
-pub record Showing (assigned : ℕ) (parts : List ℕ) (shows : List Part) (i : ℕ) : Type 0 where
-  pub few : i ≤ 48
-  pub whole : length shows ≡ 48
-  pub same : (j : ℕ) → j < i → getD shows j (part 0 0 0) ≡ partIn assigned parts j
-
-pub show-first : (assigned : ℕ) (parts : List ℕ) (shows : List Part) → length shows ≡ 48 → Showing assigned parts shows 0
-show-first assigned parts shows h = record { few = omega arith; whole = h; same = λ j l. absurd (omega (arith, l)) }
-
-module _ {assigned : ℕ} {parts : List ℕ} {shows : List Part} {i : ℕ} (t : Showing assigned parts shows i) where
-  pub show-next : i < 48 → (k : ℕ) (x : Part) → k ≡ i → x ≡ partIn assigned parts i → Showing assigned parts (set shows k x) (i + 1)
-  show-next h k x e is = record {
-    few = omega arith;
-    whole = length-set shows k x ∙ t .whole;
-    same = λ j l. by j l (eqb j k) refl;
-  }
-    where
-      by : (j : ℕ) → j < i + 1 → (b : Bool) → eqb j k ≡ b → getD (set shows k x) j (part 0 0 0) ≡ partIn assigned parts j
-      by j l true z =
-          let y : k ≡ j = sym (eqb-true j k z) in
-          subst (λ (n : ℕ). getD (set shows k x) n (part 0 0 0) ≡ partIn assigned parts n) y
-          (getD-set-same shows k x (part 0 0 0) (omega (arith, e, t .whole)) ∙ is ∙ ap (partIn assigned parts) (sym e))
-      by j l false z = let d = eqb-false j k z in getD-set-other shows k j x (part 0 0 0) d ∙ t .same j (omega (arith, d, e, l))
-
-  pub show-end : 48 ≤ i → shows ≡ partsIn assigned parts 0 48
-  show-end h = parts-shown assigned parts 0 48 shows (t .whole) (λ j l. let z : j ≡ 0 + j = omega arith in t .same j (omega arith) ∙ ap (partIn assigned parts) z)

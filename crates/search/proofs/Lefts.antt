@@ -10,14 +10,13 @@ use Rattle.term.specs.Extent.{extentOf}
 use Rattle.term.specs.Part.{absent}
 use Rattle.term.specs.declared.Part.{Part}
 use Rattle.search.specs.State.{PutBy, State, Walked, alone, variableAt, partAt, closed, stepOf, nextOf, walkOf}
-use Rattle.search.specs.Level.{failed, startOf, tried, orElse, lengthsOf, insideOf, refuted, complementsOf, stopBy, afterWalk, levelOf, levels, searchOf}
+use Rattle.search.specs.Level.{Reply, failed, startOf, tried, orElse, lengthsOf, insideOf, refuted, complementsOf, stopBy, afterWalk, levelOf, levels, searchOf}
 use Rattle.search.specs.declared.Step.{Step}
 use Rattle.search.specs.declared.Step.the-variants.{Stops, Fails, Closes, Opens, Passes, Binds, PutsBy}
 use Rattle.search.specs.declared.Stop.{Stop}
 use Rattle.search.specs.declared.Stop.the-variants.{Failure, NoAllowance, NoPair, RunName}
 use Rattle.search.specs.declared.Outcome.{Outcome}
 use Rattle.search.specs.declared.Outcome.the-variants.{Found, Failed, Spent}
-use Rattle.search.specs.declared.Reply.{Reply}
 
 -- of two replies, and of one after the other
 

@@ -15,7 +15,7 @@ use Rattle.term.specs.Extent.{extentOf}
 use Rattle.term.specs.Part.{absent, boundPart}
 use Rattle.term.specs.declared.Part.{Part}
 use Rattle.search.specs.State.{PutBy, State, place, passed, walked, walkOf}
-use Rattle.search.specs.Level.{reply, failedAt, spentAt, failed, refuted, startOf, tried, lengthsOf, insideOf, complementsOf, stopBy, afterWalk, levelOf, levels, searchOf}
+use Rattle.search.specs.Level.{Reply, reply, failedAt, spentAt, failed, refuted, startOf, tried, lengthsOf, insideOf, complementsOf, stopBy, afterWalk, levelOf, levels, searchOf}
 use Rattle.search.specs.Memory.{marks, packed, putByIn, Queued, Insides, Sized, Holds, Holding, Kept}
 use Rattle.search.specs.Bounds.{Walks}
 use Rattle.search.specs.Replies.{failure, found, turned, partsIn, replyOf, given, triesOf, inside, Free, Resting, Testable, LevelIs, RestIs, FollowIs, ComplementIs, ComplementsAre}
@@ -26,7 +26,6 @@ use Rattle.search.specs.declared.Stop.the-variants.{Failure, NoAllowance
 use Rattle.search.specs.declared.Reached.{Reached}
 use Rattle.search.specs.declared.Outcome.{Outcome}
 use Rattle.search.specs.declared.Outcome.the-variants.{Found, Failed, Spent}
-use Rattle.search.specs.declared.Reply.{Reply}
 use Rattle.search.proofs.Masks.{bit-still}
 use Rattle.search.proofs.Steps.{rest-drop}
 use Rattle.search.proofs.Held.{kept-part}
@@ -44,16 +43,6 @@ module _ (left assigned : ℕ) (parts : List ℕ) where
   reply-left Found = refl
   reply-left Failed = refl
   reply-left Spent = refl
-
-  pub reply-found : (o : Outcome) (shows : List Part) → found o ≡ true → shows ≡ partsIn assigned parts 0 48 → reply o left shows ≡ replyOf o left assigned parts
-  reply-found Found shows f e = ap (reply Found left) e
-  reply-found Failed shows f e = absurd (true≢false (sym f))
-  reply-found Spent shows f e = absurd (true≢false (sym f))
-
-  pub reply-other : (o : Outcome) → found o ≡ false → reply o left (replicate 48 absent) ≡ replyOf o left assigned parts
-  reply-other Found f = absurd (true≢false f)
-  reply-other Failed f = refl
-  reply-other Spent f = refl
 
 -- Lengths
 

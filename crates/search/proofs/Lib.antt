@@ -8,3 +8,4 @@ pub mod Walks
 pub mod Kept
 pub mod Levels
 pub mod Lefts
+pub mod Shown

@@ -1,14 +1,14 @@
 -- The laws of what is kept as a number: the mask of the assigned variables, a part, an open node, a complement put by.
 -- Assumes nothing.
 use Prim.Native.Nat.{ℕ, suc, _+_, _-_, _*_, _/_, _%_, _^_, _<_, _≤_, max}
-use native.Mathlib.Nat.{max-zero, max-le, le-max-right, pow-suc}
+use native.Mathlib.Nat.{max-zero, max-le, le-max-right, pow-suc, zero-div}
 use native.Mathlib.Omega.{arith}
 use mathlib.Core.Bool.{Bool, true, false}
-use mathlib.Core.Path.{_≡_, refl, _∙_, ap, subst}
+use mathlib.Core.Path.{_≡_, refl, sym, _∙_, ap, subst}
 use lib.Bits.{bitOr, or-step, or-shr}
 use lib.Dec.{eqb, ltb}
-use lib.Pow.{pow-lt, pow-add, shl-shr, shr-lt}
-use borrow.Author.Tests.{eqb-true, eqb-false, ltb-true, ltb-false, eq-eqb}
+use lib.Pow.{pow-lt, pow-add, shl-shr, shr-lt, shr-shr, field, mod-mod-pow}
+use borrow.Author.Tests.{eqb-true, eqb-false, ltb-true, ltb-false, eq-eqb, ne-eqb}
 use Rattle.term.specs.Part.{part, boundPart}
 use Rattle.search.specs.Memory.{bit, packed, unpacked, frameIn, outer, putByIn}
 use Rattle.search.specs.State.{frame, putBy}
@@ -84,6 +84,24 @@ bit-still a i v h = by (eqb i v) refl
     by : (b : Bool) → eqb i v ≡ b → bit (bitOr a (2 ^ i)) v ≡ true
     by true e = ap (λ (n : ℕ). bit (bitOr a (2 ^ n)) v) (eqb-true i v e) ∙ bit-new a v
     by false e = bit-other a i v (eqb-false i v e) ∙ h
+
+-- none from i on is in a mask of 48 variables that is 0 from there on
+pub none-from : (a i : ℕ) → a % 281474976710656 / 2 ^ i ≡ 0 → (v : ℕ) → i ≤ v → v < 48 → bit a v ≡ false
+none-from a i e v h l = ne-eqb (a / 2 ^ v % 2) 1 (λ z. omega (arith, z, odd))
+  where
+    all : 48 ≡ 48 - suc v + 1 + v
+    all = omega arith
+
+    here : v ≡ i + (v - i)
+    here = omega arith
+
+    rest : a / 2 ^ v % 2 ^ (48 - suc v + 1) ≡ 0
+    rest =
+        sym (field a (48 - suc v + 1) v) ∙ ap (λ (n : ℕ). a % 2 ^ n / 2 ^ v) (sym all) ∙ ap (λ (n : ℕ). a % 281474976710656 / 2 ^ n) here
+        ∙ sym (shr-shr (a % 281474976710656) i (v - i)) ∙ ap (λ (n : ℕ). n / 2 ^ (v - i)) e ∙ zero-div (2 ^ (v - i))
+
+    odd : a / 2 ^ v % 2 ≡ 0
+    odd = sym (mod-mod-pow (a / 2 ^ v) (48 - suc v) 1) ∙ ap (λ (n : ℕ). n % 2 ^ 1) rest
 
 -- Numbers that are packed into one
 

@@ -12,7 +12,13 @@ use Rattle.search.specs.declared.Stop.{Stop}
 use Rattle.search.specs.declared.Stop.the-variants.{Failure, NoAllowance, NoPair, RunName}
 use Rattle.search.specs.declared.Outcome.{Outcome}
 use Rattle.search.specs.declared.Outcome.the-variants.{Found, Failed, Spent}
-use Rattle.search.specs.declared.Reply.{Reply}
+use Rattle.search.specs.declared.Ended.{Ended}
+
+-- how a search ended, the allowance left, and where it is found what each name and run name is assigned
+pub record Reply : Type 0 where
+  pub outcome : Outcome
+  pub left : ℕ
+  pub parts : List Part
 
 abbrev pub reply : Outcome → ℕ → List Part → Reply
 reply outcome left parts = record { outcome = outcome; left = left; parts = parts }
@@ -100,3 +106,7 @@ searchOf table pattern bytes allowance =
     cond (leb (length pattern) 256 && leb (length bytes) 4096)
     (levelOf (levels pattern 0) table bytes pattern (startOf (replicate 48 absent) 0) allowance)
     (failedAt allowance)
+
+-- without what the answer buffer shows
+abbrev pub endOf : Reply → Ended
+endOf r = record { outcome = r .outcome; left = r .left }

@@ -9,7 +9,7 @@ use Rattle.term.specs.Extent.{extentOf}
 use Rattle.term.specs.Part.{boundPart}
 use Rattle.term.specs.declared.Part.{Part}
 use Rattle.search.specs.State.{PutBy, State, place, state}
-use Rattle.search.specs.Level.{reply, failedAt, spentAt, startOf, orElse, insideOf, complementsOf, stopBy, levelOf, levels}
+use Rattle.search.specs.Level.{Reply, reply, failedAt, spentAt, startOf, orElse, insideOf, complementsOf, stopBy, levelOf, levels}
 use Rattle.search.specs.Memory.{bit, partIn, Holds, Holding, Kept}
 use Rattle.search.specs.declared.Place.{Place}
 use Rattle.search.specs.declared.Marks.{Marks}
@@ -17,7 +17,6 @@ use Rattle.search.specs.declared.Stop.{Stop}
 use Rattle.search.specs.declared.Stop.the-variants.{Failure, NoAllowance, NoPair, RunName}
 use Rattle.search.specs.declared.Outcome.{Outcome}
 use Rattle.search.specs.declared.Outcome.the-variants.{Found, Failed, Spent}
-use Rattle.search.specs.declared.Reply.{Reply}
 
 abbrev pub failure : Stop → Bool
 failure Failure = true

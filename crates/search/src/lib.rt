@@ -7,16 +7,19 @@ use term::entry_of;
 use term::extent;
 use term::same;
 ghost use mathlib.Core.Path.{_≡_};
-ghost use Prim.Native.Nat.{_+_, _-_, _^_, _≤_, _<_};
-ghost use lib.ListN.{length};
+ghost use mathlib.Core.List.{_++_};
+ghost use Prim.Native.Nat.{_+_, _-_, _/_, _%_, _^_, _≤_, _<_};
+ghost use lib.ListN.{length, drop, replicate};
 ghost use lib.Bits.{bitOr};
 ghost use lib.Dec.{eqb};
 ghost use Rattle.term.specs.Code.{VariableBelow};
+ghost use Rattle.term.specs.Part.{absent};
 ghost use Rattle.search.specs.State.{place, frame, putBy, passed, entered, reopened, variableOf, variableAt, standsOf, overStep, symbolStep, assignedStep, nameStep, runStep, pairStep, plainStep, stepOf};
-ghost use Rattle.search.specs.Level.{failed, searchOf};
+ghost use Rattle.search.specs.Level.{failed, endOf, searchOf};
 ghost use Rattle.search.specs.Memory.{bit, packed, unpacked, partIn, frameIn, outer, putByIn, openedMarks, closedMarks, putByMarks, Holding};
 ghost use Rattle.search.specs.Bounds.{Short, Walks, StopsAt, Unassigned};
-ghost use Rattle.search.specs.Replies.{failure, found, turned, partsIn, replyOf, inside, Free, Resting, Testable, LevelIs, RestIs, FollowIs, ComplementIs, ComplementsAre};
+ghost use Rattle.search.specs.Shown.{numbers, shownBy, shownIn};
+ghost use Rattle.search.specs.Replies.{failure, found, turned, partsIn, inside, Free, Resting, Testable, LevelIs, RestIs, FollowIs, ComplementIs, ComplementsAre};
 
 // Where the search of a level stands: what is left of the innermost open node, child patterns and elements of the record, and the next byte of
 // the pattern and of the record.
@@ -71,11 +74,10 @@ pub enum Outcome {
     Spent,
 }
 
-// How a search ended, the allowance left, and where it is found what each name and run name is assigned.
-pub struct Reply {
+// How a search ended, and the allowance left.
+pub struct Ended {
     pub outcome: Outcome,
     pub left: u32,
-    pub parts: [Part; 48],
 }
 
 fn wide(b: u8) -> usize
@@ -788,53 +790,80 @@ fn complements(
     Outcome::Found
 }
 
-// What each name and run name is assigned.
-fn shown(parts: &[u64; 49], assigned: u64) -> [Part; 48]
-    ensures { λ r. ⌜ r ≡ partsIn assigned (now (parts .entry)) 0 48 ⌝ }
+// Whether no variable from v on is assigned.
+fn none_from(assigned: u64, v: u8) -> bool
+    requires { ⌜ v < 48 ⌝ }
+    ensures { λ r. ⌜ r ≡ eqb (assigned % 281474976710656 / 2 ^ v) 0 ⌝ }
 {
-    let mut r = [Part::ABSENT; 48];
+    (assigned % 281474976710656) >> v == 0
+}
+
+// Absent marks for every name and run name.
+fn clear(answer: &mut [u16])
+    requires { ⌜ 96 ≤ length (now answer) ⌝ }
+    ensures { λ _. ⌜ now (answer .exit) ≡ numbers (replicate 48 absent) ++ drop 96 (now (answer .entry)) ⌝ }
+{
+    let mut v: usize = 0;
+    while v < 48 {
+        answer[2 * v] = 65535;
+        answer[2 * v + 1] = 0;
+        v = v + 1;
+    }
+}
+
+// What is found is shown in a buffer of 96 numbers or more: offset and length of what each name and run name is assigned, and absent marks for
+// those that are not. All else stays.
+fn show(outcome: Outcome, parts: &[u64; 49], assigned: u64, answer: &mut [u16])
+    ensures { λ _. ⌜ now (answer .exit) ≡ shownBy outcome (partsIn assigned (now (parts .entry)) 0 48) (now (answer .entry)) ⌝ }
+{
+    if !is_found(outcome) {
+        return;
+    }
+    if answer.len() < 96 {
+        return;
+    }
+    clear(answer);
     let mut i: u8 = 0;
     while i < 48 {
+        if none_from(assigned, i) {
+            return;
+        }
         let j = wide(i);
-        r[j] = part_of(parts, assigned, i);
+        let p = part_of(parts, assigned, i);
+        answer[2 * j] = p.offset;
+        answer[2 * j + 1] = p.length;
         i = i + 1;
     }
-    r
 }
 
-// Parts are shown only where they are found.
-fn replied(outcome: Outcome, left: u32, parts: &[u64; 49], assigned: u64) -> Reply
-    ensures { λ r. ⌜ r ≡ replyOf outcome left assigned (now (parts .entry)) ⌝ }
+// The search of a whole pattern on a record, and what it finds in the answer buffer. A pattern or a record over its limit is never found.
+pub fn search(
+    table: &[u8],
+    pattern: &[u8],
+    record: &[u8],
+    allowance: u32,
+    answer: &mut [u16],
+) -> Ended
+    ensures is { λ r. ⌜ r ≡ endOf (searchOf (now (table .entry)) (now (pattern .entry)) (now («record» .entry)) allowance) ⌝ }
+    ensures shows { λ r. ⌜ now (answer .exit) ≡ shownIn (searchOf (now (table .entry)) (now (pattern .entry)) (now («record» .entry)) allowance) (now (answer .entry)) ⌝ }
 {
-    if is_found(outcome) {
-        return Reply {
-            outcome: outcome,
-            left: left,
-            parts: shown(parts, assigned),
+    if 256 < pattern.len() {
+        return Ended {
+            outcome: Outcome::Failed,
+            left: allowance,
         };
     }
-    Reply {
-        outcome: outcome,
-        left: left,
-        parts: [Part::ABSENT; 48],
+    if 4096 < record.len() {
+        return Ended {
+            outcome: Outcome::Failed,
+            left: allowance,
+        };
     }
-}
-
-// The search of a whole pattern on a record. A pattern or a record over its limit is never found.
-pub fn search(table: &[u8], pattern: &[u8], record: &[u8], allowance: u32) -> Reply
-    ensures { λ r. ⌜ r ≡ searchOf (now (table .entry)) (now (pattern .entry)) (now («record» .entry)) allowance ⌝ }
-{
     let mut parts = [0u64; 49];
     let mut frames = [0u32; 256];
     let mut waiting = [0u32; 256];
     let mut assigned: u64 = 0;
     let mut left = allowance;
-    if 256 < pattern.len() {
-        return replied(Outcome::Failed, left, &parts, assigned);
-    }
-    if 4096 < record.len() {
-        return replied(Outcome::Failed, left, &parts, assigned);
-    }
     let outcome = level(
         table,
         pattern,
@@ -849,5 +878,9 @@ pub fn search(table: &[u8], pattern: &[u8], record: &[u8], allowance: u32) -> Re
         Marks::NONE,
         Place::start(0),
     );
-    replied(outcome, left, &parts, assigned)
+    show(outcome, &parts, assigned, answer);
+    Ended {
+        outcome: outcome,
+        left: left,
+    }
 }

@@ -1,33 +1,73 @@
 -- `matcher::match_checked` meets its contract.
-use Prim.Native.Nat.{_≤_}
 use native.Mathlib.Omega.{arith}
-use Rattle.search.proofs.Lefts.{search-left}
-use Rattle.matcher.proofs.Matched.{narrow-matched, search-matched}
+use Rattle.search.specs.declared.Outcome.the-variants.{Found, Failed, Spent}
+use Rattle.matcher.proofs.Matched.{narrow-matched, left-within, search-matched}
 use borrow.Author.Needs.{needs}
 use Rattle.matcher.proofs.match_checked.Statement.{statement}
 use Rattle.matcher.proofs.match_checked.Tie as tie
 
 returns : tie.Need-returns
-returns c = narrow-matched _ _ _ _ _ (c .if1 .taken)
+returns c = narrow-matched _ _ _ _ _ (omega arith)
 
 search-requires : tie.Need-search-requires
 search-requires c κs = search needs
 
-tell-requires : tie.Need-tell-requires
-tell-requires c κs =
-    let a = c .before .before .before .before .before .before .before .args in
-    let z : c .before .search .result .left ≤ a .allowance =
-    rw (c .before .search .ensures) (search-left (a .table .now) (a .«record» .now) (a .pattern .now) (a .allowance)) in
-    (omega arith, z)
+enum-told : tie.Need-enum-told
+enum-told c = search needs
+
+sub-t15 : tie.Need-sub-t15
+sub-t15 c = omega (arith, left-within _ _ _ _ _ (c .before .before .before .before .search .ensures .0))
+
+enum-told-2 : tie.Need-enum-told-2
+enum-told-2 c = search needs
+
+sub-t16 : tie.Need-sub-t16
+sub-t16 c = omega (arith, left-within _ _ _ _ _ (c .before .before .before .before .search .ensures .0))
+
+enum-told-3 : tie.Need-enum-told-3
+enum-told-3 c = search needs
 
 same-length : tie.Need-same-length
 same-length c = search needs
 
 returns-2 : tie.Need-returns-2
 returns-2 c =
-    search-matched _ _ _ _ _ (c .before .before .before .before .before .if1 .left) _ (c .before .before .before .before .search .ensures) _ _
-    (same-length c) (c .before .before .tell .ensures .0) (c .before .before .tell .ensures .1)
+    let from = c .before .before .before .before in
+    search-matched _ _ _ _ _ (omega arith) Found _ (c .enum-told .given .1) (from .search .ensures .0) _ (same-length c)
+    (from .search .ensures .1)
+
+same-length-2 : tie.Need-same-length-2
+same-length-2 c = search needs
+
+returns-3 : tie.Need-returns-3
+returns-3 c =
+    let from = c .before .before .before .before in
+    search-matched _ _ _ _ _ (omega arith) Failed _ (c .enum-told2 .given .1) (from .search .ensures .0) _ (same-length-2 c)
+    (from .search .ensures .1)
+
+same-length-3 : tie.Need-same-length-3
+same-length-3 c = search needs
+
+returns-4 : tie.Need-returns-4
+returns-4 c =
+    let from = c .before .before .before .before in
+    search-matched _ _ _ _ _ (omega arith) Spent _ (c .enum-told3 .given .1) (from .search .ensures .0) _ (same-length-3 c)
+    (from .search .ensures .1)
 
 pub match-checked-spec : {M : Type 1} → statement M
 match-checked-spec =
-    tie.close (tie.spec returns search-requires tell-requires same-length returns-2)
+    tie.close
+    (tie.spec
+    returns
+    search-requires
+    enum-told
+    sub-t15
+    enum-told-2
+    sub-t16
+    enum-told-3
+    same-length
+    returns-2
+    same-length-2
+    returns-3
+    same-length-3
+    returns-4)

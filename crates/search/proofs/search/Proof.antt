@@ -1,6 +1,6 @@
 -- `search::search` meets its contract. Assumes nothing.
 use native.Mathlib.Omega.{arith}
-use mathlib.Core.Path.{refl, _∙_}
+use mathlib.Core.Path.{refl}
 use lib.ListN.{length, replicate}
 use borrow.Author.Needs.{needs}
 use borrow.Author.Tests.{le-leb, lt-leb}
@@ -8,29 +8,22 @@ use Rattle.term.specs.Part.{absent}
 use Rattle.search.specs.Level.{startOf}
 use Rattle.search.specs.Memory.{Sized}
 use Rattle.search.proofs.Kept.{first-holds, none-free}
-use Rattle.search.proofs.Levels.{search-over, search-within}
+use Rattle.search.proofs.Levels.{search-within}
+use Rattle.search.proofs.Shown.{over-shows, within-shows}
 use Rattle.search.proofs.search.Statement.{statement}
 use Rattle.search.proofs.search.Tie as tie
 
-replied-requires : tie.Need-replied-requires
-replied-requires c κs = search needs
-
 returns : tie.Need-returns
 returns c =
-    let args = c .before .before .before .before .before .before .args in
-    c .replied .ensures
-    ∙ search-over (args .table .now) (args .pattern .now) (args .«record» .now) (args .allowance)
-    (rw (lt-leb (length (args .pattern .now)) 256 (c .before .before .if1 .taken)))
-
-replied-requires-2 : tie.Need-replied-requires-2
-replied-requires-2 c κs = search needs
+    let args = c .before .before .before .before .before .args in
+    over-shows (args .table .now) (args .pattern .now) (args .«record» .now) (args .answer .now) (args .allowance)
+    (rw (lt-leb (length (args .pattern .now)) 256 (c .if1 .taken)))
 
 returns-2 : tie.Need-returns-2
 returns-2 c =
-    let args = c .before .before .before .before .before .before .before .args in
-    c .replied2 .ensures
-    ∙ search-over (args .table .now) (args .pattern .now) (args .«record» .now) (args .allowance)
-    (rw (le-leb (length (args .pattern .now)) 256 (omega arith), lt-leb (length (args .«record» .now)) 4096 (c .before .before .if2 .taken)))
+    let args = c .before .before .before .before .before .before .args in
+    over-shows (args .table .now) (args .pattern .now) (args .«record» .now) (args .answer .now) (args .allowance)
+    (rw (le-leb (length (args .pattern .now)) 256 (omega arith), lt-leb (length (args .«record» .now)) 4096 (c .if2 .taken)))
 
 start-requires : tie.Need-start-requires
 start-requires c κs = search needs
@@ -49,23 +42,19 @@ level-requires c κs =
           { of-pattern = omega arith; of-record = omega arith },
     )
 
-replied-requires-3 : tie.Need-replied-requires-3
-replied-requires-3 c κs = search needs
+show-requires : tie.Need-show-requires
+show-requires c κs = search needs
+
+same-length : tie.Need-same-length
+same-length c = search needs
 
 returns-3 : tie.Need-returns-3
 returns-3 c =
-    c .replied3 .ensures
-    ∙ search-within _ _ _ _ _ _ _ (omega arith) (omega arith) sized (c .before .before .before .start .ensures) (c .before .before .level .ensures)
+    let entered = c .before .before .before .before .before in
+    within-shows _ _ _ _ _ _ _ _ _ _ (c .before .before .show .ensures)
+    (search-within _ _ _ _ _ _ _ (omega arith) (omega arith) sized (entered .before .start .ensures) (entered .level .ensures))
 
 pub search-spec : {M : Type 1} → statement M
 search-spec =
     tie.close
-    (tie.spec
-    replied-requires
-    returns
-    replied-requires-2
-    returns-2
-    start-requires
-    level-requires
-    replied-requires-3
-    returns-3)
+    (tie.spec returns returns-2 start-requires level-requires show-requires same-length returns-3)
