@@ -14,7 +14,7 @@ const INDEPENDENT: &str = "#c0392b";
 pub fn svg(measured: &[Measured]) -> String {
     let panels: Vec<&[Measured]> = groups(measured).filter(|group| group.len() > 1).collect();
     let rows = panels.len().div_ceil(COLUMNS);
-    let (width, height) = (COLUMNS as f64 * PANEL.0 + 10.0, rows as f64 * PANEL.1 + TOP);
+    let (width, height) = (COLUMNS as f64 * PANEL.0 + 24.0, rows as f64 * PANEL.1 + TOP);
     let mut svg = format!(
         "<svg xmlns=\"http://www.w3.org/2000/svg\" width=\"{width}\" height=\"{height}\" \
          font-family=\"sans-serif\" font-size=\"11\">\n\
