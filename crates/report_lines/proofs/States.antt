@@ -12,12 +12,11 @@ use Rattle.sheet.specs.Entry.{entries, entryOf, partAt}
 use Rattle.sheet.specs.Contents.{readEntry, checkEach, checkRules}
 use Rattle.sheet.specs.declared.Checked.the-variants.{Accepted}
 use Rattle.sheet.proofs.Contents.{contents-passed}
-use Rattle.sheet.proofs.Entries.{part-is-entry, entry-of-entries, entries-count}
+use Rattle.sheet.proofs.Entries.{part-is-entry, entry-of-entries, entries-count, entries-octets}
 use Rattle.rules.specs.Call.{Input, Checked as Inputs, trees, rulesOf, checked, told, answerOf, answerBy}
 use Rattle.rules.specs.Trial.{tryRules}
 use Rattle.rules.specs.Demands.{Matched}
 use Rattle.rules.specs.declared.RuleAnswer.{RuleAnswer}
-use Rattle.rules.proofs.Rules.{entries-octets}
 use Rattle.rules.proofs.Checks.{checked-input}
 use Rattle.report_lines.specs.Verdict.{verdict}
 use Rattle.report_lines.specs.Report.{allowance, Answers}

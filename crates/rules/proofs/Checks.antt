@@ -22,10 +22,11 @@ use Rattle.sheet.specs.Contents.{readEntry, checkEach, checkRules}
 use Rattle.sheet.specs.declared.Checked.{Checked as SheetChecked}
 use Rattle.sheet.specs.declared.Checked.the-variants.{Accepted}
 use Rattle.sheet.proofs.Checks.{accepted-directed, directed-accepted}
+use Rattle.sheet.proofs.Entries.{entries-octets}
 use Rattle.sheet.proofs.Contents.{contents-each, contents-passed}
 use Rattle.sheet.proofs.Readings.{accepted-reading}
 use Rattle.rules.specs.Call.{AllAccepted, rulesBytes, Input, fault, trees, rulesOf, checkedBy, checked, checkOf}
-use Rattle.rules.proofs.Rules.{entries-octets, input-directed, input-entries}
+use Rattle.rules.proofs.Rules.{input-directed, input-entries}
 
 -- the entries that pass are read, each as a rule
 

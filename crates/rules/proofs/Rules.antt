@@ -3,42 +3,19 @@ use Prim.Native.Nat.{ℕ, zero, suc, _+_, _<_}
 use native.Mathlib.Omega.{arith}
 use mathlib.Core.Path.{_≡_, refl, sym, _∙_, ap}
 use mathlib.Core.List.{List, [], _∷_}
-use lib.ListN.{length, getD, take, drop, length-map}
-use lib.Seq.{getD-drop}
+use lib.ListN.{length, getD, length-map}
 use Rattle.term.specs.Tree.{own, encode}
 use Rattle.term.specs.Term.{Term}
 use Rattle.term.specs.Pattern.{Pattern, name, symbol, complement, patternBytes}
 use Rattle.term.specs.Limits.{Octets, PatternAccepted}
 use Rattle.sheet.specs.Sheet.{NoneEmpty}
-use Rattle.sheet.specs.Check.{entryCount, offsetAt, lengthAt}
-use Rattle.sheet.specs.Entry.{entryAt, entriesFrom, entries, partAt}
+use Rattle.sheet.specs.Check.{entryCount}
+use Rattle.sheet.specs.Entry.{entryAt, entries, partAt}
 use Rattle.sheet.proofs.Checks.{Directed}
-use Rattle.sheet.proofs.Entries.{part-entry, entries-at}
+use Rattle.sheet.proofs.Entries.{part-entry, entry-octets, entries-at}
 use Rattle.sheet.proofs.Readings.{written-read, written-directed}
 use Rattle.matcher.specs.Call.{Input as PatternInput}
 use Rattle.rules.specs.Call.{AllAccepted, rulesBytes, Input}
-
--- each entry of a sheet of bytes has bytes
-
-octets-take : (n : ℕ) (s : List ℕ) → Octets s → Octets (take n s)
-octets-take zero s o i = omega arith
-octets-take (suc n) [] o i = omega arith
-octets-take (suc n) (x ∷ s) o zero = o zero
-octets-take (suc n) (x ∷ s) o (suc i) = octets-take n s (λ j. o (suc j)) i
-
-entry-octets : (s : List ℕ) → Octets s → (i : ℕ) → Octets (entryAt s i)
-unfolding entryAt
-entry-octets s o i = octets-take (lengthAt s i) (drop (offsetAt s i) s) (λ n. rw getD-drop (o (offsetAt s i + n)))
-
-octets-from : (s : List ℕ) → Octets s → (k i j : ℕ) → Octets (getD (entriesFrom s k i) j [])
-unfolding entriesFrom
-octets-from s o zero i j = λ n. omega arith
-octets-from s o (suc k) i zero = entry-octets s o i
-octets-from s o (suc k) i (suc j) = octets-from s o k (i + 1) j
-
-pub entries-octets : (s : List ℕ) → Octets s → (j : ℕ) → Octets (getD (entries s) j [])
-unfolding entries
-entries-octets s o j = octets-from s o (entryCount s) 0 j
 
 -- the rule of an index
 

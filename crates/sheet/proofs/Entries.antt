@@ -3,11 +3,13 @@ use Prim.Native.Nat.{ℕ, zero, suc, _+_, _*_, _-_, _≤_, _<_}
 use native.Mathlib.Nat.{add-sub-cancel-left}
 use native.Mathlib.Omega.{arith}
 use mathlib.Core.Path.{_≡_, refl, sym, ap, _∙_}
-use mathlib.Core.List.{List, []}
+use mathlib.Core.List.{List, [], _∷_}
 use mathlib.Core.Bool.{Bool, true, false}
 use lib.ListN.{length, getD, take, drop}
+use lib.Seq.{getD-drop}
 use lib.Dec.{ltb}
 use borrow.Author.Tests.{le-leb, lt-leb, lt-ltb, le-ltb, ltb-true, ltb-false}
+use Rattle.term.specs.Limits.{Octets}
 use Rattle.term.specs.declared.Refusal.{Refusal}
 use Rattle.term.specs.declared.Refusal.the-variants.{Directory}
 use Rattle.sheet.specs.Sheet.{pastPairs}
@@ -135,3 +137,25 @@ module _ (s : List ℕ) (n : ℕ) (a : checkSheet s ≡ Accepted n) where
   entry-of-entries i h =
       let e : 0 + i ≡ i = omega arith in
       entry-accepted s n i a h ∙ rw (accepted-directed s n a .counted) (sym (entries-at s n 0 i h ∙ rw e))
+
+-- each entry of a sheet of bytes has bytes
+
+octets-take : (n : ℕ) (s : List ℕ) → Octets s → Octets (take n s)
+octets-take zero s o i = omega arith
+octets-take (suc n) [] o i = omega arith
+octets-take (suc n) (x ∷ s) o zero = o zero
+octets-take (suc n) (x ∷ s) o (suc i) = octets-take n s (λ j. o (suc j)) i
+
+pub entry-octets : (s : List ℕ) → Octets s → (i : ℕ) → Octets (entryAt s i)
+unfolding entryAt
+entry-octets s o i = octets-take (lengthAt s i) (drop (offsetAt s i) s) (λ n. rw getD-drop (o (offsetAt s i + n)))
+
+octets-from : (s : List ℕ) → Octets s → (k i j : ℕ) → Octets (getD (entriesFrom s k i) j [])
+unfolding entriesFrom
+octets-from s o zero i j = λ n. omega arith
+octets-from s o (suc k) i zero = entry-octets s o i
+octets-from s o (suc k) i (suc j) = octets-from s o k (i + 1) j
+
+pub entries-octets : (s : List ℕ) → Octets s → (j : ℕ) → Octets (getD (entries s) j [])
+unfolding entries
+entries-octets s o j = octets-from s o (entryCount s) 0 j
