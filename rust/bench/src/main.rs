@@ -41,12 +41,12 @@ fn main() -> ExitCode {
 fn table_and_plot(effort: Effort, file: Option<&Path>) -> Result<(), String> {
     let evidence = proved::evidence()?;
     let page = file.map(read_page).transpose()?;
-    let measured = measure::all(effort);
+    let measured = measure::measurements(effort);
     let table = format!("{}, {evidence}.\n\n{}", date::today(), table::markdown(&measured));
     print!("{table}");
     let (Some(file), Some((before, after))) = (file, page) else { return Ok(()) };
     write(file, &format!("{before}{TABLE}\n\n{table}\n{END}{after}"))?;
-    write(&file.with_file_name("benchmark.svg"), &plot::svg(&measured))
+    write(&file.with_file_name("benchmark.svg"), &plot::svg(&measured.all))
 }
 
 const TABLE: &str = "<!-- table -->";

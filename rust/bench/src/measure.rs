@@ -42,13 +42,20 @@ impl Measured {
     }
 }
 
+/// The workloads, and the starts of some of them.
+pub struct Measurements {
+    pub all: Vec<Measured>,
+    pub starts: Vec<Measured>,
+}
+
 /// Measures every workload in each round, so that a busy moment falls on all of them.
-pub fn all(effort: Effort) -> Vec<Measured> {
-    let mut measured: Vec<Measured> = workloads::all().into_iter().map(Measured::new).collect();
+pub fn measurements(effort: Effort) -> Measurements {
+    let new = |work: Vec<Workload>| work.into_iter().map(Measured::new).collect::<Vec<_>>();
+    let (mut all, mut starts) = (new(workloads::all()), new(workloads::starts()));
     for _ in 0..effort.rounds {
-        measured.iter_mut().for_each(|one| one.round(effort.batch));
+        all.iter_mut().chain(&mut starts).for_each(|one| one.round(effort.batch));
     }
-    measured
+    Measurements { all, starts }
 }
 
 /// The sizes of each workload, side by side.

@@ -1,10 +1,11 @@
 //! The tables of costs, in markdown.
 
-use crate::measure::{groups, Measured};
+use crate::measure::{groups, Measured, Measurements};
 
-/// Cost and ratio of each workload and size, their mean and worst, and how the cost grows with n.
-pub fn markdown(measured: &[Measured]) -> String {
-    format!("{}\n{}\n{}", costs(measured), summary(measured), growth(measured))
+/// Cost and ratio of each workload and size, their mean and worst, what a step takes in lists of
+/// different lengths, and how the cost grows with n.
+pub fn markdown(Measurements { all, starts }: &Measurements) -> String {
+    format!("{}\n{}\n{}\n{}", costs(all), summary(all), steps(all, starts), growth(all))
 }
 
 fn costs(measured: &[Measured]) -> String {
@@ -48,6 +49,46 @@ fn summary(measured: &[Measured]) -> String {
 fn mean(values: impl Iterator<Item = f64>) -> f64 {
     let (sum, number) = values.fold((0.0, 0.0), |(sum, n), value| (sum + value.ln(), n + 1.0));
     f64::exp(sum / number)
+}
+
+/// The time of a step in lists of different lengths: of the whole call, and of what it takes beyond
+/// its start.
+fn steps(measured: &[Measured], starts: &[Measured]) -> String {
+    let mut text = String::from(
+        "Time per counted step, in ns: the whole call over its steps, and the call without its \
+         start (the same call with an allowance of 0) over its steps.\n\n\
+         | Workload | n | proved | without start | independent | without start |\n\
+         |---|--:|--:|--:|--:|--:|\n",
+    );
+    for group in groups(starts) {
+        let rows: Vec<[f64; 4]> = group.iter().map(|start| step(measured, start)).collect();
+        for (start, row) in group.iter().zip(&rows) {
+            text += &line(start.workload.name, &start.workload.n.to_string(), row);
+        }
+        let extreme = |pick: fn(f64, f64) -> f64, first| {
+            rows.iter().fold([first; 4], |all, row| [0, 1, 2, 3].map(|i| pick(all[i], row[i])))
+        };
+        let (slowest, fastest) = (extreme(f64::max, 0.0), extreme(f64::min, f64::INFINITY));
+        let ratio = [0, 1, 2, 3].map(|i| slowest[i] / fastest[i]);
+        text += &line(group[0].workload.name, "slowest / fastest", &ratio);
+    }
+    text
+}
+
+/// What a step of the search with this start takes: proved and independent, each with and without
+/// the start.
+fn step(measured: &[Measured], start: &Measured) -> [f64; 4] {
+    let same = |one: &&Measured| {
+        one.workload.name == start.workload.name && one.workload.n == start.workload.n
+    };
+    let whole = measured.iter().find(same).expect("each start belongs to a workload");
+    let (proved, independent) = (whole.proved, whole.independent);
+    [proved, proved - start.proved, independent, independent - start.independent]
+        .map(|cost| cost / whole.workload.units as f64)
+}
+
+fn line(name: &str, n: &str, [a, b, c, d]: &[f64; 4]) -> String {
+    format!("| {name} | {n} | {a:.2} | {b:.2} | {c:.2} | {d:.2} |\n")
 }
 
 fn growth(measured: &[Measured]) -> String {

@@ -23,12 +23,12 @@ pub fn all() -> Vec<Workload> {
     let bytes = [1_024, 4_096, 16_384, 32_768];
     let rules = [1, 4, 16, 64];
     let mut all = vec![smallest_call()];
-    all.extend(lists.map(all_different));
-    all.extend(lists.map(list_search));
-    all.extend([4, 8, 16, 31].map(deep_term));
-    all.extend([4, 8, 16, 31].map(deep_complement));
+    all.extend(lists.map(all_different).map(Match::search));
+    all.extend(lists.map(list_search).map(Match::search));
+    all.extend([4, 8, 16, 31].map(deep_term).map(Match::search));
+    all.extend([4, 8, 16, 31].map(deep_complement).map(Match::search));
     all.extend([256, 1_024, 4_096].map(record));
-    all.extend([256, 1_024, 4_096].map(record_search));
+    all.extend([256, 1_024, 4_096].map(record_search).map(Match::search));
     all.extend(rules.map(rule_sheet));
     all.extend(bytes.map(read_states));
     all.extend(rules.map(read_rules));
@@ -37,74 +37,97 @@ pub fn all() -> Vec<Workload> {
     all
 }
 
+/// The start of the matches on lists of those lengths between which the time of a step is compared.
+pub fn starts() -> Vec<Workload> {
+    let lists = [10, 40, 120];
+    let matches = lists.map(all_different).into_iter().chain(lists.map(list_search));
+    matches.map(Match::start).collect()
+}
+
 fn symbols() -> Symbols {
     let leaves: Vec<String> = (0..16).map(|i| format!("g{i}")).collect();
     let text = format!("{} open shut held gate/1 row/2 gates/*", leaves.join(" "));
     Symbols::parse(&text).expect("the table is right")
 }
 
-/// A match under no allowance that it could spend, as so many units.
-fn one_match(
+/// A pattern against a record.
+struct Match {
     name: &'static str,
     n: usize,
-    (unit, units): (&'static str, Option<u64>),
-    [table, pattern, record]: [Vec<u8>; 3],
-) -> Workload {
-    let answer = RefCell::new([0; ANSWER]);
-    let find = move |library: &dyn Library| {
-        library.match_one(&table, &pattern, &record, u32::MAX, &mut *answer.borrow_mut())
-    };
-    let units = units.unwrap_or_else(|| find(&Reference).count);
-    let run = Box::new(move |library: &dyn Library| {
-        find(library);
-    });
-    Workload { name, n, unit, units, run }
+    table: Vec<u8>,
+    pattern: Vec<u8>,
+    record: Vec<u8>,
 }
 
-/// A match of texts, measured by counted steps.
-fn matching(name: &'static str, n: usize, pattern: &str, record: &str) -> Workload {
-    let symbols = symbols();
-    let pattern = symbols.pattern(pattern).expect("the pattern is right");
-    let record = symbols.term(record).expect("the record is right");
-    one_match(name, n, ("step", None), [symbols.table().to_vec(), pattern, record])
+impl Match {
+    /// A match of texts.
+    fn of(name: &'static str, n: usize, pattern: &str, record: &str) -> Self {
+        let symbols = symbols();
+        let pattern = symbols.pattern(pattern).expect("the pattern is right");
+        let record = symbols.term(record).expect("the record is right");
+        Match { name, n, table: symbols.table().to_vec(), pattern, record }
+    }
+
+    /// Every check and the search, measured by counted steps.
+    fn search(self) -> Workload {
+        let Match { table, pattern, record, .. } = &self;
+        let steps = Reference.match_one(table, pattern, record, u32::MAX, &mut [0; ANSWER]).count;
+        self.call(u32::MAX, ("step", steps))
+    }
+
+    /// Every check and the start of the search, which has no allowance for a step.
+    fn start(self) -> Workload {
+        self.call(0, ("call", 1))
+    }
+
+    fn call(self, allowance: u32, (unit, units): (&'static str, u64)) -> Workload {
+        let Match { name, n, table, pattern, record } = self;
+        let answer = RefCell::new([0; ANSWER]);
+        let run = Box::new(move |library: &dyn Library| {
+            library.match_one(&table, &pattern, &record, allowance, &mut *answer.borrow_mut());
+        });
+        Workload { name, n, unit, units, run }
+    }
 }
 
 fn smallest_call() -> Workload {
-    one_match("smallest call", 1, ("call", Some(1)), [vec![0], vec![0], vec![0]])
+    let [table, pattern, record] = [0; 3].map(|byte| vec![byte]);
+    Match { name: "smallest call", n: 1, table, pattern, record }.call(u32::MAX, ("call", 1))
 }
 
-fn all_different(n: usize) -> Workload {
+fn all_different(n: usize) -> Match {
     let gates: Vec<String> = (0..n).map(|i| format!("row(g{}, g{})", i / 16, i % 16)).collect();
     let record = format!("gates({})", gates.join(", "));
-    matching("all different", n, "!gates(@0, ?0, @1, ?0, @2)", &record)
+    Match::of("all different", n, "!gates(@0, ?0, @1, ?0, @2)", &record)
 }
 
-fn list_search(n: usize) -> Workload {
+fn list_search(n: usize) -> Match {
     let record = format!("gates({}shut)", "open, ".repeat(n - 1));
-    matching("list search with a complement", n, "gates(@0, !open, @1)", &record)
+    Match::of("list search with a complement", n, "gates(@0, !open, @1)", &record)
 }
 
-fn deep_term(n: usize) -> Workload {
+fn deep_term(n: usize) -> Match {
     let nested = |last: &str| format!("{}{last}{}", "gate(".repeat(n), ")".repeat(n));
-    matching("deep term", n, &nested("?0"), &nested("open"))
+    Match::of("deep term", n, &nested("?0"), &nested("open"))
 }
 
-fn deep_complement(n: usize) -> Workload {
-    matching("deep complement", n, &format!("{}?0", "!".repeat(n)), "open")
+fn deep_complement(n: usize) -> Match {
+    Match::of("deep complement", n, &format!("{}?0", "!".repeat(n)), "open")
 }
 
 /// Reading a record of n bytes, which a lone name takes whole.
 fn record(n: usize) -> Workload {
-    let table = symbols().table().to_vec();
-    one_match("long record, one name", n, ("byte", Some(n as u64)), [table, vec![200], full(n)])
+    let (table, pattern) = (symbols().table().to_vec(), vec![200]);
+    let whole = Match { name: "long record, one name", n, table, pattern, record: full(n) };
+    whole.call(u32::MAX, ("byte", n as u64))
 }
 
 /// Going through the lists of a record of n bytes for what is in none of them.
-fn record_search(n: usize) -> Workload {
+fn record_search(n: usize) -> Match {
     let symbols = symbols();
     let pattern = symbols.pattern("gates(@0, gates(@1, row(shut, ?0), @2), @3)").expect("a rule");
-    let inputs = [symbols.table().to_vec(), pattern, full(n)];
-    one_match("long record, list within a list", n, ("step", None), inputs)
+    let table = symbols.table().to_vec();
+    Match { name: "long record, list within a list", n, table, pattern, record: full(n) }
 }
 
 /// A record of n bytes: lists of leaves and pairs within a list.
