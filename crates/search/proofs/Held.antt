@@ -18,7 +18,7 @@ use Rattle.search.specs.State.{Frame, PutBy, frame, putBy, state, passed
 use Rattle.search.specs.declared.Marks.{Marks}
 use Rattle.search.specs.declared.Place.{Place}
 use Rattle.search.proofs.Asks.{Takes}
-use Rattle.search.proofs.Buffers.{below-set, sized-part, sized-frame, sized-waiting, linked-push, queued-push, insides-on, insides-push}
+use Rattle.search.proofs.Buffers.{below-set, back-set, frame-apart, complement-apart, sized-part, sized-stack, linked-kept, linked-push, queued-kept, queued-push, insides-on, insides-push}
 use Rattle.search.proofs.Masks.{bit-new, bit-other, part-back}
 
 -- Variables: v is assigned n elements of so many bytes
@@ -55,8 +55,8 @@ module _ (assigned v node size n : ℕ) (parts : List ℕ) (vs : List Part) wher
 
 -- Steps
 
-module _ (codes bytes assigned : ℕ) (parts frames waiting : List ℕ) (m : Marks) (p : Place) (vs : List Part) (fs : List Frame) (cs : List PutBy)
-    (h : Holds codes bytes assigned parts frames waiting m p (state vs fs cs p)) where
+module _ (codes bytes assigned : ℕ) (parts stack : List ℕ) (m : Marks) (p : Place) (vs : List Part) (fs : List Frame) (cs : List PutBy)
+    (h : Holds codes bytes assigned parts stack m p (state vs fs cs p)) where
   -- a variable whose part is the absent mark is not assigned
   pub unassigned : (v : ℕ) → v < 48 → isAbsent (partIn assigned parts v) ≡ true → bit assigned v ≡ false
   unassigned v low e = by (bit assigned v) refl
@@ -65,10 +65,10 @@ module _ (codes bytes assigned : ℕ) (parts frames waiting : List ℕ) (m : Mar
       by true i = sym e ∙ ap isAbsent (sym (h .shown v low)) ∙ h .present v low i
       by false i = refl
 
-  pub holds-closed : (gs : List Frame) → Linked frames (outer (getD frames (m .inner - 1) 0)) gs → outer (getD frames (m .inner - 1) 0) < m .inner
-      → Holds codes bytes assigned parts frames waiting (closedMarks m (getD frames (m .inner - 1) 0))
-      (reopened p (frameIn (getD frames (m .inner - 1) 0)))
-      (state vs gs cs (reopened p (frameIn (getD frames (m .inner - 1) 0))))
+  pub holds-closed : (gs : List Frame) → Linked stack (outer (getD stack (m .inner - 1) 0)) gs → outer (getD stack (m .inner - 1) 0) < m .inner
+      → Holds codes bytes assigned parts stack (closedMarks m (getD stack (m .inner - 1) 0))
+      (reopened p (frameIn (getD stack (m .inner - 1) 0)))
+      (state vs gs cs (reopened p (frameIn (getD stack (m .inner - 1) 0))))
   holds-closed gs l less = record {
     sized = h .sized;
     place = refl;
@@ -78,46 +78,43 @@ module _ (codes bytes assigned : ℕ) (parts frames waiting : List ℕ) (m : Mar
     linked = l;
     innermost = let i = h .innermost in omega arith;
     queued = h .queued;
-    insides = insides-on codes bytes (p .at) (p .at) m (closedMarks m (getD frames (m .inner - 1) 0)) (le-refl _) (le-refl _) cs (h .insides);
+    insides = insides-on codes bytes (p .at) (p .at) m (closedMarks m (getD stack (m .inner - 1) 0)) (le-refl _) cs (h .insides);
     at = h .at;
     node = h .node;
-    frames-left = h .frames-left;
-    waiting-left = h .waiting-left;
+    room = h .room;
   }
 
   pub holds-opened : (left children elements width x : ℕ) → Takes codes bytes p left 1 width width
       → (frameIn x ≡ frame (p .children - 1) (p .elements - 1)) × (outer x ≡ m .inner)
-      → Holds codes bytes assigned parts (set frames (m .frames) x) waiting (openedMarks m) (entered p children elements width)
+      → Holds codes bytes assigned parts (set stack (m .frames) x) (openedMarks m) (entered p children elements width)
       (state vs (frame (p .children - 1) (p .elements - 1) ∷ fs) cs (entered p children elements width))
   holds-opened left children elements width x t is =
-      let z = h .sized .of-frames in
-      let f = h .frames-left in
-      let w = h .waiting-left in
+      let z = h .sized .of-stack in
+      let room = h .room in
       let some = t .some in
       let at = t .at in
       record {
-        sized = sized-frame (h .sized) (m .frames) x;
+        sized = sized-stack (h .sized) (m .frames) x;
         place = refl;
         variables = h .variables;
         shown = h .shown;
         present = h .present;
-        linked = linked-push frames (m .inner) (m .frames) x (frame (p .children - 1) (p .elements - 1)) fs (h .innermost) (omega arith) (is .0)
+        linked = linked-push stack (m .inner) (m .frames) x (frame (p .children - 1) (p .elements - 1)) fs (h .innermost) (omega arith) (is .0)
             (is .1)
             (h .linked);
         innermost = le-refl (m .frames + 1);
-        queued = h .queued;
-        insides = insides-on codes bytes (p .at) (p .at + width) m (openedMarks m) (omega arith) (omega arith) cs (h .insides);
+        queued = queued-kept stack (set stack (m .frames) x) (m .waiting) (frame-apart stack (m .frames) (m .waiting) x (omega arith)) (m .first) cs
+            (h .queued);
+        insides = insides-on codes bytes (p .at) (p .at + width) m (openedMarks m) (omega arith) cs (h .insides);
         at = at;
         node = t .node;
-        frames-left = omega arith;
-        waiting-left = omega arith;
+        room = omega arith;
       }
 
   pub holds-passed : (left elements size : ℕ) → Takes codes bytes p left elements 1 size
-      → Holds codes bytes assigned parts frames waiting m (passed p elements 1 size) (state vs fs cs (passed p elements 1 size))
+      → Holds codes bytes assigned parts stack m (passed p elements 1 size) (state vs fs cs (passed p elements 1 size))
   holds-passed left elements size t =
-      let f = h .frames-left in
-      let w = h .waiting-left in
+      let room = h .room in
       record {
         sized = h .sized;
         place = refl;
@@ -127,20 +124,18 @@ module _ (codes bytes assigned : ℕ) (parts frames waiting : List ℕ) (m : Mar
         linked = h .linked;
         innermost = h .innermost;
         queued = h .queued;
-        insides = insides-on codes bytes (p .at) (p .at + 1) m m (omega arith) (omega arith) cs (h .insides);
+        insides = insides-on codes bytes (p .at) (p .at + 1) m m (omega arith) cs (h .insides);
         at = t .at;
         node = t .node;
-        frames-left = omega arith;
-        waiting-left = omega arith;
+        room = omega arith;
       }
 
   pub holds-bound : (left v size : ℕ) → v < 48 → Takes codes bytes p left 1 1 size → p .node ≤ 4096
-      → Holds codes bytes (bitOr assigned (2 ^ v)) (set parts v (packed (boundPart (p .node) size 1))) frames waiting m (passed p 1 1 size)
+      → Holds codes bytes (bitOr assigned (2 ^ v)) (set parts v (packed (boundPart (p .node) size 1))) stack m (passed p 1 1 size)
       (state (set vs v (boundPart (p .node) size 1)) fs cs (passed p 1 1 size))
   holds-bound left v size low t node =
       let z = h .sized .of-parts in
-      let f = h .frames-left in
-      let w = h .waiting-left in
+      let room = h .room in
       record {
         sized = sized-part (h .sized) v (packed (boundPart (p .node) size 1));
         place = refl;
@@ -150,46 +145,44 @@ module _ (codes bytes assigned : ℕ) (parts frames waiting : List ℕ) (m : Mar
         linked = h .linked;
         innermost = h .innermost;
         queued = h .queued;
-        insides = insides-on codes bytes (p .at) (p .at + 1) m m (omega arith) (omega arith) cs (h .insides);
+        insides = insides-on codes bytes (p .at) (p .at + 1) m m (omega arith) cs (h .insides);
         at = t .at;
         node = t .node;
-        frames-left = omega arith;
-        waiting-left = omega arith;
+        room = omega arith;
       }
 
   pub holds-put : (left n size x : ℕ) → Takes codes bytes p left 1 n size → putByIn x ≡ putBy (p .at) (n - 1) (p .node)
-      → Holds codes bytes assigned parts frames (set waiting (m .waiting) x) (putByMarks m) (passed p 1 n size)
+      → Holds codes bytes assigned parts (set stack (255 - m .waiting) x) (putByMarks m) (passed p 1 n size)
       (state vs fs (cs ++ putBy (p .at) (n - 1) (p .node) ∷ []) (passed p 1 n size))
   holds-put left n size x t is =
-      let z = h .sized .of-waiting in
-      let f = h .frames-left in
-      let w = h .waiting-left in
+      let z = h .sized .of-stack in
+      let room = h .room in
       let some = t .some in
       let at = t .at in
       record {
-        sized = sized-waiting (h .sized) (m .waiting) x;
+        sized = sized-stack (h .sized) (255 - m .waiting) x;
         place = refl;
         variables = h .variables;
         shown = h .shown;
         present = h .present;
-        linked = h .linked;
+        linked = linked-kept stack (set stack (255 - m .waiting) x) (m .frames)
+            (complement-apart stack (m .frames) (m .waiting) x (omega arith)) (m .inner) fs (h .innermost) (h .linked);
         innermost = h .innermost;
-        queued = queued-push waiting (m .waiting) x (putBy (p .at) (n - 1) (p .node)) (omega arith) is (m .first) cs (h .queued);
+        queued = queued-push stack (m .waiting) x (putBy (p .at) (n - 1) (p .node)) z (omega arith) is (m .first) cs (h .queued);
         insides = insides-push codes bytes (p .at + n) (putByMarks m) (putBy (p .at) (n - 1) (p .node))
-            (record { within = omega arith; node = h .node; frames = omega arith; waiting = omega arith }) cs
-            (insides-on codes bytes (p .at) (p .at + n) m (putByMarks m) (omega arith) (omega arith) cs (h .insides));
+            (record { within = omega arith; node = h .node; room = omega arith }) cs
+            (insides-on codes bytes (p .at) (p .at + n) m (putByMarks m) (omega arith) cs (h .insides));
         at = at;
         node = t .node;
-        frames-left = omega arith;
-        waiting-left = omega arith;
+        room = omega arith;
       }
 
 -- What is kept from the start of a call, under the mask and the marks there
 
-module _ (assigned₀ assigned : ℕ) (m₀ m : Marks) (parts₀ frames₀ waiting₀ parts frames waiting : List ℕ)
-    (k : Kept assigned₀ m₀ parts₀ frames₀ waiting₀ parts frames waiting) where
+module _ (assigned₀ assigned : ℕ) (m₀ m : Marks) (parts₀ stack₀ parts stack : List ℕ)
+    (k : Kept assigned₀ m₀ parts₀ stack₀ parts stack) where
   pub kept-part : ((v : ℕ) → bit assigned₀ v ≡ true → bit assigned v ≡ true) → (v x : ℕ) → (v < 48 → bit assigned v ≡ false)
-      → Kept assigned₀ m₀ parts₀ frames₀ waiting₀ (set parts v x) frames waiting
+      → Kept assigned₀ m₀ parts₀ stack₀ (set parts v x) stack
   kept-part still v x free = record {
     of-parts = λ w low b. getD-set-other parts v w x 0 (other w low b) ∙ k .of-parts w low b;
     of-frames = k .of-frames;
@@ -200,18 +193,20 @@ module _ (assigned₀ assigned : ℕ) (m₀ m : Marks) (parts₀ frames₀ waiti
       other : (w : ℕ) → w < 48 → bit assigned₀ w ≡ true → w ≡ v → ⊥
       other w low b e = true≢false (sym (still w b) ∙ ap (bit assigned) e ∙ free (subst (λ (u : ℕ). u < 48) e low))
 
-  pub kept-frame : (x : ℕ) → m₀ .frames ≤ m .frames → Kept assigned₀ m₀ parts₀ frames₀ waiting₀ parts (set frames (m .frames) x) waiting
-  kept-frame x more = record {
+  pub kept-frame : (x : ℕ) → m₀ .frames ≤ m .frames → m₀ .waiting ≤ m .waiting → m .frames + m .waiting < 256
+      → Kept assigned₀ m₀ parts₀ stack₀ parts (set stack (m .frames) x)
+  kept-frame x f w room = record {
     of-parts = k .of-parts;
-    of-frames = λ i low. below-set frames (m .frames) x i (omega arith) ∙ k .of-frames i low;
-    of-waiting = k .of-waiting;
-    sized = λ z. sized-frame (k .sized z) (m .frames) x;
+    of-frames = λ i low. below-set stack (m .frames) x i (omega arith) ∙ k .of-frames i low;
+    of-waiting = λ i low. frame-apart stack (m .frames) (m .waiting) x room i (omega arith) ∙ k .of-waiting i low;
+    sized = λ z. sized-stack (k .sized z) (m .frames) x;
   }
 
-  pub kept-waiting : (x : ℕ) → m₀ .waiting ≤ m .waiting → Kept assigned₀ m₀ parts₀ frames₀ waiting₀ parts frames (set waiting (m .waiting) x)
-  kept-waiting x more = record {
+  pub kept-waiting : (x : ℕ) → m₀ .frames ≤ m .frames → m₀ .waiting ≤ m .waiting → m .frames + m .waiting < 256
+      → Kept assigned₀ m₀ parts₀ stack₀ parts (set stack (255 - m .waiting) x)
+  kept-waiting x f w room = record {
     of-parts = k .of-parts;
-    of-frames = k .of-frames;
-    of-waiting = λ i low. below-set waiting (m .waiting) x i (omega arith) ∙ k .of-waiting i low;
-    sized = λ z. sized-waiting (k .sized z) (m .waiting) x;
+    of-frames = λ i low. complement-apart stack (m .frames) (m .waiting) x room i (omega arith) ∙ k .of-frames i low;
+    of-waiting = λ i low. back-set stack (m .waiting) x (omega arith) i (omega arith) ∙ k .of-waiting i low;
+    sized = λ z. sized-stack (k .sized z) (255 - m .waiting) x;
   }

@@ -21,14 +21,14 @@ use Rattle.search.proofs.Buffers.{sized-part, linked-kept, queued-kept,
 use Rattle.search.proofs.Held.{shown-assigned, present-assigned}
 
 -- nothing is changed
-pub kept-all : {assigned : ℕ} {m : Marks} {parts frames waiting : List ℕ} → Kept assigned m parts frames waiting parts frames waiting
+pub kept-all : {assigned : ℕ} {m : Marks} {parts stack : List ℕ} → Kept assigned m parts stack parts stack
 kept-all = record { of-parts = λ v l b. refl; of-frames = λ i l. refl; of-waiting = λ i l. refl; sized = λ z. z }
 
 -- one call after another, that has at least as much to keep
-pub kept-then : {assigned assigned₁ : ℕ} {m m₁ : Marks} {parts frames waiting parts₁ frames₁ waiting₁ parts₂ frames₂ waiting₂ : List ℕ}
+pub kept-then : {assigned assigned₁ : ℕ} {m m₁ : Marks} {parts stack parts₁ stack₁ parts₂ stack₂ : List ℕ}
     → ((v : ℕ) → bit assigned v ≡ true → bit assigned₁ v ≡ true) → m .frames ≤ m₁ .frames → m .waiting ≤ m₁ .waiting
-    → Kept assigned m parts frames waiting parts₁ frames₁ waiting₁ → Kept assigned₁ m₁ parts₁ frames₁ waiting₁ parts₂ frames₂ waiting₂
-    → Kept assigned m parts frames waiting parts₂ frames₂ waiting₂
+    → Kept assigned m parts stack parts₁ stack₁ → Kept assigned₁ m₁ parts₁ stack₁ parts₂ stack₂
+    → Kept assigned m parts stack parts₂ stack₂
 kept-then still f w k l = record {
   of-parts = λ v h b. l .of-parts v h (still v b) ∙ k .of-parts v h b;
   of-frames = λ i h. l .of-frames i (lt-of-lt-of-le h f) ∙ k .of-frames i h;
@@ -36,8 +36,8 @@ kept-then still f w k l = record {
   sized = λ z. l .sized (k .sized z);
 }
 
-module _ {assigned : ℕ} {m : Marks} {parts frames waiting parts′ frames′ waiting′ : List ℕ}
-    (k : Kept assigned m parts frames waiting parts′ frames′ waiting′) where
+module _ {assigned : ℕ} {m : Marks} {parts stack parts′ stack′ : List ℕ}
+    (k : Kept assigned m parts stack parts′ stack′) where
   pub part-kept : (v : ℕ) → v < 48 → partIn assigned parts′ v ≡ partIn assigned parts v
   part-kept v h = by (bit assigned v) refl
     where
@@ -47,20 +47,19 @@ module _ {assigned : ℕ} {m : Marks} {parts frames waiting parts′ frames′ w
 
   -- THE INVARIANT HOLDS AGAIN after a call that leaves alone what it must
   pub restored : {codes bytes : ℕ} {p : Place} {s : State}
-      → Holds codes bytes assigned parts frames waiting m p s → Holds codes bytes assigned parts′ frames′ waiting′ m p s
+      → Holds codes bytes assigned parts stack m p s → Holds codes bytes assigned parts′ stack′ m p s
   restored {s = s} h = record {
     place = h .place;
     variables = h .variables;
     shown = λ v l. h .shown v l ∙ sym (part-kept v l);
     present = h .present;
-    linked = linked-kept frames frames′ (m .frames) (k .of-frames) (m .inner) (s .frames) (h .innermost) (h .linked);
+    linked = linked-kept stack stack′ (m .frames) (k .of-frames) (m .inner) (s .frames) (h .innermost) (h .linked);
     innermost = h .innermost;
-    queued = queued-kept waiting waiting′ (m .waiting) (k .of-waiting) (m .first) (s .waiting) (h .queued);
+    queued = queued-kept stack stack′ (m .waiting) (k .of-waiting) (m .first) (s .waiting) (h .queued);
     insides = h .insides;
     at = h .at;
     node = h .node;
-    frames-left = h .frames-left;
-    waiting-left = h .waiting-left;
+    room = h .room;
     sized = k .sized (h .sized);
   }
 
@@ -68,8 +67,8 @@ module _ {assigned : ℕ} {m : Marks} {parts frames waiting parts′ frames′ w
 abbrev pub past : State → State
 past s = state (s .parts) (s .frames) (s .waiting) (passed (s .place) 0 1 0)
 
-pub past-holds : {codes bytes assigned : ℕ} {parts frames waiting : List ℕ} {m : Marks} {p : Place} {s : State} → p .at < codes
-    → Holds codes bytes assigned parts frames waiting m p s → Holds codes bytes assigned parts frames waiting m (passed p 0 1 0) (past s)
+pub past-holds : {codes bytes assigned : ℕ} {parts stack : List ℕ} {m : Marks} {p : Place} {s : State} → p .at < codes
+    → Holds codes bytes assigned parts stack m p s → Holds codes bytes assigned parts stack m (passed p 0 1 0) (past s)
 past-holds {codes} {bytes} {m = m} {p = p} {s = s} l h = record {
   place = ap (λ (q : Place). passed q 0 1 0) (h .place);
   variables = h .variables;
@@ -78,11 +77,10 @@ past-holds {codes} {bytes} {m = m} {p = p} {s = s} l h = record {
   linked = h .linked;
   innermost = h .innermost;
   queued = h .queued;
-  insides = insides-on codes bytes (p .at) (p .at + 1) m m (omega arith) (omega arith) (s .waiting) (h .insides);
+  insides = insides-on codes bytes (p .at) (p .at + 1) m m (omega arith) (s .waiting) (h .insides);
   at = omega arith;
   node = omega (arith, h .node);
-  frames-left = omega (arith, h .frames-left);
-  waiting-left = omega (arith, h .waiting-left);
+  room = omega (arith, h .room);
   sized = h .sized;
 }
 
@@ -93,9 +91,9 @@ none-free = record { below = omega arith; free = λ l. absurd (omega (arith, l))
 
 -- v is given n elements of so many bytes
 module _ (assigned v offset size n : ℕ) (offset-fits : offset ≤ 4096) (v-fits : v ≤ 48) (n-fits : n < 256) where
-  pub given-holds : {codes bytes : ℕ} {parts frames waiting : List ℕ} {m : Marks} {s : State} → s .place .node ≡ offset → offset + size ≤ bytes
-      → Holds codes bytes assigned parts frames waiting m (s .place) s
-      → Holds codes bytes (bitOr assigned (2 ^ v)) (set parts v (packed (boundPart offset size n))) frames waiting m (given s v n size .place) (given s v n size)
+  pub given-holds : {codes bytes : ℕ} {parts stack : List ℕ} {m : Marks} {s : State} → s .place .node ≡ offset → offset + size ≤ bytes
+      → Holds codes bytes assigned parts stack m (s .place) s
+      → Holds codes bytes (bitOr assigned (2 ^ v)) (set parts v (packed (boundPart offset size n))) stack m (given s v n size .place) (given s v n size)
   given-holds {parts = parts} {s = s} o w h = record {
     place = refl;
     variables = length-set (s .parts) v (boundPart (s .place .node) size n) ∙ h .variables;
@@ -107,16 +105,15 @@ module _ (assigned v offset size n : ℕ) (offset-fits : offset ≤ 4096) (v-fit
     insides = h .insides;
     at = h .at;
     node = rw o w;
-    frames-left = h .frames-left;
-    waiting-left = h .waiting-left;
+    room = h .room;
     sized = sized-part (h .sized) v (packed (boundPart offset size n));
   }
 
 -- a level's start within another
 
-pub start-holds : {codes bytes assigned : ℕ} {parts frames waiting : List ℕ} {m : Marks} {p : Place} {s : State} (c : PutBy)
-    → Holds codes bytes assigned parts frames waiting m p s → Inside codes bytes (p .at) m c
-    → Holds (c .size) bytes assigned parts frames waiting (inside m) (place 1 1 0 (c .node)) (startOf (s .parts) (c .node))
+pub start-holds : {codes bytes assigned : ℕ} {parts stack : List ℕ} {m : Marks} {p : Place} {s : State} (c : PutBy)
+    → Holds codes bytes assigned parts stack m p s → Inside codes bytes (p .at) m c
+    → Holds (c .size) bytes assigned parts stack (inside m) (place 1 1 0 (c .node)) (startOf (s .parts) (c .node))
 start-holds c h i = record {
   place = refl;
   variables = h .variables;
@@ -128,15 +125,14 @@ start-holds c h i = record {
   insides = tt;
   at = omega arith;
   node = i .node;
-  frames-left = omega (arith, i .frames);
-  waiting-left = omega (arith, i .waiting);
+  room = omega (arith, i .room);
   sized = h .sized;
 }
 
 -- and the whole pattern's, with nothing assigned
-pub first-holds : (codes bytes : ℕ) (parts frames waiting : List ℕ) → codes ≤ 256 → Sized parts frames waiting
-    → Holds codes bytes 0 parts frames waiting (marks 0 0 0 0) (place 1 1 0 0) (startOf (replicate 48 absent) 0)
-first-holds codes bytes parts frames waiting h z = record {
+pub first-holds : (codes bytes : ℕ) (parts stack : List ℕ) → codes ≤ 256 → Sized parts stack
+    → Holds codes bytes 0 parts stack (marks 0 0 0 0) (place 1 1 0 0) (startOf (replicate 48 absent) 0)
+first-holds codes bytes parts stack h z = record {
   place = refl;
   variables = length-replicate 48 absent;
   shown = λ v l. getD-replicate 48 v absent (part 0 0 0) l ∙ rw (none v);
@@ -147,8 +143,7 @@ first-holds codes bytes parts frames waiting h z = record {
   insides = tt;
   at = omega arith;
   node = omega arith;
-  frames-left = omega arith;
-  waiting-left = omega arith;
+  room = omega arith;
   sized = z;
 }
   where
@@ -172,7 +167,7 @@ parts-shown assigned parts v (suc k) (x ∷ xs) l h =
     next : (i : ℕ) → i < k → getD xs i (part 0 0 0) ≡ partIn assigned parts (v + 1 + i)
     next i j = let z : v + suc i ≡ v + 1 + i = omega arith in h (suc i) (omega arith) ∙ ap (partIn assigned parts) z
 
-pub state-shown : {codes bytes assigned : ℕ} {parts frames waiting : List ℕ} {m : Marks} {p : Place} {s : State}
-    → Holds codes bytes assigned parts frames waiting m p s → s .parts ≡ partsIn assigned parts 0 48
+pub state-shown : {codes bytes assigned : ℕ} {parts stack : List ℕ} {m : Marks} {p : Place} {s : State}
+    → Holds codes bytes assigned parts stack m p s → s .parts ≡ partsIn assigned parts 0 48
 state-shown {assigned = assigned} {parts = parts} {s = s} h =
     parts-shown assigned parts 0 48 (s .parts) (h .variables) (λ i l. let z : 0 + i ≡ i = omega arith in h .shown i l ∙ ap (partIn assigned parts) (sym z))

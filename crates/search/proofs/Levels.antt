@@ -99,12 +99,12 @@ unfolding levelOf afterWalk
 level-stops zero table pattern bytes s left stop l end r h e g = absurd (omega arith)
 level-stops (suc n) table pattern bytes s left stop l end r h e g = let z : suc n - 1 ≡ n = omega arith in rw e (g ∙ rw z)
 
-pub rest-follows : {table pattern bytes : List ℕ} {assigned left : ℕ} {parts frames waiting : List ℕ} {m : Marks} {p : Place} {r : Reached}
-    {parts₁ frames₁ waiting₁ : List ℕ} {o : Outcome} {assigned₂ left₂ : ℕ} {parts₂ frames₂ waiting₂ : List ℕ}
-    → Holding (length pattern) (length bytes) assigned parts frames waiting m p
-    → Walks table pattern bytes assigned left parts frames waiting m p parts₁ frames₁ waiting₁ r
-    → FollowIs table pattern bytes (r .assigned) (r .left) parts₁ frames₁ waiting₁ (r .stop) (r .marks) (r .place) o assigned₂ left₂ parts₂ frames₂ waiting₂
-    → RestIs table pattern bytes assigned left parts frames waiting m p o assigned₂ left₂ parts₂ frames₂ waiting₂
+pub rest-follows : {table pattern bytes : List ℕ} {assigned left : ℕ} {parts stack : List ℕ} {m : Marks} {p : Place} {r : Reached}
+    {parts₁ stack₁ : List ℕ} {o : Outcome} {assigned₂ left₂ : ℕ} {parts₂ stack₂ : List ℕ}
+    → Holding (length pattern) (length bytes) assigned parts stack m p
+    → Walks table pattern bytes assigned left parts stack m p parts₁ stack₁ r
+    → FollowIs table pattern bytes (r .assigned) (r .left) parts₁ stack₁ (r .stop) (r .marks) (r .place) o assigned₂ left₂ parts₂ stack₂
+    → RestIs table pattern bytes assigned left parts stack m p o assigned₂ left₂ parts₂ stack₂
 rest-follows {table} {pattern} {bytes} {left = left} {r = r} {o = o} {assigned₂ = assigned₂} {left₂ = left₂} {parts₂ = parts₂} holding walks follows = record {
   replies = λ s h k l.
       let w = walks s h in
@@ -121,26 +121,26 @@ place-is p q a b c d =
 
 -- The loop over lengths
 
-module _ (table pattern bytes : List ℕ) (assigned allowance : ℕ) (parts₀ frames₀ waiting₀ : List ℕ) (v most : ℕ) (m : Marks) (start : Place) where
+module _ (table pattern bytes : List ℕ) (assigned allowance : ℕ) (parts₀ stack₀ : List ℕ) (v most : ℕ) (m : Marks) (start : Place) where
   abbrev Starts : State → Type 0
-  Starts s = Holds (length pattern) (length bytes) assigned parts₀ frames₀ waiting₀ m start s
+  Starts s = Holds (length pattern) (length bytes) assigned parts₀ stack₀ m start s
 
   abbrev triesFrom : ℕ → State → ℕ → ℕ → ℕ → ℕ → Reply
   triesFrom k s more n size left = triesOf (levelOf k table bytes pattern) table bytes v s more n size left
 
   -- the search from length 0 on is the search from length n on, at the place p
-  pub record Trying (left : ℕ) (parts frames waiting : List ℕ) (p : Place) (n : ℕ) : Type 0 where
+  pub record Trying (left : ℕ) (parts stack : List ℕ) (p : Place) (n : ℕ) : Type 0 where
     pub few : n ≤ most
     pub children : p .children ≡ start .children
     pub elements : p .elements ≡ start .elements - n
     pub at : p .at ≡ start .at
     pub further : start .node ≤ p .node
     pub within : p .node ≤ length bytes
-    pub kept : Kept assigned m parts₀ frames₀ waiting₀ parts frames waiting
+    pub kept : Kept assigned m parts₀ stack₀ parts stack
     pub same : (s : State) → Starts s → (k : ℕ) → levels pattern (start .at) ≤ k
         → triesFrom k s most 0 0 allowance ≡ triesFrom k s (most - n) n (p .node - start .node) left
 
-  pub try-first : start .node ≤ length bytes → Trying allowance parts₀ frames₀ waiting₀ start 0
+  pub try-first : start .node ≤ length bytes → Trying allowance parts₀ stack₀ start 0
   try-first h = record {
     few = omega arith;
     children = refl;
@@ -152,14 +152,14 @@ module _ (table pattern bytes : List ℕ) (assigned allowance : ℕ) (parts₀ f
     same = λ s i k l. let z : start .node - start .node ≡ 0 = omega arith in rw (sub-zero most, z);
   }
 
-  module _ {left : ℕ} {parts frames waiting : List ℕ} {p : Place} {n : ℕ} (t : Trying left parts frames waiting p n) where
+  module _ {left : ℕ} {parts stack : List ℕ} {p : Place} {n : ℕ} (t : Trying left parts stack p n) where
     -- the bytes of the n elements
     abbrev size : ℕ
     size = p .node - start .node
 
     -- the variable's part is written
     pub record Written (part seen : ℕ) : Type 0 where
-      pub holding : Holding (length pattern) (length bytes) assigned parts₀ frames₀ waiting₀ m start
+      pub holding : Holding (length pattern) (length bytes) assigned parts₀ stack₀ m start
       pub free : Free assigned v
       pub short : length bytes ≤ 4096
       pub byte : n < 256
@@ -174,26 +174,26 @@ module _ (table pattern bytes : List ℕ) (assigned allowance : ℕ) (parts₀ f
           (sym (t .children)) (sym (t .elements)) (sym (t .at)) (omega (arith, t .further))
 
       written-holds : (s : State) → Starts s
-          → Holds (length pattern) (length bytes) seen (set parts v part) frames waiting m p (given s v n size)
+          → Holds (length pattern) (length bytes) seen (set parts v part) stack m p (given s v n size)
       written-holds s h =
-          let i : Holds (length pattern) (length bytes) assigned parts frames waiting m (s .place) s =
-          subst (λ (x : Place). Holds (length pattern) (length bytes) assigned parts frames waiting m x s) (sym (h .place)) (restored (t .kept) h) in
+          let i : Holds (length pattern) (length bytes) assigned parts stack m (s .place) s =
+          subst (λ (x : Place). Holds (length pattern) (length bytes) assigned parts stack m x s) (sym (h .place)) (restored (t .kept) h) in
           rw (q .is-part, q .is-seen)
           (subst (λ (x : Place). Holds (length pattern) (length bytes) (bitOr assigned (2 ^ v))
-          (set parts v (packed (boundPart (start .node) size n))) frames waiting m x (given s v n size))
+          (set parts v (packed (boundPart (start .node) size n))) stack m x (given s v n size))
           (given-place s h)
           (given-holds assigned v (start .node) size n (omega (arith, t .further, t .within, q .short)) (q .free .below) (q .byte)
           (ap (λ (x : Place). x .node) (h .place)) (omega (arith, t .further, t .within)) i))
 
-      pub written-holding : Holding (length pattern) (length bytes) seen (set parts v part) frames waiting m p
+      pub written-holding : Holding (length pattern) (length bytes) seen (set parts v part) stack m p
       written-holding = record {
         state = given (q .holding .state) v n size;
         holds = written-holds (q .holding .state) (q .holding .holds);
       }
 
       -- what the rest of the level makes of it
-      module _ {o : Outcome} {assigned₂ left₂ : ℕ} {parts₂ frames₂ waiting₂ : List ℕ}
-          (rest : RestIs table pattern bytes seen left (set parts v part) frames waiting m p o assigned₂ left₂ parts₂ frames₂ waiting₂) where
+      module _ {o : Outcome} {assigned₂ left₂ : ℕ} {parts₂ stack₂ : List ℕ}
+          (rest : RestIs table pattern bytes seen left (set parts v part) stack m p o assigned₂ left₂ parts₂ stack₂) where
         abbrev answer : Reply
         answer = replyOf o left₂ assigned₂ parts₂
 
@@ -201,13 +201,13 @@ module _ (table pattern bytes : List ℕ) (assigned allowance : ℕ) (parts₀ f
             → answer ≡ levelOf k table bytes pattern (given s v n size) left
         turn-is s h k l = rest .replies (given s v n size) (written-holds s h) k (omega (arith, t .at, l))
 
-        turn-kept : Kept assigned m parts₀ frames₀ waiting₀ parts₂ frames₂ waiting₂
+        turn-kept : Kept assigned m parts₀ stack₀ parts₂ stack₂
         turn-kept =
             kept-then {m₁ = m} (λ i b. rw (q .is-seen) (bit-still assigned v i b)) (le-refl (m .frames)) (le-refl (m .waiting))
-            (kept-part assigned assigned m m parts₀ frames₀ waiting₀ parts frames waiting (t .kept) (λ i b. b) v part (q .free .free)) (rest .kept)
+            (kept-part assigned assigned m m parts₀ stack₀ parts stack (t .kept) (λ i b. b) v part (q .free .free)) (rest .kept)
 
         abbrev replied : (o′ : Outcome) → Type 0
-        replied o′ = LevelIs table pattern bytes assigned allowance parts₀ frames₀ waiting₀ v most m start o′ assigned₂ left₂ parts₂ frames₂ waiting₂
+        replied o′ = LevelIs table pattern bytes assigned allowance parts₀ stack₀ v most m start o′ assigned₂ left₂ parts₂ stack₂
 
         fails : failed o ≡ true → failed (answer .outcome) ≡ true
         fails f = ap failed (reply-outcome left₂ assigned₂ parts₂ o) ∙ f
@@ -240,7 +240,7 @@ module _ (table pattern bytes : List ℕ) (assigned allowance : ℕ) (parts₀ f
         pub try-more : failed o ≡ true → n < most → (left₂ ≡ 0 → ⊥) → (p′ : Place) (e : ℕ)
             → e ≡ extentOf table (take (length bytes - p .node) (drop (p .node) bytes))
             → p′ .children ≡ p .children → p′ .elements ≡ p .elements - 1 → p′ .at ≡ p .at → p′ .node ≡ p .node + e → p .node + e ≤ length bytes
-            → Trying (left₂ - 1) parts₂ frames₂ waiting₂ p′ (n + 1)
+            → Trying (left₂ - 1) parts₂ stack₂ p′ (n + 1)
         try-more f i z p′ e is-e a b c d w = record {
           few = omega arith;
           children = a ∙ t .children;
@@ -261,17 +261,17 @@ module _ (table pattern bytes : List ℕ) (assigned allowance : ℕ) (parts₀ f
 
 -- What follows the walk
 
-module _ (table pattern bytes : List ℕ) (assigned left : ℕ) (parts frames waiting : List ℕ) (m : Marks) (p : Place) where
+module _ (table pattern bytes : List ℕ) (assigned left : ℕ) (parts stack : List ℕ) (m : Marks) (p : Place) where
   pub follow-fails : (stop : Stop) → stop ≡ Failure
-      → FollowIs table pattern bytes assigned left parts frames waiting stop m p Failed assigned left parts frames waiting
+      → FollowIs table pattern bytes assigned left parts stack stop m p Failed assigned left parts stack
   follow-fails stop e = rw e (record { replies = λ s h n l. refl; kept = kept-all })
 
   pub follow-spent : (stop : Stop) → stop ≡ NoAllowance
-      → FollowIs table pattern bytes assigned left parts frames waiting stop m p Spent assigned left parts frames waiting
+      → FollowIs table pattern bytes assigned left parts stack stop m p Spent assigned left parts stack
   follow-spent stop e = rw e (record { replies = λ s h n l. refl; kept = kept-all })
 
   pub follow-none : (stop : Stop) (v : ℕ) → stop ≡ RunName v → left ≡ 0
-      → FollowIs table pattern bytes assigned left parts frames waiting stop m p Spent assigned left parts frames waiting
+      → FollowIs table pattern bytes assigned left parts stack stop m p Spent assigned left parts stack
   follow-none stop v e z = rw e (
       record {
         replies = λ s h n l. sym (lengths-tries (levelOf n table bytes pattern) table bytes v s (s .place .elements) 0 0 left ∙ rw (eq-eqb left 0 z));
@@ -279,16 +279,16 @@ module _ (table pattern bytes : List ℕ) (assigned left : ℕ) (parts frames wa
       }
       )
 
-  module _ {o : Outcome} {assigned′ left′ : ℕ} {parts′ frames′ waiting′ : List ℕ} where
+  module _ {o : Outcome} {assigned′ left′ : ℕ} {parts′ stack′ : List ℕ} where
     pub follow-tests : (stop : Stop) → stop ≡ NoPair
-        → ComplementsAre table pattern bytes assigned left parts frames waiting m o assigned′ left′ parts′ frames′ waiting′
-        → FollowIs table pattern bytes assigned left parts frames waiting stop m p o assigned′ left′ parts′ frames′ waiting′
+        → ComplementsAre table pattern bytes assigned left parts stack m o assigned′ left′ parts′ stack′
+        → FollowIs table pattern bytes assigned left parts stack stop m p o assigned′ left′ parts′ stack′
     follow-tests stop e c = rw e (record { replies = λ s h n l. c .replies p s h n (omega arith); kept = c .kept })
 
     -- the level past the run name, with place and variable as the code has them
     pub follow-tries : (stop : Stop) (v w : ℕ) (q : Place) → stop ≡ RunName v → w ≡ v → q ≡ passed p 0 1 0 → (left ≡ 0 → ⊥) → p .at < length pattern
-        → LevelIs table pattern bytes assigned (left - 1) parts frames waiting w (p .elements) m q o assigned′ left′ parts′ frames′ waiting′
-        → FollowIs table pattern bytes assigned left parts frames waiting stop m p o assigned′ left′ parts′ frames′ waiting′
+        → LevelIs table pattern bytes assigned (left - 1) parts stack w (p .elements) m q o assigned′ left′ parts′ stack′
+        → FollowIs table pattern bytes assigned left parts stack stop m p o assigned′ left′ parts′ stack′
     follow-tries stop v w q e is-w is-q z i r = rw e (
         record {
           replies = λ s h n l. level-reply .replies (past s) (past-holds i h) n (omega arith)
@@ -298,12 +298,12 @@ module _ (table pattern bytes : List ℕ) (assigned left : ℕ) (parts frames wa
         }
         )
       where
-        level-reply : LevelIs table pattern bytes assigned (left - 1) parts frames waiting v (p .elements) m (passed p 0 1 0) o assigned′ left′ parts′ frames′ waiting′
+        level-reply : LevelIs table pattern bytes assigned (left - 1) parts stack v (p .elements) m (passed p 0 1 0) o assigned′ left′ parts′ stack′
         level-reply =
-            subst (λ (x : ℕ). LevelIs table pattern bytes assigned (left - 1) parts frames waiting x (p .elements) m (passed p 0 1 0) o
-            assigned′ left′ parts′ frames′ waiting′) is-w
-            (subst (λ (x : Place). LevelIs table pattern bytes assigned (left - 1) parts frames waiting w (p .elements) m x o
-            assigned′ left′ parts′ frames′ waiting′) is-q r)
+            subst (λ (x : ℕ). LevelIs table pattern bytes assigned (left - 1) parts stack x (p .elements) m (passed p 0 1 0) o
+            assigned′ left′ parts′ stack′) is-w
+            (subst (λ (x : Place). LevelIs table pattern bytes assigned (left - 1) parts stack w (p .elements) m x o
+            assigned′ left′ parts′ stack′) is-q r)
 
 -- a walk that fails
 
@@ -313,14 +313,14 @@ failure-is NoAllowance e = absurd (true≢false (sym e))
 failure-is NoPair e = absurd (true≢false (sym e))
 failure-is (RunName v) e = absurd (true≢false (sym e))
 
-pub rest-fails : {table pattern bytes : List ℕ} {assigned left : ℕ} {parts frames waiting : List ℕ} {m : Marks} {p : Place} {r : Reached}
-    {parts₁ frames₁ waiting₁ : List ℕ} → Holding (length pattern) (length bytes) assigned parts frames waiting m p
-    → Walks table pattern bytes assigned left parts frames waiting m p parts₁ frames₁ waiting₁ r → failure (r .stop) ≡ true
-    → RestIs table pattern bytes assigned left parts frames waiting m p Failed assigned (r .left) parts₁ frames₁ waiting₁
-rest-fails {table} {pattern} {bytes} {r = r} {parts₁ = parts₁} {frames₁ = frames₁} {waiting₁ = waiting₁} holding walks e =
+pub rest-fails : {table pattern bytes : List ℕ} {assigned left : ℕ} {parts stack : List ℕ} {m : Marks} {p : Place} {r : Reached}
+    {parts₁ stack₁ : List ℕ} → Holding (length pattern) (length bytes) assigned parts stack m p
+    → Walks table pattern bytes assigned left parts stack m p parts₁ stack₁ r → failure (r .stop) ≡ true
+    → RestIs table pattern bytes assigned left parts stack m p Failed assigned (r .left) parts₁ stack₁
+rest-fails {table} {pattern} {bytes} {r = r} {parts₁ = parts₁} {stack₁ = stack₁} holding walks e =
     let x =
     rest-follows holding walks
-    (follow-fails table pattern bytes (r .assigned) (r .left) parts₁ frames₁ waiting₁ (r .marks) (r .place) (r .stop) (failure-is (r .stop) e)) in
+    (follow-fails table pattern bytes (r .assigned) (r .left) parts₁ stack₁ (r .marks) (r .place) (r .stop) (failure-is (r .stop) e)) in
     record { replies = x .replies; kept = x .kept }
 
 -- Complements
@@ -336,14 +336,14 @@ module _ (pattern : List ℕ) (c : PutBy) (within : c .at + 1 + c .size ≤ leng
   pub inside-length : length taken ≡ c .size
   inside-length = ap length inside-is ∙ length-take-le (c .size) (drop (c .at + 1) pattern) (omega (arith, length-drop (c .at + 1) pattern))
 
-  pub inside-holding : {bytes assigned : ℕ} {parts frames waiting : List ℕ} {m : Marks} → Testable (length pattern) bytes assigned parts frames waiting m c
-      → Holding (length taken) bytes assigned parts frames waiting (inside m) (place 1 1 0 (c .node))
+  pub inside-holding : {bytes assigned : ℕ} {parts stack : List ℕ} {m : Marks} → Testable (length pattern) bytes assigned parts stack m c
+      → Holding (length taken) bytes assigned parts stack (inside m) (place 1 1 0 (c .node))
   inside-holding h = rw inside-length (h .holding)
 
-  module _ (table bytes : List ℕ) (assigned left : ℕ) (parts frames waiting : List ℕ) (m : Marks) (short : length pattern ≤ 256) where
-    complement-turned : {o o′ : Outcome} {assigned′ left′ : ℕ} {parts′ frames′ waiting′ : List ℕ}
-        → LevelIs table taken bytes assigned left parts frames waiting 48 0 (inside m) (place 1 1 0 (c .node)) o assigned′ left′ parts′ frames′ waiting′
-        → o′ ≡ turned o → ComplementIs table pattern bytes assigned left parts frames waiting c m o′ left′ parts′ frames′ waiting′
+  module _ (table bytes : List ℕ) (assigned left : ℕ) (parts stack : List ℕ) (m : Marks) (short : length pattern ≤ 256) where
+    complement-turned : {o o′ : Outcome} {assigned′ left′ : ℕ} {parts′ stack′ : List ℕ}
+        → LevelIs table taken bytes assigned left parts stack 48 0 (inside m) (place 1 1 0 (c .node)) o assigned′ left′ parts′ stack′
+        → o′ ≡ turned o → ComplementIs table pattern bytes assigned left parts stack c m o′ left′ parts′ stack′
     unfolding insideOf triesOf
     complement-turned {o} {o′} {assigned′} {left′} {parts′} r e = record {
       replies = λ shown h n l. let x = found-at shown h n l in (
@@ -353,7 +353,7 @@ module _ (pattern : List ℕ) (c : PutBy) (within : c .at + 1 + c .size ≤ leng
       kept = record { of-parts = r .kept .of-parts; of-frames = r .kept .of-frames; of-waiting = r .kept .of-waiting; sized = r .kept .sized };
     }
       where
-        found-at : (shown : List Part) → Holds (c .size) (length bytes) assigned parts frames waiting (inside m) (place 1 1 0 (c .node)) (startOf shown (c .node))
+        found-at : (shown : List Part) → Holds (c .size) (length bytes) assigned parts stack (inside m) (place 1 1 0 (c .node)) (startOf shown (c .node))
             → (n : ℕ) → levels pattern (length pattern) ≤ suc n
             → replyOf o left′ assigned′ parts′ ≡ levelOf n table bytes (take (c .size) (drop (c .at + 1) pattern)) (startOf shown (c .node)) left
         found-at shown h n l =
@@ -362,14 +362,14 @@ module _ (pattern : List ℕ) (c : PutBy) (within : c .at + 1 + c .size ≤ leng
             ∙ rw (set-out shown 48 (boundPart (c .node) 0 0) (omega (arith, h .variables)), a, inside-is)
 
     -- with marks and place as the code has them
-    pub complement-tests : {k : Marks} {q : Place} {o o′ : Outcome} {assigned′ left′ : ℕ} {parts′ frames′ waiting′ : List ℕ}
-        → k ≡ inside m → q ≡ place 1 1 0 (c .node) → LevelIs table taken bytes assigned left parts frames waiting 48 0 k q o assigned′ left′ parts′ frames′ waiting′
-        → o′ ≡ turned o → ComplementIs table pattern bytes assigned left parts frames waiting c m o′ left′ parts′ frames′ waiting′
-    complement-tests {k} {q} {o} {o′} {assigned′} {left′} {parts′} {frames′} {waiting′} is-k is-q r e =
+    pub complement-tests : {k : Marks} {q : Place} {o o′ : Outcome} {assigned′ left′ : ℕ} {parts′ stack′ : List ℕ}
+        → k ≡ inside m → q ≡ place 1 1 0 (c .node) → LevelIs table taken bytes assigned left parts stack 48 0 k q o assigned′ left′ parts′ stack′
+        → o′ ≡ turned o → ComplementIs table pattern bytes assigned left parts stack c m o′ left′ parts′ stack′
+    complement-tests {k} {q} {o} {o′} {assigned′} {left′} {parts′} {stack′} is-k is-q r e =
         complement-turned
-        (subst (λ (x : Marks). LevelIs table taken bytes assigned left parts frames waiting 48 0 x (place 1 1 0 (c .node)) o assigned′ left′ parts′ frames′ waiting′)
+        (subst (λ (x : Marks). LevelIs table taken bytes assigned left parts stack 48 0 x (place 1 1 0 (c .node)) o assigned′ left′ parts′ stack′)
         is-k
-        (subst (λ (x : Place). LevelIs table taken bytes assigned left parts frames waiting 48 0 k x o assigned′ left′ parts′ frames′ waiting′) is-q r)) e
+        (subst (λ (x : Place). LevelIs table taken bytes assigned left parts stack 48 0 k x o assigned′ left′ parts′ stack′) is-q r)) e
 
 module _ (assigned left : ℕ) (parts : List ℕ) (next : ℕ → Reply) where
   refuted-stop : (a o : Outcome) (l : ℕ) → o ≡ turned a → left ≡ l → found o ≡ false → replyOf o left assigned parts ≡ refuted a l next
@@ -384,11 +384,11 @@ module _ (assigned left : ℕ) (parts : List ℕ) (next : ℕ → Reply) where
 
 -- The loop over complements
 
-none : (lv : List ℕ → State → ℕ → Reply) (pattern : List ℕ) (shown : List Part) (waiting : List ℕ) (i end left : ℕ) → end ≤ i → (cs : List PutBy) → Queued waiting i end cs
+none : (lv : List ℕ → State → ℕ → Reply) (pattern : List ℕ) (shown : List Part) (stack : List ℕ) (i end left : ℕ) → end ≤ i → (cs : List PutBy) → Queued stack i end cs
     → reply Found left shown ≡ complementsOf lv pattern shown cs left
 unfolding complementsOf
-none lv pattern shown waiting i end left h [] q = refl
-none lv pattern shown waiting i end left h (c ∷ cs) q = absurd (omega (arith, q .0))
+none lv pattern shown stack i end left h [] q = refl
+none lv pattern shown stack i end left h (c ∷ cs) q = absurd (omega (arith, q .0))
 
 module _ (lv : List ℕ → State → ℕ → Reply) (pattern : List ℕ) (shown : List Part) (c : PutBy) (cs : List PutBy) (left left′ : ℕ) (o : Outcome)
     (is : (o ≡ turned (insideOf lv pattern shown c left .outcome)) × (left′ ≡ insideOf lv pattern shown c left .left)) where
@@ -404,102 +404,102 @@ module _ (lv : List ℕ → State → ℕ → Reply) (pattern : List ℕ) (shown
       refuted-on 0 left′ [] (λ l. complementsOf lv pattern shown cs l) (insideOf lv pattern shown c left .outcome) o
       (insideOf lv pattern shown c left .left) (is .0) (is .1) f
 
-module _ (table pattern bytes : List ℕ) (assigned allowance : ℕ) (parts₀ frames₀ waiting₀ : List ℕ) (m : Marks) where
+module _ (table pattern bytes : List ℕ) (assigned allowance : ℕ) (parts₀ stack₀ : List ℕ) (m : Marks) where
   abbrev Ends : Place → State → Type 0
-  Ends p s = Holds (length pattern) (length bytes) assigned parts₀ frames₀ waiting₀ m p s
+  Ends p s = Holds (length pattern) (length bytes) assigned parts₀ stack₀ m p s
 
   -- the complements from the one at i on are still to be searched
   pub record Remains (left i : ℕ) (p : Place) (s : State) : Type 0 where
     pub rest : List PutBy
-    pub queued : Queued waiting₀ i (m .waiting) rest
+    pub queued : Queued stack₀ i (m .waiting) rest
     pub insides : Insides (length pattern) (length bytes) (p .at) m rest
     pub same : (n : ℕ) → levels pattern (length pattern) ≤ suc n
         → complementsOf (levelOf n table bytes) pattern (s .parts) (s .waiting) allowance ≡ complementsOf (levelOf n table bytes) pattern (s .parts) rest left
 
-  pub record Testing (seen left : ℕ) (parts frames waiting : List ℕ) (i : ℕ) : Type 0 where
+  pub record Testing (seen left : ℕ) (parts stack : List ℕ) (i : ℕ) : Type 0 where
     pub same-mask : seen ≡ assigned
-    pub kept : Kept assigned m parts₀ frames₀ waiting₀ parts frames waiting
+    pub kept : Kept assigned m parts₀ stack₀ parts stack
     pub remains : (p : Place) (s : State) → Ends p s → Remains left i p s
 
-  pub test-first : Testing assigned allowance parts₀ frames₀ waiting₀ (m .first)
+  pub test-first : Testing assigned allowance parts₀ stack₀ (m .first)
   test-first = record {
     same-mask = refl;
     kept = kept-all;
     remains = λ p s h. record { rest = s .waiting; queued = h .queued; insides = h .insides; same = λ n l. refl };
   }
 
-  module _ {seen left : ℕ} {parts frames waiting : List ℕ} {i : ℕ} (t : Testing seen left parts frames waiting i) where
-    pub test-end : m .waiting ≤ i → ComplementsAre table pattern bytes assigned allowance parts₀ frames₀ waiting₀ m Found seen left parts frames waiting
+  module _ {seen left : ℕ} {parts stack : List ℕ} {i : ℕ} (t : Testing seen left parts stack i) where
+    pub test-end : m .waiting ≤ i → ComplementsAre table pattern bytes assigned allowance parts₀ stack₀ m Found seen left parts stack
     test-end e = record {
       replies = λ p s h n l.
           let q = t .remains p s h in
           ap (reply Found left) (ap (λ (x : ℕ). partsIn x parts 0 48) (t .same-mask) ∙ sym (state-shown (restored (t .kept) h)))
-          ∙ none (levelOf n table bytes) pattern (s .parts) waiting₀ i (m .waiting) left e (q .rest) (q .queued)
+          ∙ none (levelOf n table bytes) pattern (s .parts) stack₀ i (m .waiting) left e (q .rest) (q .queued)
           ∙ sym (q .same n l);
       kept = t .kept;
     }
 
     module _ (h : i < m .waiting) where
-      next : (p : Place) (s : State) → Ends p s → (cs : List PutBy) → Queued waiting₀ i (m .waiting) cs → Insides (length pattern) (length bytes) (p .at) m cs
-          → Testable (length pattern) (length bytes) seen parts frames waiting m (putByIn (getD waiting i 0))
+      next : (p : Place) (s : State) → Ends p s → (cs : List PutBy) → Queued stack₀ i (m .waiting) cs → Insides (length pattern) (length bytes) (p .at) m cs
+          → Testable (length pattern) (length bytes) seen parts stack m (putByIn (getD stack (255 - i) 0))
       next p s e [] q k = absurd (omega (arith, q))
       next p s e (c ∷ cs) q k =
           rw (t .same-mask, t .kept .of-waiting i h, q .1)
           (record { within = k .0 .within; holding = record { state = startOf (s .parts) (c .node); holds = start-holds c (restored (t .kept) e) (k .0) } })
 
-      pub test-next : Resting (length pattern) (length bytes) assigned parts₀ frames₀ waiting₀ m
-          → Testable (length pattern) (length bytes) seen parts frames waiting m (putByIn (getD waiting i 0))
+      pub test-next : Resting (length pattern) (length bytes) assigned parts₀ stack₀ m
+          → Testable (length pattern) (length bytes) seen parts stack m (putByIn (getD stack (255 - i) 0))
       test-next r =
           let p = r .place in
           let s = r .holding .state in
           let q = t .remains p s (r .holding .holds) in
           next p s (r .holding .holds) (q .rest) (q .queued) (q .insides)
 
-      module _ {o : Outcome} {left′ : ℕ} {parts′ frames′ waiting′ : List ℕ}
-          (c : ComplementIs table pattern bytes seen left parts frames waiting (putByIn (getD waiting i 0)) m o left′ parts′ frames′ waiting′) where
-        test-kept : Kept assigned m parts₀ frames₀ waiting₀ parts′ frames′ waiting′
+      module _ {o : Outcome} {left′ : ℕ} {parts′ stack′ : List ℕ}
+          (c : ComplementIs table pattern bytes seen left parts stack (putByIn (getD stack (255 - i) 0)) m o left′ parts′ stack′) where
+        test-kept : Kept assigned m parts₀ stack₀ parts′ stack′
         test-kept = kept-then {m₁ = m} (λ v b. rw (t .same-mask) b) (le-refl (m .frames)) (le-refl (m .waiting)) (t .kept) (c .kept)
 
         -- the first of the rest is the one that was searched
-        told : (p : Place) (s : State) → Ends p s → (d : PutBy) (cs : List PutBy) → Queued waiting₀ i (m .waiting) (d ∷ cs)
+        told : (p : Place) (s : State) → Ends p s → (d : PutBy) (cs : List PutBy) → Queued stack₀ i (m .waiting) (d ∷ cs)
             → Insides (length pattern) (length bytes) (p .at) m (d ∷ cs) → (n : ℕ) → levels pattern (length pattern) ≤ suc n
             → (o ≡ turned (insideOf (levelOf n table bytes) pattern (s .parts) d left .outcome))
             × (left′ ≡ insideOf (levelOf n table bytes) pattern (s .parts) d left .left)
         told p s e d cs q k n l =
-            let is : ComplementIs table pattern bytes assigned left parts frames waiting d m o left′ parts′ frames′ waiting′ =
-            subst (λ (x : PutBy). ComplementIs table pattern bytes assigned left parts frames waiting x m o left′ parts′ frames′ waiting′)
+            let is : ComplementIs table pattern bytes assigned left parts stack d m o left′ parts′ stack′ =
+            subst (λ (x : PutBy). ComplementIs table pattern bytes assigned left parts stack x m o left′ parts′ stack′)
             (ap putByIn (t .kept .of-waiting i h) ∙ q .1)
-            (subst (λ (x : ℕ). ComplementIs table pattern bytes x left parts frames waiting (putByIn (getD waiting i 0)) m o left′ parts′ frames′ waiting′)
+            (subst (λ (x : ℕ). ComplementIs table pattern bytes x left parts stack (putByIn (getD stack (255 - i) 0)) m o left′ parts′ stack′)
             (t .same-mask) c) in
             is .replies (s .parts) (start-holds d (restored (t .kept) e) (k .0)) n l
 
         module _ (p : Place) (s : State) (e : Ends p s) where
-          stop : (n : ℕ) → levels pattern (length pattern) ≤ suc n → found o ≡ false → (cs : List PutBy) → Queued waiting₀ i (m .waiting) cs
+          stop : (n : ℕ) → levels pattern (length pattern) ≤ suc n → found o ≡ false → (cs : List PutBy) → Queued stack₀ i (m .waiting) cs
               → Insides (length pattern) (length bytes) (p .at) m cs
               → replyOf o left′ assigned parts′ ≡ complementsOf (levelOf n table bytes) pattern (s .parts) cs left
           stop n l f [] q k = absurd (omega (arith, q))
           stop n l f (d ∷ cs) q k =
               complements-stop (levelOf n table bytes) pattern (s .parts) d cs left left′ o (told p s e d cs q k n l) assigned parts′ f
 
-          on : found o ≡ true → (cs : List PutBy) → Queued waiting₀ i (m .waiting) cs → Insides (length pattern) (length bytes) (p .at) m cs
+          on : found o ≡ true → (cs : List PutBy) → Queued stack₀ i (m .waiting) cs → Insides (length pattern) (length bytes) (p .at) m cs
               → ((n : ℕ) → levels pattern (length pattern) ≤ suc n
               → complementsOf (levelOf n table bytes) pattern (s .parts) (s .waiting) allowance ≡ complementsOf (levelOf n table bytes) pattern (s .parts) cs left)
               → Remains left′ (i + 1) p s
           on f [] q k same = absurd (omega (arith, q))
           on f (d ∷ cs) q k same = record {
             rest = cs;
-            queued = let z : suc i ≡ i + 1 = omega arith in subst (λ (x : ℕ). Queued waiting₀ x (m .waiting) cs) z (q .2);
+            queued = let z : suc i ≡ i + 1 = omega arith in subst (λ (x : ℕ). Queued stack₀ x (m .waiting) cs) z (q .2);
             insides = k .1;
             same = λ n l. same n l ∙ complements-on (levelOf n table bytes) pattern (s .parts) d cs left left′ o (told p s e d cs q k n l) f;
           }
 
-        pub test-stop : found o ≡ false → ComplementsAre table pattern bytes assigned allowance parts₀ frames₀ waiting₀ m o assigned left′ parts′ frames′ waiting′
+        pub test-stop : found o ≡ false → ComplementsAre table pattern bytes assigned allowance parts₀ stack₀ m o assigned left′ parts′ stack′
         test-stop f = record {
           replies = λ p s e n l. let q = t .remains p s e in stop p s e n l f (q .rest) (q .queued) (q .insides) ∙ sym (q .same n l);
           kept = test-kept;
         }
 
-        pub test-on : found o ≡ true → Testing assigned left′ parts′ frames′ waiting′ (i + 1)
+        pub test-on : found o ≡ true → Testing assigned left′ parts′ stack′ (i + 1)
         test-on f = record {
           same-mask = refl;
           kept = test-kept;
@@ -513,12 +513,12 @@ module _ (table pattern bytes : List ℕ) (allowance : ℕ) where
   unfolding searchOf
   search-over h = rw h
 
-  pub search-within : (parts frames waiting : List ℕ) {q : Place} {o : Outcome} {assigned left : ℕ} {parts′ frames′ waiting′ : List ℕ}
-      → length pattern ≤ 256 → length bytes ≤ 4096 → Sized parts frames waiting → q ≡ place 1 1 0 0
-      → LevelIs table pattern bytes 0 allowance parts frames waiting 48 0 (marks 0 0 0 0) q o assigned left parts′ frames′ waiting′
+  pub search-within : (parts stack : List ℕ) {q : Place} {o : Outcome} {assigned left : ℕ} {parts′ stack′ : List ℕ}
+      → length pattern ≤ 256 → length bytes ≤ 4096 → Sized parts stack → q ≡ place 1 1 0 0
+      → LevelIs table pattern bytes 0 allowance parts stack 48 0 (marks 0 0 0 0) q o assigned left parts′ stack′
       → replyOf o left assigned parts′ ≡ searchOf table pattern bytes allowance
   unfolding searchOf triesOf
-  search-within parts frames waiting {q} h k z e r =
+  search-within parts stack {q} h k z e r =
       rw (le-leb (length pattern) 256 h, le-leb (length bytes) 4096 k)
-      (r .replies (startOf (replicate 48 absent) 0) (rw e (first-holds (length pattern) (length bytes) parts frames waiting h z)) (levels pattern 0)
+      (r .replies (startOf (replicate 48 absent) 0) (rw e (first-holds (length pattern) (length bytes) parts stack h z)) (levels pattern 0)
       (rw e (omega arith)))

@@ -28,15 +28,15 @@ use Rattle.search.proofs.Held.{unassigned, holds-closed, holds-opened, 
 use Rattle.search.proofs.Masks.{bit-still}
 
 -- the innermost of some open nodes
-record Popped (frames : List ℕ) (inner : ℕ) (fs : List Frame) : Type 0 where
+record Popped (stack : List ℕ) (inner : ℕ) (fs : List Frame) : Type 0 where
   pub rest : List Frame
-  pub is : fs ≡ frameIn (getD frames (inner - 1) 0) ∷ rest
-  pub less : outer (getD frames (inner - 1) 0) < inner
-  pub linked : Linked frames (outer (getD frames (inner - 1) 0)) rest
+  pub is : fs ≡ frameIn (getD stack (inner - 1) 0) ∷ rest
+  pub less : outer (getD stack (inner - 1) 0) < inner
+  pub linked : Linked stack (outer (getD stack (inner - 1) 0)) rest
 
-popped : (frames : List ℕ) (inner : ℕ) (fs : List Frame) → (inner ≡ 0 → ⊥) → Linked frames inner fs → Popped frames inner fs
-popped frames inner [] n h = absurd (n h)
-popped frames inner (f ∷ fs) n h = record { rest = fs; is = ap (λ (g : Frame). g ∷ fs) (sym (h .1)); less = h .2; linked = h .3 }
+popped : (stack : List ℕ) (inner : ℕ) (fs : List Frame) → (inner ≡ 0 → ⊥) → Linked stack inner fs → Popped stack inner fs
+popped stack inner [] n h = absurd (n h)
+popped stack inner (f ∷ fs) n h = record { rest = fs; is = ap (λ (g : Frame). g ∷ fs) (sym (h .1)); less = h .2; linked = h .3 }
 
 abbrev pub reached : Stop → ℕ → ℕ → Marks → Place → Reached
 reached stop left assigned m p = record { stop = stop; left = left; assigned = assigned; marks = m; place = p }
@@ -50,17 +50,17 @@ module _ (table pattern bytes : List ℕ) where
   walk-suc zero s left h = absurd (omega arith)
   walk-suc (suc n) s left h = let z : suc n - 1 ≡ n = omega arith in rw z
 
-module _ (table pattern bytes : List ℕ) (assigned₀ left₀ : ℕ) (parts₀ frames₀ waiting₀ : List ℕ) (m₀ : Marks) (p₀ : Place) (s₀ : State) where
+module _ (table pattern bytes : List ℕ) (assigned₀ left₀ : ℕ) (parts₀ stack₀ : List ℕ) (m₀ : Marks) (p₀ : Place) (s₀ : State) where
   -- the walk from the state s₀ is the walk from the one that the buffers hold now
-  pub record Walking (parts frames waiting : List ℕ) (p : Place) (m : Marks) (assigned left : ℕ) : Type 0 where
+  pub record Walking (parts stack : List ℕ) (p : Place) (m : Marks) (assigned left : ℕ) : Type 0 where
     pub values : List Part
     pub nodes : List Frame
     pub put-by : List PutBy
-    pub holds : Holds (length pattern) (length bytes) assigned parts frames waiting m p (state values nodes put-by p)
+    pub holds : Holds (length pattern) (length bytes) assigned parts stack m p (state values nodes put-by p)
     pub room : ℕ
     pub enough : 2 * (length pattern - p .at) + length nodes < room
     pub same : walkOf 1024 table pattern bytes s₀ left₀ ≡ walkOf room table pattern bytes (state values nodes put-by p) left
-    pub kept : Kept assigned₀ m₀ parts₀ frames₀ waiting₀ parts frames waiting
+    pub kept : Kept assigned₀ m₀ parts₀ stack₀ parts stack
     pub still : (v : ℕ) → bit assigned₀ v ≡ true → bit assigned v ≡ true
     pub more-frames : m₀ .frames ≤ m .frames
     pub more-waiting : m₀ .waiting ≤ m .waiting
@@ -68,14 +68,14 @@ module _ (table pattern bytes : List ℕ) (assigned₀ left₀ : ℕ) (parts₀ 
     pub further : p₀ .at ≤ p .at
 
   pub walk-starts : Short pattern bytes
-      → Holds (length pattern) (length bytes) assigned₀ parts₀ frames₀ waiting₀ m₀ p₀ s₀ → Walking parts₀ frames₀ waiting₀ p₀ m₀ assigned₀ left₀
+      → Holds (length pattern) (length bytes) assigned₀ parts₀ stack₀ m₀ p₀ s₀ → Walking parts₀ stack₀ p₀ m₀ assigned₀ left₀
   walk-starts short h = record {
     values = s₀ .parts;
     nodes = s₀ .frames;
     put-by = s₀ .waiting;
-    holds = subst (Holds (length pattern) (length bytes) assigned₀ parts₀ frames₀ waiting₀ m₀ p₀) is h;
+    holds = subst (Holds (length pattern) (length bytes) assigned₀ parts₀ stack₀ m₀ p₀) is h;
     room = 1024;
-    enough = omega (arith, linked-length frames₀ (m₀ .inner) (s₀ .frames) (h .linked), h .innermost, h .frames-left, short .of-pattern);
+    enough = omega (arith, linked-length stack₀ (m₀ .inner) (s₀ .frames) (h .linked), h .innermost, h .room, short .of-pattern);
     same = ap (λ (s : State). walkOf 1024 table pattern bytes s left₀) is;
     kept = record { of-parts = λ v l b. refl; of-frames = λ i l. refl; of-waiting = λ i l. refl; sized = λ z. z };
     still = λ v b. b;
@@ -89,12 +89,12 @@ module _ (table pattern bytes : List ℕ) (assigned₀ left₀ : ℕ) (parts₀ 
       is = ap (state (s₀ .parts) (s₀ .frames) (s₀ .waiting)) (h .place)
 
   -- what is known once the next step is
-  pub record Turn (parts frames waiting : List ℕ) (p : Place) (m : Marks) (assigned left : ℕ) (x : Step) : Type 0 where
-    pub walking : Walking parts frames waiting p m assigned left
+  pub record Turn (parts stack : List ℕ) (p : Place) (m : Marks) (assigned left : ℕ) (x : Step) : Type 0 where
+    pub walking : Walking parts stack p m assigned left
     pub is-step : x ≡ stepOf (eqb (m .inner) 0) table pattern bytes (partIn assigned parts (variableAt pattern (p .at))) p left
 
-  module _ {parts frames waiting : List ℕ} {p : Place} {m : Marks} {assigned left : ℕ} {x : Step}
-      (t : Turn parts frames waiting p m assigned left x) where
+  module _ {parts stack : List ℕ} {p : Place} {m : Marks} {assigned left : ℕ} {x : Step}
+      (t : Turn parts stack p m assigned left x) where
     pub asked : (y : Step) → x ≡ y → Asks (eqb (m .inner) 0) pattern bytes (partIn assigned parts (variableAt pattern (p .at))) p left y
     asked y e =
         subst (Asks (eqb (m .inner) 0) pattern bytes (partIn assigned parts (variableAt pattern (p .at))) p left) (sym (t .is-step) ∙ e)
@@ -108,7 +108,7 @@ module _ (table pattern bytes : List ℕ) (assigned₀ left₀ : ℕ) (parts₀ 
         let s = state (w .values) (w .nodes) (w .put-by) p in
         w .same ∙ walk-suc table pattern bytes (w .room) s left (omega (arith, w .enough))
         ∙ rw (
-          ← linked-alone frames (m .inner) (w .nodes) (w .holds .linked),
+          ← linked-alone stack (m .inner) (w .nodes) (w .holds .linked),
           w .holds .shown (variableAt pattern (p .at)) (variable-below pattern (p .at)),
           ← t .is-step,
           e,
@@ -118,14 +118,14 @@ module _ (table pattern bytes : List ℕ) (assigned₀ left₀ : ℕ) (parts₀ 
         → bit assigned v ≡ false
     free v low here e =
         let w = t .walking in
-        unassigned (length pattern) (length bytes) assigned parts frames waiting m p (w .values) (w .nodes) (w .put-by) (w .holds) v low (rw here e)
+        unassigned (length pattern) (length bytes) assigned parts stack m p (w .values) (w .nodes) (w .put-by) (w .holds) v low (rw here e)
 
     -- Where it stops
 
     ended : (stop : Stop) (l : ℕ)
         → walkOf 1024 table pattern bytes s₀ left₀ ≡ walked stop l (state (t .walking .values) (t .walking .nodes) (t .walking .put-by) p)
         → StopsAt (length pattern) p stop → Unassigned assigned stop
-        → WalkIs table pattern bytes assigned₀ left₀ parts₀ frames₀ waiting₀ m₀ p₀ parts frames waiting (reached stop l assigned m p) s₀
+        → WalkIs table pattern bytes assigned₀ left₀ parts₀ stack₀ m₀ p₀ parts stack (reached stop l assigned m p) s₀
     ended stop l is stops out =
         let w = t .walking in
         record {
@@ -143,7 +143,7 @@ module _ (table pattern bytes : List ℕ) (assigned₀ left₀ : ℕ) (parts₀ 
         }
 
     pub walk-stops : (stop : Stop) → x ≡ Stops stop
-        → WalkIs table pattern bytes assigned₀ left₀ parts₀ frames₀ waiting₀ m₀ p₀ parts frames waiting (reached stop left assigned m p) s₀
+        → WalkIs table pattern bytes assigned₀ left₀ parts₀ stack₀ m₀ p₀ parts stack (reached stop left assigned m p) s₀
     unfolding nextOf
     walk-stops Failure e = ended Failure left (stepped (Stops Failure) e) tt tt
     walk-stops NoAllowance e = ended NoAllowance left (stepped (Stops NoAllowance) e) tt tt
@@ -153,30 +153,30 @@ module _ (table pattern bytes : List ℕ) (assigned₀ left₀ : ℕ) (parts₀ 
         ended (RunName v) left (stepped (Stops (RunName v)) e) (a .1) (free v (a .0 .below) (a .0 .here) (a .0 .absent))
 
     pub walk-fails : x ≡ Fails
-        → WalkIs table pattern bytes assigned₀ left₀ parts₀ frames₀ waiting₀ m₀ p₀ parts frames waiting (reached Failure (left - 1) assigned m p) s₀
+        → WalkIs table pattern bytes assigned₀ left₀ parts₀ stack₀ m₀ p₀ parts stack (reached Failure (left - 1) assigned m p) s₀
     unfolding nextOf
     walk-fails e = ended Failure (left - 1) (stepped Fails e) tt tt
 
     -- Where it goes on
 
-    pub closes-inside : x ≡ Closes → (0 < m .inner) × (outer (getD frames (m .inner - 1) 0) < m .inner)
+    pub closes-inside : x ≡ Closes → (0 < m .inner) × (outer (getD stack (m .inner - 1) 0) < m .inner)
     closes-inside e =
         let n = eqb-false (m .inner) 0 (asked Closes e) in
-        (pos-of-ne-zero n, popped frames (m .inner) (t .walking .nodes) n (t .walking .holds .linked) .less)
+        (pos-of-ne-zero n, popped stack (m .inner) (t .walking .nodes) n (t .walking .holds .linked) .less)
 
     pub walk-closes : x ≡ Closes
-        → Walking parts frames waiting (reopened p (frameIn (getD frames (m .inner - 1) 0)))
-        (closedMarks m (getD frames (m .inner - 1) 0)) assigned left
+        → Walking parts stack (reopened p (frameIn (getD stack (m .inner - 1) 0)))
+        (closedMarks m (getD stack (m .inner - 1) 0)) assigned left
     unfolding nextOf
     walk-closes e =
         let w = t .walking in
-        let u = popped frames (m .inner) (w .nodes) (eqb-false (m .inner) 0 (asked Closes e)) (w .holds .linked) in
+        let u = popped stack (m .inner) (w .nodes) (eqb-false (m .inner) 0 (asked Closes e)) (w .holds .linked) in
         let shorter : length (w .nodes) ≡ suc (length (u .rest)) = ap length (u .is) in
         record {
           values = w .values;
           nodes = u .rest;
           put-by = w .put-by;
-          holds = holds-closed (length pattern) (length bytes) assigned parts frames waiting m p (w .values) (w .nodes) (w .put-by) (w .holds)
+          holds = holds-closed (length pattern) (length bytes) assigned parts stack m p (w .values) (w .nodes) (w .put-by) (w .holds)
               (u .rest)
               (u .linked) (u .less);
           room = w .room - 1;
@@ -193,7 +193,7 @@ module _ (table pattern bytes : List ℕ) (assigned₀ left₀ : ℕ) (parts₀ 
 
     pub walk-opens : (children elements width y : ℕ) → x ≡ Opens children elements width
         → (frameIn y ≡ frame (p .children - 1) (p .elements - 1)) × (outer y ≡ m .inner)
-        → Walking parts (set frames (m .frames) y) waiting (entered p children elements width) (openedMarks m) assigned (left - 1)
+        → Walking parts (set stack (m .frames) y) (entered p children elements width) (openedMarks m) assigned (left - 1)
     unfolding nextOf
     walk-opens children elements width y e is =
         let w = t .walking in
@@ -202,12 +202,13 @@ module _ (table pattern bytes : List ℕ) (assigned₀ left₀ : ℕ) (parts₀ 
           values = w .values;
           nodes = frame (p .children - 1) (p .elements - 1) ∷ w .nodes;
           put-by = w .put-by;
-          holds = holds-opened (length pattern) (length bytes) assigned parts frames waiting m p (w .values) (w .nodes) (w .put-by) (w .holds)
+          holds = holds-opened (length pattern) (length bytes) assigned parts stack m p (w .values) (w .nodes) (w .put-by) (w .holds)
               left children elements width y a is;
           room = w .room - 1;
           enough = omega (arith, w .enough, a .some, a .at);
           same = stepped (Opens children elements width) e;
-          kept = kept-frame assigned₀ assigned m₀ m parts₀ frames₀ waiting₀ parts frames waiting (w .kept) _ (w .more-frames);
+          kept = kept-frame assigned₀ assigned m₀ m parts₀ stack₀ parts stack (w .kept) _ (w .more-frames) (w .more-waiting)
+              (omega (arith, w .holds .room, a .some, a .at));
           still = w .still;
           more-frames = omega (arith, w .more-frames);
           more-waiting = w .more-waiting;
@@ -215,7 +216,7 @@ module _ (table pattern bytes : List ℕ) (assigned₀ left₀ : ℕ) (parts₀ 
           further = omega (arith, w .further);
         }
 
-    pub walk-passes : (elements size : ℕ) → x ≡ Passes elements size → Walking parts frames waiting (passed p elements 1 size) m assigned (left - 1)
+    pub walk-passes : (elements size : ℕ) → x ≡ Passes elements size → Walking parts stack (passed p elements 1 size) m assigned (left - 1)
     unfolding nextOf
     walk-passes elements size e =
         let w = t .walking in
@@ -224,7 +225,7 @@ module _ (table pattern bytes : List ℕ) (assigned₀ left₀ : ℕ) (parts₀ 
           values = w .values;
           nodes = w .nodes;
           put-by = w .put-by;
-          holds = holds-passed (length pattern) (length bytes) assigned parts frames waiting m p (w .values) (w .nodes) (w .put-by) (w .holds)
+          holds = holds-passed (length pattern) (length bytes) assigned parts stack m p (w .values) (w .nodes) (w .put-by) (w .holds)
               left elements size a;
           room = w .room - 1;
           enough = omega (arith, w .enough, a .at);
@@ -238,7 +239,7 @@ module _ (table pattern bytes : List ℕ) (assigned₀ left₀ : ℕ) (parts₀ 
         }
 
     pub walk-binds : (v size : ℕ) → x ≡ Binds v size → Short pattern bytes
-        → Walking (set parts v (packed (boundPart (p .node) size 1))) frames waiting (passed p 1 1 size) m (bitOr assigned (2 ^ v)) (left - 1)
+        → Walking (set parts v (packed (boundPart (p .node) size 1))) stack (passed p 1 1 size) m (bitOr assigned (2 ^ v)) (left - 1)
     unfolding nextOf
     walk-binds v size e short =
         let w = t .walking in
@@ -247,12 +248,12 @@ module _ (table pattern bytes : List ℕ) (assigned₀ left₀ : ℕ) (parts₀ 
           values = set (w .values) v (boundPart (p .node) size 1);
           nodes = w .nodes;
           put-by = w .put-by;
-          holds = holds-bound (length pattern) (length bytes) assigned parts frames waiting m p (w .values) (w .nodes) (w .put-by) (w .holds)
+          holds = holds-bound (length pattern) (length bytes) assigned parts stack m p (w .values) (w .nodes) (w .put-by) (w .holds)
               left v size (a .0 .below) (a .1) (omega (arith, w .holds .node, short .of-record));
           room = w .room - 1;
           enough = omega (arith, w .enough, a .1 .at);
           same = stepped (Binds v size) e;
-          kept = kept-part assigned₀ assigned m₀ m parts₀ frames₀ waiting₀ parts frames waiting (w .kept) (w .still) v _
+          kept = kept-part assigned₀ assigned m₀ m parts₀ stack₀ parts stack (w .kept) (w .still) v _
               (λ l. free v l (a .0 .here) (a .0 .absent));
           still = λ i b. bit-still assigned v i (w .still i b);
           more-frames = w .more-frames;
@@ -262,7 +263,7 @@ module _ (table pattern bytes : List ℕ) (assigned₀ left₀ : ℕ) (parts₀ 
         }
 
     pub walk-puts : (n size y : ℕ) → x ≡ PutsBy n size → putByIn y ≡ putBy (p .at) (n - 1) (p .node)
-        → Walking parts frames (set waiting (m .waiting) y) (passed p 1 n size) (putByMarks m) assigned (left - 1)
+        → Walking parts (set stack (255 - m .waiting) y) (passed p 1 n size) (putByMarks m) assigned (left - 1)
     unfolding nextOf
     walk-puts n size y e is =
         let w = t .walking in
@@ -271,12 +272,13 @@ module _ (table pattern bytes : List ℕ) (assigned₀ left₀ : ℕ) (parts₀ 
           values = w .values;
           nodes = w .nodes;
           put-by = w .put-by ++ putBy (p .at) (n - 1) (p .node) ∷ [];
-          holds = holds-put (length pattern) (length bytes) assigned parts frames waiting m p (w .values) (w .nodes) (w .put-by) (w .holds)
+          holds = holds-put (length pattern) (length bytes) assigned parts stack m p (w .values) (w .nodes) (w .put-by) (w .holds)
               left n size y a is;
           room = w .room - 1;
           enough = omega (arith, w .enough, a .some, a .at);
           same = stepped (PutsBy n size) e;
-          kept = kept-waiting assigned₀ assigned m₀ m parts₀ frames₀ waiting₀ parts frames waiting (w .kept) _ (w .more-waiting);
+          kept = kept-waiting assigned₀ assigned m₀ m parts₀ stack₀ parts stack (w .kept) _ (w .more-frames) (w .more-waiting)
+              (omega (arith, w .holds .room, a .some, a .at));
           still = w .still;
           more-frames = w .more-frames;
           more-waiting = omega (arith, w .more-waiting);

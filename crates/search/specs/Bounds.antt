@@ -37,12 +37,12 @@ Unassigned assigned NoPair = Unit {0}
 Unassigned assigned (RunName v) = bit assigned v ≡ false
 
 -- the walk from the state s ends in another, which the buffers then hold
-pub record WalkIs (table pattern bytes : List ℕ) (assigned left : ℕ) (parts frames waiting : List ℕ) (m : Marks) (p : Place)
-    (parts′ frames′ waiting′ : List ℕ) (r : Reached) (s : State) : Type 0 where
+pub record WalkIs (table pattern bytes : List ℕ) (assigned left : ℕ) (parts stack : List ℕ) (m : Marks) (p : Place)
+    (parts′ stack′ : List ℕ) (r : Reached) (s : State) : Type 0 where
   pub end : State
   pub is : walkOf 1024 table pattern bytes s left ≡ walked (r .stop) (r .left) end
-  pub holds : Holds (length pattern) (length bytes) (r .assigned) parts′ frames′ waiting′ (r .marks) (r .place) end
-  pub kept : Kept assigned m parts frames waiting parts′ frames′ waiting′
+  pub holds : Holds (length pattern) (length bytes) (r .assigned) parts′ stack′ (r .marks) (r .place) end
+  pub kept : Kept assigned m parts stack parts′ stack′
   pub still : (v : ℕ) → bit assigned v ≡ true → bit (r .assigned) v ≡ true
   pub more-frames : m .frames ≤ r .marks .frames
   pub more-waiting : m .waiting ≤ r .marks .waiting
@@ -51,7 +51,7 @@ pub record WalkIs (table pattern bytes : List ℕ) (assigned left : ℕ) (parts 
   pub stops : StopsAt (length pattern) (r .place) (r .stop)
   pub unassigned : Unassigned (r .assigned) (r .stop)
 
-abbrev pub Walks : List ℕ → List ℕ → List ℕ → ℕ → ℕ → List ℕ → List ℕ → List ℕ → Marks → Place → List ℕ → List ℕ → List ℕ → Reached → Type 0
-Walks table pattern bytes assigned left parts frames waiting m p parts′ frames′ waiting′ r =
-    (s : State) → Holds (length pattern) (length bytes) assigned parts frames waiting m p s
-    → WalkIs table pattern bytes assigned left parts frames waiting m p parts′ frames′ waiting′ r s
+abbrev pub Walks : List ℕ → List ℕ → List ℕ → ℕ → ℕ → List ℕ → List ℕ → Marks → Place → List ℕ → List ℕ → Reached → Type 0
+Walks table pattern bytes assigned left parts stack m p parts′ stack′ r =
+    (s : State) → Holds (length pattern) (length bytes) assigned parts stack m p s
+    → WalkIs table pattern bytes assigned left parts stack m p parts′ stack′ r s

@@ -1,5 +1,5 @@
--- What the search keeps in the buffers that are lent to it, and what a call leaves there. Nothing is undone: an entry that is still in use lies
--- below the marks of every call that can change the buffers, or belongs to a variable that is assigned before it.
+-- What the search keeps in the buffers that are lent to it, a part for each variable and a stack, and what a call leaves there. Nothing is undone:
+-- an entry that is still in use lies within the marks of every call that can change the buffers, or belongs to a variable that is assigned before it.
 use Prim.Native.Nat.{ℕ, suc, _+_, _-_, _*_, _/_, _%_, _^_, _<_, _≤_}
 use mathlib.Core.Path.{_≡_}
 use mathlib.Core.List.{List, [], _∷_}
@@ -31,7 +31,7 @@ partIn assigned parts v = cond (bit assigned v) (unpacked (getD parts v 0)) abse
 abbrev pub marks : ℕ → ℕ → ℕ → ℕ → Marks
 marks inner frames first waiting = record { inner = inner; frames = frames; first = first; waiting = waiting }
 
--- Open nodes: each is a number, with 1 more than the place of the one around it, or 0
+-- Open nodes, from the front of the stack: each is a number, with 1 more than the place of the one around it, or 0
 
 abbrev pub frameIn : ℕ → Frame
 frameIn x = frame (x % 256) (x / 256 % 256)
@@ -49,11 +49,11 @@ closedMarks m x = marks (outer x) (m .frames) (m .first) (m .waiting)
 
 -- those from the one at inner - 1 outwards
 abbrev pub Linked : List ℕ → ℕ → List Frame → Type 0
-Linked frames inner [] = inner ≡ 0
-Linked frames inner (f ∷ fs) =
-    (0 < inner) × (frameIn (getD frames (inner - 1) 0) ≡ f) × (outer (getD frames (inner - 1) 0) < inner) × Linked frames (outer (getD frames (inner - 1) 0)) fs
+Linked stack inner [] = inner ≡ 0
+Linked stack inner (f ∷ fs) =
+    (0 < inner) × (frameIn (getD stack (inner - 1) 0) ≡ f) × (outer (getD stack (inner - 1) 0) < inner) × Linked stack (outer (getD stack (inner - 1) 0)) fs
 
--- Complements put by: each is a number
+-- Complements put by, from the back of the stack, the i-th at 255 - i: each is a number
 
 abbrev pub putByIn : ℕ → PutBy
 putByIn x = putBy (x % 256) (x / 256 % 256) (x / 65536)
@@ -64,50 +64,47 @@ putByMarks m = marks (m .inner) (m .frames) (m .first) (m .waiting + 1)
 
 -- those from the one at first up to the end
 abbrev pub Queued : List ℕ → ℕ → ℕ → List PutBy → Type 0
-Queued waiting first end [] = first ≡ end
-Queued waiting first end (c ∷ cs) = (first < end) × (putByIn (getD waiting first 0) ≡ c) × Queued waiting (suc first) end cs
+Queued stack first end [] = first ≡ end
+Queued stack first end (c ∷ cs) = (first < end) × (putByIn (getD stack (255 - first) 0) ≡ c) × Queued stack (suc first) end cs
 
--- the inside of one lies within the pattern, and the buffers have room for its search
+-- the inside of one lies within the pattern, and the stack has room for its search
 pub record Inside (codes bytes at : ℕ) (m : Marks) (c : PutBy) : Type 0 where
   pub within : c .at + 1 + c .size ≤ codes
   pub node : c .node ≤ bytes
-  pub frames : m .frames + c .size + (codes - at) ≤ 256
-  pub waiting : m .waiting + c .size + (codes - at) ≤ 256
+  pub room : m .frames + m .waiting + c .size + (codes - at) ≤ 256
 
 abbrev pub Insides : ℕ → ℕ → ℕ → Marks → List PutBy → Type 0
 Insides codes bytes at m [] = Unit {0}
 Insides codes bytes at m (c ∷ cs) = Inside codes bytes at m c × Insides codes bytes at m cs
 
 -- the buffers' lengths
-pub record Sized (parts frames waiting : List ℕ) : Type 0 where
+pub record Sized (parts stack : List ℕ) : Type 0 where
   pub of-parts : length parts ≡ 49
-  pub of-frames : length frames ≡ 256
-  pub of-waiting : length waiting ≡ 256
+  pub of-stack : length stack ≡ 256
 
 -- The invariant: the buffers hold the state s of a level, whose pattern has so many bytes, on a record of so many; every byte of the pattern that
--- is left has room in them
-pub record Holds (codes bytes assigned : ℕ) (parts frames waiting : List ℕ) (m : Marks) (p : Place) (s : State) : Type 0 where
-  pub sized : Sized parts frames waiting
+-- is left has room in the stack
+pub record Holds (codes bytes assigned : ℕ) (parts stack : List ℕ) (m : Marks) (p : Place) (s : State) : Type 0 where
+  pub sized : Sized parts stack
   pub place : s .place ≡ p
   pub variables : length (s .parts) ≡ 48
   pub shown : (v : ℕ) → v < 48 → partAt s v ≡ partIn assigned parts v
   pub present : (v : ℕ) → v < 48 → bit assigned v ≡ true → isAbsent (partAt s v) ≡ false
-  pub linked : Linked frames (m .inner) (s .frames)
+  pub linked : Linked stack (m .inner) (s .frames)
   pub innermost : m .inner ≤ m .frames
-  pub queued : Queued waiting (m .first) (m .waiting) (s .waiting)
+  pub queued : Queued stack (m .first) (m .waiting) (s .waiting)
   pub insides : Insides codes bytes (p .at) m (s .waiting)
   pub at : p .at ≤ codes
   pub node : p .node ≤ bytes
-  pub frames-left : m .frames + (codes - p .at) ≤ 256
-  pub waiting-left : m .waiting + (codes - p .at) ≤ 256
+  pub room : m .frames + m .waiting + (codes - p .at) ≤ 256
 
-pub record Holding (codes bytes assigned : ℕ) (parts frames waiting : List ℕ) (m : Marks) (p : Place) : Type 0 where
+pub record Holding (codes bytes assigned : ℕ) (parts stack : List ℕ) (m : Marks) (p : Place) : Type 0 where
   pub state : State
-  pub holds : Holds codes bytes assigned parts frames waiting m p state
+  pub holds : Holds codes bytes assigned parts stack m p state
 
 -- The frame condition: what a call with these marks leaves alone
-pub record Kept (assigned : ℕ) (m : Marks) (parts frames waiting parts′ frames′ waiting′ : List ℕ) : Type 0 where
+pub record Kept (assigned : ℕ) (m : Marks) (parts stack parts′ stack′ : List ℕ) : Type 0 where
   pub of-parts : (v : ℕ) → v < 48 → bit assigned v ≡ true → getD parts′ v 0 ≡ getD parts v 0
-  pub of-frames : (i : ℕ) → i < m .frames → getD frames′ i 0 ≡ getD frames i 0
-  pub of-waiting : (i : ℕ) → i < m .waiting → getD waiting′ i 0 ≡ getD waiting i 0
-  pub sized : Sized parts frames waiting → Sized parts′ frames′ waiting′
+  pub of-frames : (i : ℕ) → i < m .frames → getD stack′ i 0 ≡ getD stack i 0
+  pub of-waiting : (i : ℕ) → i < m .waiting → getD stack′ (255 - i) 0 ≡ getD stack (255 - i) 0
+  pub sized : Sized parts stack → Sized parts′ stack′

@@ -69,50 +69,50 @@ pub record Free (assigned v : ℕ) : Type 0 where
   pub free : v < 48 → bit assigned v ≡ false
 
 -- the buffers hold a state at some place
-pub record Resting (codes bytes assigned : ℕ) (parts frames waiting : List ℕ) (m : Marks) : Type 0 where
+pub record Resting (codes bytes assigned : ℕ) (parts stack : List ℕ) (m : Marks) : Type 0 where
   pub place : Place
-  pub holding : Holding codes bytes assigned parts frames waiting m place
+  pub holding : Holding codes bytes assigned parts stack m place
 
 -- the marks of a level that starts with these in use
 abbrev pub inside : Marks → Marks
 inside m = record { inner = 0; frames = m .frames; first = m .waiting; waiting = m .waiting }
 
 -- a complement whose inside can be searched
-pub record Testable (codes bytes assigned : ℕ) (parts frames waiting : List ℕ) (m : Marks) (c : PutBy) : Type 0 where
+pub record Testable (codes bytes assigned : ℕ) (parts stack : List ℕ) (m : Marks) (c : PutBy) : Type 0 where
   pub within : c .at + 1 + c .size ≤ codes
-  pub holding : Holding (c .size) bytes assigned parts frames waiting (inside m) (place 1 1 0 (c .node))
+  pub holding : Holding (c .size) bytes assigned parts stack (inside m) (place 1 1 0 (c .node))
 
 -- The replies: the definition's, with any number of levels that is enough, and what is left alone
 
-pub record LevelIs (table pattern bytes : List ℕ) (assigned left : ℕ) (parts frames waiting : List ℕ) (v most : ℕ) (m : Marks) (p : Place)
-    (outcome : Outcome) (assigned′ left′ : ℕ) (parts′ frames′ waiting′ : List ℕ) : Type 0 where
-  pub replies : (s : State) → Holds (length pattern) (length bytes) assigned parts frames waiting m p s → (n : ℕ) → levels pattern (p .at) ≤ n
+pub record LevelIs (table pattern bytes : List ℕ) (assigned left : ℕ) (parts stack : List ℕ) (v most : ℕ) (m : Marks) (p : Place)
+    (outcome : Outcome) (assigned′ left′ : ℕ) (parts′ stack′ : List ℕ) : Type 0 where
+  pub replies : (s : State) → Holds (length pattern) (length bytes) assigned parts stack m p s → (n : ℕ) → levels pattern (p .at) ≤ n
       → replyOf outcome left′ assigned′ parts′ ≡ triesOf (levelOf n table bytes pattern) table bytes v s most 0 0 left
-  pub kept : Kept assigned m parts frames waiting parts′ frames′ waiting′
+  pub kept : Kept assigned m parts stack parts′ stack′
 
-pub record RestIs (table pattern bytes : List ℕ) (assigned left : ℕ) (parts frames waiting : List ℕ) (m : Marks) (p : Place)
-    (outcome : Outcome) (assigned′ left′ : ℕ) (parts′ frames′ waiting′ : List ℕ) : Type 0 where
-  pub replies : (s : State) → Holds (length pattern) (length bytes) assigned parts frames waiting m p s → (n : ℕ) → levels pattern (p .at) ≤ n
+pub record RestIs (table pattern bytes : List ℕ) (assigned left : ℕ) (parts stack : List ℕ) (m : Marks) (p : Place)
+    (outcome : Outcome) (assigned′ left′ : ℕ) (parts′ stack′ : List ℕ) : Type 0 where
+  pub replies : (s : State) → Holds (length pattern) (length bytes) assigned parts stack m p s → (n : ℕ) → levels pattern (p .at) ≤ n
       → replyOf outcome left′ assigned′ parts′ ≡ levelOf n table bytes pattern s left
-  pub kept : Kept assigned m parts frames waiting parts′ frames′ waiting′
+  pub kept : Kept assigned m parts stack parts′ stack′
 
-pub record FollowIs (table pattern bytes : List ℕ) (assigned left : ℕ) (parts frames waiting : List ℕ) (stop : Stop) (m : Marks) (p : Place)
-    (outcome : Outcome) (assigned′ left′ : ℕ) (parts′ frames′ waiting′ : List ℕ) : Type 0 where
-  pub replies : (s : State) → Holds (length pattern) (length bytes) assigned parts frames waiting m p s → (n : ℕ) → levels pattern (p .at) ≤ suc n
+pub record FollowIs (table pattern bytes : List ℕ) (assigned left : ℕ) (parts stack : List ℕ) (stop : Stop) (m : Marks) (p : Place)
+    (outcome : Outcome) (assigned′ left′ : ℕ) (parts′ stack′ : List ℕ) : Type 0 where
+  pub replies : (s : State) → Holds (length pattern) (length bytes) assigned parts stack m p s → (n : ℕ) → levels pattern (p .at) ≤ suc n
       → replyOf outcome left′ assigned′ parts′ ≡ stopBy stop (levelOf n table bytes) table pattern bytes s left
-  pub kept : Kept assigned m parts frames waiting parts′ frames′ waiting′
+  pub kept : Kept assigned m parts stack parts′ stack′
 
-pub record ComplementIs (table pattern bytes : List ℕ) (assigned left : ℕ) (parts frames waiting : List ℕ) (c : PutBy) (m : Marks)
-    (outcome : Outcome) (left′ : ℕ) (parts′ frames′ waiting′ : List ℕ) : Type 0 where
+pub record ComplementIs (table pattern bytes : List ℕ) (assigned left : ℕ) (parts stack : List ℕ) (c : PutBy) (m : Marks)
+    (outcome : Outcome) (left′ : ℕ) (parts′ stack′ : List ℕ) : Type 0 where
   pub replies : (shown : List Part)
-      → Holds (c .size) (length bytes) assigned parts frames waiting (inside m) (place 1 1 0 (c .node)) (startOf shown (c .node))
+      → Holds (c .size) (length bytes) assigned parts stack (inside m) (place 1 1 0 (c .node)) (startOf shown (c .node))
       → (n : ℕ) → levels pattern (length pattern) ≤ suc n
       → (outcome ≡ turned (insideOf (levelOf n table bytes) pattern shown c left .outcome)) × (left′ ≡ insideOf (levelOf n table bytes) pattern shown c left .left)
-  pub kept : Kept assigned m parts frames waiting parts′ frames′ waiting′
+  pub kept : Kept assigned m parts stack parts′ stack′
 
-pub record ComplementsAre (table pattern bytes : List ℕ) (assigned left : ℕ) (parts frames waiting : List ℕ) (m : Marks)
-    (outcome : Outcome) (assigned′ left′ : ℕ) (parts′ frames′ waiting′ : List ℕ) : Type 0 where
-  pub replies : (p : Place) (s : State) → Holds (length pattern) (length bytes) assigned parts frames waiting m p s
+pub record ComplementsAre (table pattern bytes : List ℕ) (assigned left : ℕ) (parts stack : List ℕ) (m : Marks)
+    (outcome : Outcome) (assigned′ left′ : ℕ) (parts′ stack′ : List ℕ) : Type 0 where
+  pub replies : (p : Place) (s : State) → Holds (length pattern) (length bytes) assigned parts stack m p s
       → (n : ℕ) → levels pattern (length pattern) ≤ suc n
       → replyOf outcome left′ assigned′ parts′ ≡ complementsOf (levelOf n table bytes) pattern (s .parts) (s .waiting) left
-  pub kept : Kept assigned m parts frames waiting parts′ frames′ waiting′
+  pub kept : Kept assigned m parts stack parts′ stack′

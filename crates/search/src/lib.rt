@@ -31,7 +31,7 @@ pub struct Place {
 }
 
 // How much of the buffers is in use: 1 more than the place of the innermost open node's frame, or 0, the frames, where the level's own
-// complements start, and the complements put by.
+// complements start, and the complements put by. Frames lie in the stack from the front, complements from the back, the i-th at 255 - i.
 pub struct Marks {
     pub inner: usize,
     pub frames: usize,
@@ -416,15 +416,14 @@ fn walk(
     pattern: &[u8],
     record: &[u8],
     parts: &mut [u64; 49],
-    frames: &mut [u32; 256],
-    waiting: &mut [u32; 256],
+    stack: &mut [u32; 256],
     mut assigned: u64,
     mut left: u32,
     mut marks: Marks,
     mut place: Place,
 ) -> Reached
-    requires { ⌜ Holding (length (now pattern)) (length (now «record»)) assigned (now parts) (now frames) (now waiting) marks place × Short (now pattern) (now «record») ⌝ }
-    ensures { λ r. ⌜ Walks (now (table .entry)) (now (pattern .entry)) (now («record» .entry)) assigned left (now (parts .entry)) (now (frames .entry)) (now (waiting .entry)) marks place (now (parts .exit)) (now (frames .exit)) (now (waiting .exit)) r ⌝ }
+    requires { ⌜ Holding (length (now pattern)) (length (now «record»)) assigned (now parts) (now stack) marks place × Short (now pattern) (now «record») ⌝ }
+    ensures { λ r. ⌜ Walks (now (table .entry)) (now (pattern .entry)) (now («record» .entry)) assigned left (now (parts .entry)) (now (stack .entry)) marks place (now (parts .exit)) (now (stack .exit)) r ⌝ }
 {
     let stop = loop {
         let step = step_of(table, pattern, record, parts, assigned, marks, place, left);
@@ -435,14 +434,14 @@ fn walk(
                 break Stop::Failure;
             }
             Step::Closes => {
-                let f = frames[marks.inner - 1];
+                let f = stack[marks.inner - 1];
                 place = place.reopened(f);
                 marks = marks.closed(f);
             }
             Step::Opens(children, elements, width) => {
                 left = left - 1;
                 let i = marks.frames;
-                frames[i] = place.frame(marks.inner);
+                stack[i] = place.frame(marks.inner);
                 place = place.entered(children, elements, width);
                 marks = marks.opened();
             }
@@ -460,7 +459,7 @@ fn walk(
             Step::PutsBy(codes, size) => {
                 left = left - 1;
                 let i = marks.waiting;
-                waiting[i] = place.complement(codes);
+                stack[255 - i] = place.complement(codes);
                 place = place.passed(1, codes, size);
                 marks = marks.put_by();
             }
@@ -560,8 +559,7 @@ fn level(
     pattern: &[u8],
     record: &[u8],
     parts: &mut [u64; 49],
-    frames: &mut [u32; 256],
-    waiting: &mut [u32; 256],
+    stack: &mut [u32; 256],
     assigned: &mut u64,
     left: &mut u32,
     v: usize,
@@ -569,8 +567,8 @@ fn level(
     marks: Marks,
     start: Place,
 ) -> Outcome
-    requires { ⌜ Holding (length (now pattern)) (length (now «record»)) (now assigned) (now parts) (now frames) (now waiting) marks start × Free (now assigned) v × (most ≤ start .elements) × Short (now pattern) (now «record») ⌝ }
-    ensures { λ r. ⌜ LevelIs (now (table .entry)) (now (pattern .entry)) (now («record» .entry)) (now (assigned .entry)) (now (left .entry)) (now (parts .entry)) (now (frames .entry)) (now (waiting .entry)) v most marks start r (now (assigned .exit)) (now (left .exit)) (now (parts .exit)) (now (frames .exit)) (now (waiting .exit)) ⌝ }
+    requires { ⌜ Holding (length (now pattern)) (length (now «record»)) (now assigned) (now parts) (now stack) marks start × Free (now assigned) v × (most ≤ start .elements) × Short (now pattern) (now «record») ⌝ }
+    ensures { λ r. ⌜ LevelIs (now (table .entry)) (now (pattern .entry)) (now («record» .entry)) (now (assigned .entry)) (now (left .entry)) (now (parts .entry)) (now (stack .entry)) v most marks start r (now (assigned .exit)) (now (left .exit)) (now (parts .exit)) (now (stack .exit)) ⌝ }
 {
     let seen = also(*assigned, v);
     let node = start.node;
@@ -584,8 +582,7 @@ fn level(
             pattern,
             record,
             parts,
-            frames,
-            waiting,
+            stack,
             assigned,
             left,
             marks,
@@ -615,23 +612,21 @@ fn rest(
     pattern: &[u8],
     record: &[u8],
     parts: &mut [u64; 49],
-    frames: &mut [u32; 256],
-    waiting: &mut [u32; 256],
+    stack: &mut [u32; 256],
     assigned: &mut u64,
     left: &mut u32,
     marks: Marks,
     start: Place,
 ) -> Outcome
-    requires { ⌜ Holding (length (now pattern)) (length (now «record»)) (now assigned) (now parts) (now frames) (now waiting) marks start × Short (now pattern) (now «record») ⌝ }
-    ensures { λ r. ⌜ RestIs (now (table .entry)) (now (pattern .entry)) (now («record» .entry)) (now (assigned .entry)) (now (left .entry)) (now (parts .entry)) (now (frames .entry)) (now (waiting .entry)) marks start r (now (assigned .exit)) (now (left .exit)) (now (parts .exit)) (now (frames .exit)) (now (waiting .exit)) ⌝ }
+    requires { ⌜ Holding (length (now pattern)) (length (now «record»)) (now assigned) (now parts) (now stack) marks start × Short (now pattern) (now «record») ⌝ }
+    ensures { λ r. ⌜ RestIs (now (table .entry)) (now (pattern .entry)) (now («record» .entry)) (now (assigned .entry)) (now (left .entry)) (now (parts .entry)) (now (stack .entry)) marks start r (now (assigned .exit)) (now (left .exit)) (now (parts .exit)) (now (stack .exit)) ⌝ }
 {
     let w = walk(
         table,
         pattern,
         record,
         parts,
-        frames,
-        waiting,
+        stack,
         *assigned,
         *left,
         marks,
@@ -650,8 +645,7 @@ fn rest(
         pattern,
         record,
         parts,
-        frames,
-        waiting,
+        stack,
         assigned,
         left,
         stop,
@@ -666,31 +660,20 @@ fn follow(
     pattern: &[u8],
     record: &[u8],
     parts: &mut [u64; 49],
-    frames: &mut [u32; 256],
-    waiting: &mut [u32; 256],
+    stack: &mut [u32; 256],
     assigned: &mut u64,
     left: &mut u32,
     stop: Stop,
     marks: Marks,
     place: Place,
 ) -> Outcome
-    requires { ⌜ Holding (length (now pattern)) (length (now «record»)) (now assigned) (now parts) (now frames) (now waiting) marks place × StopsAt (length (now pattern)) place stop × Unassigned (now assigned) stop × Short (now pattern) (now «record») ⌝ }
-    ensures { λ r. ⌜ FollowIs (now (table .entry)) (now (pattern .entry)) (now («record» .entry)) (now (assigned .entry)) (now (left .entry)) (now (parts .entry)) (now (frames .entry)) (now (waiting .entry)) stop marks place r (now (assigned .exit)) (now (left .exit)) (now (parts .exit)) (now (frames .exit)) (now (waiting .exit)) ⌝ }
+    requires { ⌜ Holding (length (now pattern)) (length (now «record»)) (now assigned) (now parts) (now stack) marks place × StopsAt (length (now pattern)) place stop × Unassigned (now assigned) stop × Short (now pattern) (now «record») ⌝ }
+    ensures { λ r. ⌜ FollowIs (now (table .entry)) (now (pattern .entry)) (now («record» .entry)) (now (assigned .entry)) (now (left .entry)) (now (parts .entry)) (now (stack .entry)) stop marks place r (now (assigned .exit)) (now (left .exit)) (now (parts .exit)) (now (stack .exit)) ⌝ }
 {
     match stop {
         Stop::Failure => Outcome::Failed,
         Stop::NoAllowance => Outcome::Spent,
-        Stop::NoPair => complements(
-            table,
-            pattern,
-            record,
-            parts,
-            frames,
-            waiting,
-            assigned,
-            left,
-            marks,
-        ),
+        Stop::NoPair => complements(table, pattern, record, parts, stack, assigned, left, marks),
         Stop::RunName(v) => {
             if *left == 0 {
                 return Outcome::Spent;
@@ -701,8 +684,7 @@ fn follow(
                 pattern,
                 record,
                 parts,
-                frames,
-                waiting,
+                stack,
                 assigned,
                 left,
                 wide(v),
@@ -720,15 +702,14 @@ fn complement(
     pattern: &[u8],
     record: &[u8],
     parts: &mut [u64; 49],
-    frames: &mut [u32; 256],
-    waiting: &mut [u32; 256],
+    stack: &mut [u32; 256],
     assigned: &mut u64,
     left: &mut u32,
     c: u32,
     marks: Marks,
 ) -> Outcome
-    requires { ⌜ Testable (length (now pattern)) (length (now «record»)) (now assigned) (now parts) (now frames) (now waiting) marks (putByIn c) × Short (now pattern) (now «record») ⌝ }
-    ensures { λ r. ⌜ ComplementIs (now (table .entry)) (now (pattern .entry)) (now («record» .entry)) (now (assigned .entry)) (now (left .entry)) (now (parts .entry)) (now (frames .entry)) (now (waiting .entry)) (putByIn c) marks r (now (left .exit)) (now (parts .exit)) (now (frames .exit)) (now (waiting .exit)) ⌝ }
+    requires { ⌜ Testable (length (now pattern)) (length (now «record»)) (now assigned) (now parts) (now stack) marks (putByIn c) × Short (now pattern) (now «record») ⌝ }
+    ensures { λ r. ⌜ ComplementIs (now (table .entry)) (now (pattern .entry)) (now («record» .entry)) (now (assigned .entry)) (now (left .entry)) (now (parts .entry)) (now (stack .entry)) (putByIn c) marks r (now (left .exit)) (now (parts .exit)) (now (stack .exit)) ⌝ }
 {
     let from = (c % 256) as usize + 1;
     let stop = from + (c / 256 % 256) as usize;
@@ -738,8 +719,7 @@ fn complement(
         &pattern[from..stop],
         record,
         parts,
-        frames,
-        waiting,
+        stack,
         assigned,
         left,
         48,
@@ -755,27 +735,25 @@ fn complements(
     pattern: &[u8],
     record: &[u8],
     parts: &mut [u64; 49],
-    frames: &mut [u32; 256],
-    waiting: &mut [u32; 256],
+    stack: &mut [u32; 256],
     assigned: &mut u64,
     left: &mut u32,
     marks: Marks,
 ) -> Outcome
-    requires { ⌜ Resting (length (now pattern)) (length (now «record»)) (now assigned) (now parts) (now frames) (now waiting) marks × Short (now pattern) (now «record») ⌝ }
-    ensures { λ r. ⌜ ComplementsAre (now (table .entry)) (now (pattern .entry)) (now («record» .entry)) (now (assigned .entry)) (now (left .entry)) (now (parts .entry)) (now (frames .entry)) (now (waiting .entry)) marks r (now (assigned .exit)) (now (left .exit)) (now (parts .exit)) (now (frames .exit)) (now (waiting .exit)) ⌝ }
+    requires { ⌜ Resting (length (now pattern)) (length (now «record»)) (now assigned) (now parts) (now stack) marks × Short (now pattern) (now «record») ⌝ }
+    ensures { λ r. ⌜ ComplementsAre (now (table .entry)) (now (pattern .entry)) (now («record» .entry)) (now (assigned .entry)) (now (left .entry)) (now (parts .entry)) (now (stack .entry)) marks r (now (assigned .exit)) (now (left .exit)) (now (parts .exit)) (now (stack .exit)) ⌝ }
 {
     let outside = *assigned;
     let end = marks.waiting;
     let mut i = marks.first;
     while i < end {
-        let c = waiting[i];
+        let c = stack[255 - i];
         let x = complement(
             table,
             pattern,
             record,
             parts,
-            frames,
-            waiting,
+            stack,
             assigned,
             left,
             c,
@@ -860,8 +838,7 @@ pub fn search(
         };
     }
     let mut parts = [0u64; 49];
-    let mut frames = [0u32; 256];
-    let mut waiting = [0u32; 256];
+    let mut stack = [0u32; 256];
     let mut assigned: u64 = 0;
     let mut left = allowance;
     let outcome = level(
@@ -869,8 +846,7 @@ pub fn search(
         pattern,
         record,
         &mut parts,
-        &mut frames,
-        &mut waiting,
+        &mut stack,
         &mut assigned,
         &mut left,
         48,

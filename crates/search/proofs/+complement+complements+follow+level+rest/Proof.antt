@@ -46,54 +46,54 @@ use Rattle.term.proofs.extent.Reads as extent-reads
 use Rattle.search.proofs.+complement+complements+follow+level+rest.{statement}
 use Rattle.search.proofs.+complement+complements+follow+level+rest.Tie.{close}
 
-abbrev μ-complement : Measures 8 complement-kinds.ps ℕ
+abbrev μ-complement : Measures 7 complement-kinds.ps ℕ
 μ-complement κs a = 5 * levels (now (a .1 .0)) (length (now (a .1 .0)))
 
-abbrev μ-complements : Measures 8 complements-kinds.ps ℕ
+abbrev μ-complements : Measures 7 complements-kinds.ps ℕ
 μ-complements κs a = 5 * levels (now (a .1 .0)) (length (now (a .1 .0))) + 1
 
-abbrev μ-follow : Measures 8 follow-kinds.ps ℕ
-μ-follow κs a = 5 * levels (now (a .1 .0)) (a .1 .1 .1 .1 .1 .1 .1 .1 .1 .1 .0 .at) + 2
+abbrev μ-follow : Measures 7 follow-kinds.ps ℕ
+μ-follow κs a = 5 * levels (now (a .1 .0)) (a .1 .1 .1 .1 .1 .1 .1 .1 .1 .0 .at) + 2
 
-abbrev μ-level : Measures 8 level-kinds.ps ℕ
-μ-level κs a = 5 * levels (now (a .1 .0)) (a .1 .1 .1 .1 .1 .1 .1 .1 .1 .1 .1 .0 .at) + 4
+abbrev μ-level : Measures 7 level-kinds.ps ℕ
+μ-level κs a = 5 * levels (now (a .1 .0)) (a .1 .1 .1 .1 .1 .1 .1 .1 .1 .1 .0 .at) + 4
 
-abbrev μ-rest : Measures 8 rest-kinds.ps ℕ
-μ-rest κs a = 5 * levels (now (a .1 .0)) (a .1 .1 .1 .1 .1 .1 .1 .1 .1 .0 .at) + 3
+abbrev μ-rest : Measures 7 rest-kinds.ps ℕ
+μ-rest κs a = 5 * levels (now (a .1 .0)) (a .1 .1 .1 .1 .1 .1 .1 .1 .0 .at) + 3
 
-abbrev complement-at : ℕ → In 8 complement-kinds.ps
+abbrev complement-at : ℕ → In 7 complement-kinds.ps
 complement-at t =
-    and 8 complement-kinds.ps (is 8 complement-kinds.ps μ-complement t) complement.Pre
+    and 7 complement-kinds.ps (is 7 complement-kinds.ps μ-complement t) complement.Pre
 
-abbrev complement-below : ℕ → In 8 complement-kinds.ps
+abbrev complement-below : ℕ → In 7 complement-kinds.ps
 complement-below t =
-    and 8 complement-kinds.ps (falls 8 complement-kinds.ps _<_ μ-complement t) complement.Pre
+    and 7 complement-kinds.ps (falls 7 complement-kinds.ps _<_ μ-complement t) complement.Pre
 
-abbrev complements-at : ℕ → In 8 complements-kinds.ps
+abbrev complements-at : ℕ → In 7 complements-kinds.ps
 complements-at t =
-    and 8 complements-kinds.ps (is 8 complements-kinds.ps μ-complements t) complements.Pre
+    and 7 complements-kinds.ps (is 7 complements-kinds.ps μ-complements t) complements.Pre
 
-abbrev complements-below : ℕ → In 8 complements-kinds.ps
+abbrev complements-below : ℕ → In 7 complements-kinds.ps
 complements-below t =
-    and 8 complements-kinds.ps (falls 8 complements-kinds.ps _<_ μ-complements t) complements.Pre
+    and 7 complements-kinds.ps (falls 7 complements-kinds.ps _<_ μ-complements t) complements.Pre
 
-abbrev follow-at : ℕ → In 8 follow-kinds.ps
-follow-at t = and 8 follow-kinds.ps (is 8 follow-kinds.ps μ-follow t) follow.Pre
+abbrev follow-at : ℕ → In 7 follow-kinds.ps
+follow-at t = and 7 follow-kinds.ps (is 7 follow-kinds.ps μ-follow t) follow.Pre
 
-abbrev follow-below : ℕ → In 8 follow-kinds.ps
-follow-below t = and 8 follow-kinds.ps (falls 8 follow-kinds.ps _<_ μ-follow t) follow.Pre
+abbrev follow-below : ℕ → In 7 follow-kinds.ps
+follow-below t = and 7 follow-kinds.ps (falls 7 follow-kinds.ps _<_ μ-follow t) follow.Pre
 
-abbrev level-at : ℕ → In 8 level-kinds.ps
-level-at t = and 8 level-kinds.ps (is 8 level-kinds.ps μ-level t) level.Pre
+abbrev level-at : ℕ → In 7 level-kinds.ps
+level-at t = and 7 level-kinds.ps (is 7 level-kinds.ps μ-level t) level.Pre
 
-abbrev level-below : ℕ → In 8 level-kinds.ps
-level-below t = and 8 level-kinds.ps (falls 8 level-kinds.ps _<_ μ-level t) level.Pre
+abbrev level-below : ℕ → In 7 level-kinds.ps
+level-below t = and 7 level-kinds.ps (falls 7 level-kinds.ps _<_ μ-level t) level.Pre
 
-abbrev rest-at : ℕ → In 8 rest-kinds.ps
-rest-at t = and 8 rest-kinds.ps (is 8 rest-kinds.ps μ-rest t) rest.Pre
+abbrev rest-at : ℕ → In 7 rest-kinds.ps
+rest-at t = and 7 rest-kinds.ps (is 7 rest-kinds.ps μ-rest t) rest.Pre
 
-abbrev rest-below : ℕ → In 8 rest-kinds.ps
-rest-below t = and 8 rest-kinds.ps (falls 8 rest-kinds.ps _<_ μ-rest t) rest.Pre
+abbrev rest-below : ℕ → In 7 rest-kinds.ps
+rest-below t = and 7 rest-kinds.ps (falls 7 rest-kinds.ps _<_ μ-rest t) rest.Pre
 
 abbrev complement-claims : ℕ → complement-lts.Claims
 complement-claims t = (
@@ -139,8 +139,8 @@ complement-start-requires t c κs = search needs
 
 complement-level-requires : (t : ℕ) → complement-lts.Need-level-requires (complement-claims t) (complement-at t) complement.Post
 complement-level-requires t c κs =
-    let args = c .before .before .before .before .before .before .before .before .before .before .before .args in
-    let pre = c .before .before .before .before .before .before .before .before .before .before .before .pre in
+    let args = c .before .before .before .before .before .before .before .before .before .before .args in
+    let pre = c .before .before .before .before .before .before .before .before .before .before .pre in
     let w = pre .1 .0 .within in
     let d = inside-length (args .pattern .now) (putByIn (args .c)) w in
     rw (c .start .ensures, c .before .inside .ensures) (
@@ -159,8 +159,8 @@ complement-opposite-requires t c κs = search needs
 complement-returns : (t : ℕ) → complement-lts.Need-returns (complement-claims t) (complement-at t) complement.Post
 complement-returns t c =
     complement-tests _ _
-    (c .before .before .before .before .before .before .before .before .before .before .before .before .before .pre .1 .0 .within) _ _ _ _ _ _ _ _
-    (c .before .before .before .before .before .before .before .before .before .before .before .before .before .pre .1 .1 .of-pattern)
+    (c .before .before .before .before .before .before .before .before .before .before .before .before .pre .1 .0 .within) _ _ _ _ _ _ _
+    (c .before .before .before .before .before .before .before .before .before .before .before .before .pre .1 .1 .of-pattern)
     (c .before .before .before .inside .ensures) (c .before .before .start .ensures)
     (c .before .level .ensures) (c .opposite .ensures)
 
@@ -173,34 +173,37 @@ complements-claims t = (
 )
 
 abbrev complements-Inv-loop : complements-lts.InvT-loop
-complements-Inv-loop table pattern «record» parts₀ frames₀ waiting₀ assigned₀ left₀ marks outside end i₀ parts frames waiting assigned left i =
-    Testing table pattern «record» assigned₀ left₀ parts₀ frames₀ waiting₀ marks assigned left parts frames waiting i
+complements-Inv-loop table pattern «record» parts₀ stack₀ assigned₀ left₀ marks outside end i₀ parts stack assigned left i =
+    Testing table pattern «record» assigned₀ left₀ parts₀ stack₀ marks assigned left parts stack i
 
 abbrev complements-μ-loop : complements-lts.MeasureT-loop
-complements-μ-loop table pattern «record» parts₀ frames₀ waiting₀ assigned₀ left₀ marks outside end i₀ parts frames waiting assigned left i =
+complements-μ-loop table pattern «record» parts₀ stack₀ assigned₀ left₀ marks outside end i₀ parts stack assigned left i =
     marks .waiting - i
 
 complements-loop-holds : (t : ℕ) → complements-lts.Need-loop-holds (complements-claims t) (complements-at t) complements.Post complements-Inv-loop complements-μ-loop
-complements-loop-holds t c = test-first _ _ _ _ _ _ _ _ _
+complements-loop-holds t c = test-first _ _ _ _ _ _ _ _
+
+complements-sub-c : (t : ℕ) → complements-lts.Need-sub-c (complements-claims t) (complements-at t) complements.Post complements-Inv-loop complements-μ-loop
+complements-sub-c t c = omega (arith, c .before .before .before .before .before .before .pre .1 .0 .holding .holds .room)
 
 complements-mul-c : (t : ℕ) → complements-lts.Need-mul-c (complements-claims t) (complements-at t) complements.Post complements-Inv-loop complements-μ-loop
-complements-mul-c t c = omega (arith, c .before .before .before .before .before .before .pre .1 .0 .holding .holds .waiting-left)
+complements-mul-c t c = omega arith
 
 complements-element-copy-out-c : (t : ℕ) → complements-lts.Need-element-copy-out-c (complements-claims t) (complements-at t) complements.Post complements-Inv-loop complements-μ-loop
-complements-element-copy-out-c t c = omega (arith, c .before .before .before .before .before .before .pre .1 .0 .holding .holds .waiting-left)
+complements-element-copy-out-c t c = omega arith
 
 complements-complement-requires : (t : ℕ) → complements-lts.Need-complement-requires (complements-claims t) (complements-at t) complements.Post complements-Inv-loop complements-μ-loop
 complements-complement-requires t c κs =
-    let pre = c .before .before .before .before .before .before .before .before .before .before .before .before .pre in
-    (omega arith, (test-next _ _ _ _ _ _ _ _ _ (c .before .before .before .before .before .before .before .loop .inv) (c .before .before .before .before .before .before .loop-test .taken) (pre .1 .0), pre .1 .1))
+    let pre = c .before .before .before .before .before .before .before .before .before .before .before .pre in
+    (omega arith, (test-next _ _ _ _ _ _ _ _ (c .before .before .before .before .before .before .loop .inv) (c .before .before .before .before .before .loop-test .taken) (pre .1 .0), pre .1 .1))
 
 complements-is-found-requires : (t : ℕ) → complements-lts.Need-is-found-requires (complements-claims t) (complements-at t) complements.Post complements-Inv-loop complements-μ-loop
 complements-is-found-requires t c κs = search needs
 
 complements-returns : (t : ℕ) → complements-lts.Need-returns (complements-claims t) (complements-at t) complements.Post complements-Inv-loop complements-μ-loop
 complements-returns t c =
-    test-stop _ _ _ _ _ _ _ _ _ (c .before .before .before .before .before .before .before .before .before .before .loop .inv)
-    (c .before .before .before .before .before .before .before .before .before .loop-test .taken) (c .before .before .complement .ensures)
+    test-stop _ _ _ _ _ _ _ _ (c .before .before .before .before .before .before .before .before .before .loop .inv)
+    (c .before .before .before .before .before .before .before .before .loop-test .taken) (c .before .before .complement .ensures)
     (sym (c .before .is-found .ensures) ∙ not-true _ (c .if1 .taken))
 
 complements-add-i : (t : ℕ) → complements-lts.Need-add-i (complements-claims t) (complements-at t) complements.Post complements-Inv-loop complements-μ-loop
@@ -211,12 +214,12 @@ complements-loop-less t c = omega arith
 
 complements-loop-again : (t : ℕ) → complements-lts.Need-loop-again (complements-claims t) (complements-at t) complements.Post complements-Inv-loop complements-μ-loop
 complements-loop-again t c =
-    test-on _ _ _ _ _ _ _ _ _ (c .before .before .before .before .before .before .before .before .before .before .loop .inv)
-    (c .before .before .before .before .before .before .before .before .before .loop-test .taken) (c .before .before .complement .ensures)
+    test-on _ _ _ _ _ _ _ _ (c .before .before .before .before .before .before .before .before .before .loop .inv)
+    (c .before .before .before .before .before .before .before .before .loop-test .taken) (c .before .before .complement .ensures)
     (sym (c .before .is-found .ensures) ∙ not-false _ (c .if1 .left))
 
 complements-returns-2 : (t : ℕ) → complements-lts.Need-returns-2 (complements-claims t) (complements-at t) complements.Post complements-Inv-loop complements-μ-loop
-complements-returns-2 t c = test-end _ _ _ _ _ _ _ _ _ (c .before .loop .inv) (omega arith)
+complements-returns-2 t c = test-end _ _ _ _ _ _ _ _ (c .before .loop .inv) (omega arith)
 
 abbrev follow-claims : ℕ → follow-lts.Claims
 follow-claims t = (
@@ -232,11 +235,11 @@ follow-claims t = (
 
 -- the run name
 follow-ready : (t : ℕ) (c : follow-lts.After-wide (follow-claims t) (follow-at t) follow.Post)
-    → Ready (length (c .before .before .before .before .before .before .before .before .before .before .before .before .before .before .args .pattern .now)) (c .before .before .before .before .before .before .before .before .before .stop .given .0 .0) (c .before .before .before .before .before .before .before .before .before .before .before .before .before .before .args .place)
+    → Ready (length (c .before .before .before .before .before .before .before .before .before .before .before .before .before .args .pattern .now)) (c .before .before .before .before .before .before .before .before .stop .given .0 .0) (c .before .before .before .before .before .before .before .before .before .before .before .before .before .args .place)
 follow-ready t c =
-    let args = c .before .before .before .before .before .before .before .before .before .before .before .before .before .before .args in
-    subst (StopsAt (length (args .pattern .now)) (args .place)) (c .before .before .before .before .before .before .before .before .before .stop .given .1)
-    (c .before .before .before .before .before .before .before .before .before .before .before .before .before .before .pre .1 .1)
+    let args = c .before .before .before .before .before .before .before .before .before .before .before .before .before .args in
+    subst (StopsAt (length (args .pattern .now)) (args .place)) (c .before .before .before .before .before .before .before .before .stop .given .1)
+    (c .before .before .before .before .before .before .before .before .before .before .before .before .before .pre .1 .1)
 
 follow-enum-told : (t : ℕ) → follow-lts.Need-enum-told (follow-claims t) (follow-at t) follow.Post
 follow-enum-told t c = search needs
@@ -249,14 +252,14 @@ follow-enum-told-3 t c = search needs
 
 follow-complements-requires : (t : ℕ) → follow-lts.Need-complements-requires (follow-claims t) (follow-at t) follow.Post
 follow-complements-requires t c κs =
-    let pre = c .before .before .before .before .before .before .before .before .before .before .pre in
-    (omega (arith, pre .0), (record { place = c .before .before .before .before .before .before .before .before .before .before .args .place; holding = pre .1 .0 }, pre .1 .3))
+    let pre = c .before .before .before .before .before .before .before .before .before .pre in
+    (omega (arith, pre .0), (record { place = c .before .before .before .before .before .before .before .before .before .args .place; holding = pre .1 .0 }, pre .1 .3))
 
 follow-enum-known-stop : (t : ℕ) → follow-lts.Need-enum-known-stop (follow-claims t) (follow-at t) follow.Post
 follow-enum-known-stop t c = search needs
 
 follow-returns : (t : ℕ) → follow-lts.Need-returns (follow-claims t) (follow-at t) follow.Post
-follow-returns t c = follow-none _ _ _ _ _ _ _ _ _ _ _ _ (c .before .before .before .stop .given .1) (c .if1 .taken)
+follow-returns t c = follow-none _ _ _ _ _ _ _ _ _ _ _ (c .before .before .before .stop .given .1) (c .if1 .taken)
 
 follow-sub-left : (t : ℕ) → follow-lts.Need-sub-left (follow-claims t) (follow-at t) follow.Post
 follow-sub-left t c = omega arith
@@ -267,15 +270,15 @@ follow-wide-requires t c κs = search needs
 follow-passed-requires : (t : ℕ) → follow-lts.Need-passed-requires (follow-claims t) (follow-at t) follow.Post
 follow-passed-requires t c κs =
     let ready = follow-ready t c in
-    let pre = c .before .before .before .before .before .before .before .before .before .before .before .before .before .before .pre in
+    let pre = c .before .before .before .before .before .before .before .before .before .before .before .before .before .pre in
     (ready .children, omega arith, omega (arith, ready .at, pre .1 .3 .of-pattern), omega (arith, pre .1 .0 .holds .node, pre .1 .3 .of-record))
 
 follow-level-requires : (t : ℕ) → follow-lts.Need-level-requires (follow-claims t) (follow-at t) follow.Post
 follow-level-requires t c κs =
     let ready = follow-ready t (c .before) in
-    let pre = c .before .before .before .before .before .before .before .before .before .before .before .before .before .before .before .pre in
-    let unassigned = subst (Unassigned (c .before .before .before .before .before .before .before .before .before .before .before .before .before .before .before .args .assigned .now))
-    (c .before .before .before .before .before .before .before .before .before .before .stop .given .1) (pre .1 .2) in
+    let pre = c .before .before .before .before .before .before .before .before .before .before .before .before .before .before .pre in
+    let unassigned = subst (Unassigned (c .before .before .before .before .before .before .before .before .before .before .before .before .before .before .args .assigned .now))
+    (c .before .before .before .before .before .before .before .before .before .stop .given .1) (pre .1 .2) in
     rw (c .passed .ensures, c .before .wide .ensures) (
       omega (arith, pre .0, ready .at),
       (
@@ -287,20 +290,20 @@ follow-level-requires t c κs =
     )
 
 follow-returns-2 : (t : ℕ) → follow-lts.Need-returns-2 (follow-claims t) (follow-at t) follow.Post
-follow-returns-2 t c = follow-fails _ _ _ _ _ _ _ _ _ _ _ (c .enum-told .given .1)
+follow-returns-2 t c = follow-fails _ _ _ _ _ _ _ _ _ _ (c .enum-told .given .1)
 
 follow-returns-3 : (t : ℕ) → follow-lts.Need-returns-3 (follow-claims t) (follow-at t) follow.Post
-follow-returns-3 t c = follow-spent _ _ _ _ _ _ _ _ _ _ _ (c .enum-told2 .given .1)
+follow-returns-3 t c = follow-spent _ _ _ _ _ _ _ _ _ _ (c .enum-told2 .given .1)
 
 follow-returns-4 : (t : ℕ) → follow-lts.Need-returns-4 (follow-claims t) (follow-at t) follow.Post
 follow-returns-4 t c =
-    follow-tests _ _ _ _ _ _ _ _ _ _ _ (c .before .before .before .before .before .before .enum-told3 .given .1) (c .complements .ensures)
+    follow-tests _ _ _ _ _ _ _ _ _ _ (c .before .before .before .before .before .enum-told3 .given .1) (c .complements .ensures)
 
 follow-returns-5 : (t : ℕ) → follow-lts.Need-returns-5 (follow-claims t) (follow-at t) follow.Post
 follow-returns-5 t c =
-    follow-tries _ _ _ _ _ _ _ _ _ _ _ _ _ _
-    (c .before .before .before .before .before .before .before .before .before .before .before .stop .given .1) (c .before .before .wide .ensures)
-    (c .before .passed .ensures) (c .before .before .before .before .before .before .before .before .if1 .left)
+    follow-tries _ _ _ _ _ _ _ _ _ _ _ _ _
+    (c .before .before .before .before .before .before .before .before .before .before .stop .given .1) (c .before .before .wide .ensures)
+    (c .before .passed .ensures) (c .before .before .before .before .before .before .before .if1 .left)
     (follow-ready t (c .before .before) .at) (c .level .ensures)
 
 abbrev level-claims : ℕ → level-lts.Claims
@@ -320,16 +323,16 @@ level-claims t = (
 )
 
 abbrev level-Inv-loop : level-lts.InvT-loop
-level-Inv-loop table pattern «record» parts₀ frames₀ waiting₀ assigned₀ left₀ v most marks seen node place₀ n₀ parts frames waiting assigned left place n =
-    Trying table pattern «record» assigned₀ left₀ parts₀ frames₀ waiting₀ v most marks place₀ left parts frames waiting place n
+level-Inv-loop table pattern «record» parts₀ stack₀ assigned₀ left₀ v most marks seen node place₀ n₀ parts stack assigned left place n =
+    Trying table pattern «record» assigned₀ left₀ parts₀ stack₀ v most marks place₀ left parts stack place n
 
 abbrev level-μ-loop : level-lts.MeasureT-loop
-level-μ-loop table pattern «record» parts₀ frames₀ waiting₀ assigned₀ left₀ v most marks seen node place₀ n₀ parts frames waiting assigned left place n =
+level-μ-loop table pattern «record» parts₀ stack₀ assigned₀ left₀ v most marks seen node place₀ n₀ parts stack assigned left place n =
     most - n
 
 -- the variable's part is written
 level-written : (t : ℕ) (c : level-lts.After-packed (level-claims t) (level-at t) level.Post level-Inv-loop level-μ-loop)
-    → Written _ _ _ _ _ _ _ _ _ _ _ _ (c .before .before .before .loop .inv) (c .packed .result) (c .before .before .before .before .also .result)
+    → Written _ _ _ _ _ _ _ _ _ _ _ (c .before .before .before .loop .inv) (c .packed .result) (c .before .before .before .before .also .result)
 level-written t c = record {
   holding = c .before .before .before .before .before .before .before .before .before .pre .1 .0;
   free = c .before .before .before .before .before .before .before .before .before .pre .1 .1;
@@ -341,21 +344,21 @@ level-written t c = record {
 
 -- one element more stays within the record
 level-grows : (t : ℕ) (c : level-lts.After-extent (level-claims t) (level-at t) level.Post level-Inv-loop level-μ-loop)
-    → c .before .before .before .before .before .before .before .before .before .before .before .before .before .before .before .before .loop .place .node + c .extent .result ≤ length (c .before .before .before .before .before .before .before .before .before .before .before .before .before .before .before .before .before .before .before .before .before .before .args .«record» .now)
+    → c .before .before .before .before .before .before .before .before .before .before .before .before .before .before .before .loop .place .node + c .extent .result ≤ length (c .before .before .before .before .before .before .before .before .before .before .before .before .before .before .before .before .before .before .before .before .before .args .«record» .now)
 level-grows t c =
-    let loop = c .before .before .before .before .before .before .before .before .before .before .before .before .before .before .before .before .loop in
+    let loop = c .before .before .before .before .before .before .before .before .before .before .before .before .before .before .before .loop in
     omega (
       arith,
       loop .inv .within,
       c .extent .ensures .1,
-      rest-length (loop .place .node) (c .before .before .before .before .before .before .before .before .before .before .before .before .before .before .before .before .before .before .before .before .before .before .args .«record» .now),
+      rest-length (loop .place .node) (c .before .before .before .before .before .before .before .before .before .before .before .before .before .before .before .before .before .before .before .before .before .args .«record» .now),
     )
 
 level-also-requires : (t : ℕ) → level-lts.Need-also-requires (level-claims t) (level-at t) level.Post level-Inv-loop level-μ-loop
 level-also-requires t c κs = c .before .before .before .before .pre .1 .1 .below
 
 level-loop-holds : (t : ℕ) → level-lts.Need-loop-holds (level-claims t) (level-at t) level.Post level-Inv-loop level-μ-loop
-level-loop-holds t c = try-first _ _ _ _ _ _ _ _ _ _ _ _ (c .before .before .before .before .before .pre .1 .0 .holds .node)
+level-loop-holds t c = try-first _ _ _ _ _ _ _ _ _ _ _ (c .before .before .before .before .before .pre .1 .0 .holds .node)
 
 level-sub-bound : (t : ℕ) → level-lts.Need-sub-bound (level-claims t) (level-at t) level.Post level-Inv-loop level-μ-loop
 level-sub-bound t c = c .before .loop .inv .further
@@ -374,9 +377,9 @@ level-element-write-parts t c = omega (arith, c .before .before .before .before 
 
 level-rest-requires : (t : ℕ) → level-lts.Need-rest-requires (level-claims t) (level-at t) level.Post level-Inv-loop level-μ-loop
 level-rest-requires t c κs =
-    let pre = c .before .before .before .before .before .before .before .before .before .before .before .before .before .before .pre in
-    let inv = c .before .before .before .before .before .before .before .before .loop .inv in
-    (omega (arith, pre .0, inv .at), (written-holding _ _ _ _ _ _ _ _ _ _ _ _ inv (level-written t (c .before .before .before .before .before)), pre .1 .3))
+    let pre = c .before .before .before .before .before .before .before .before .before .before .before .before .before .pre in
+    let inv = c .before .before .before .before .before .before .before .loop .inv in
+    (omega (arith, pre .0, inv .at), (written-holding _ _ _ _ _ _ _ _ _ _ _ inv (level-written t (c .before .before .before .before)), pre .1 .3))
 
 level-is-failed-requires : (t : ℕ) → level-lts.Need-is-failed-requires (level-claims t) (level-at t) level.Post level-Inv-loop level-μ-loop
 level-is-failed-requires t c κs = search needs
@@ -386,11 +389,11 @@ level-sub-left t c = omega (arith, c .if3 .left)
 
 level-sub-extent : (t : ℕ) → level-lts.Need-sub-extent (level-claims t) (level-at t) level.Post level-Inv-loop level-μ-loop
 level-sub-extent t c =
-    c .before .before .before .before .before .before .before .before .before .before .before .before .before .before .loop .inv .within
+    c .before .before .before .before .before .before .before .before .before .before .before .before .before .loop .inv .within
 
 level-part-extent-start : (t : ℕ) → level-lts.Need-part-extent-start (level-claims t) (level-at t) level.Post level-Inv-loop level-μ-loop
 level-part-extent-start t c =
-    c .before .before .before .before .before .before .before .before .before .before .before .before .before .before .loop .inv .within
+    c .before .before .before .before .before .before .before .before .before .before .before .before .before .loop .inv .within
 
 level-part-extent-end : (t : ℕ) → level-lts.Need-part-extent-end (level-claims t) (level-at t) level.Post level-Inv-loop level-μ-loop
 level-part-extent-end t c = omega arith
@@ -400,18 +403,18 @@ level-extent-requires t c κs = search needs
 
 level-add-place : (t : ℕ) → level-lts.Need-add-place (level-claims t) (level-at t) level.Post level-Inv-loop level-μ-loop
 level-add-place t c =
-    let pre = c .before .before .before .before .before .before .before .before .before .before .before .before .before .before .before .before .before .before .before .before .before .before .pre in
+    let pre = c .before .before .before .before .before .before .before .before .before .before .before .before .before .before .before .before .before .before .before .before .before .pre in
     omega (arith, level-grows t c, pre .1 .3 .of-record)
 
 level-sub-place : (t : ℕ) → level-lts.Need-sub-place (level-claims t) (level-at t) level.Post level-Inv-loop level-μ-loop
 level-sub-place t c =
-    let pre = c .before .before .before .before .before .before .before .before .before .before .before .before .before .before .before .before .before .before .before .before .before .before .before .pre in
-    let inv = c .before .before .before .before .before .before .before .before .before .before .before .before .before .before .before .before .before .loop .inv in
+    let pre = c .before .before .before .before .before .before .before .before .before .before .before .before .before .before .before .before .before .before .before .before .before .before .pre in
+    let inv = c .before .before .before .before .before .before .before .before .before .before .before .before .before .before .before .before .loop .inv in
     omega (arith, inv .elements, c .before .before .before .before .before .if2 .left, pre .1 .2)
 
 level-add-n : (t : ℕ) → level-lts.Need-add-n (level-claims t) (level-at t) level.Post level-Inv-loop level-μ-loop
 level-add-n t c =
-    let fits = c .before .before .before .before .before .before .before .before .before .before .before .before .before .before .before .before .before .before .before .before .before .before .before .fits in
+    let fits = c .before .before .before .before .before .before .before .before .before .before .before .before .before .before .before .before .before .before .before .before .before .before .fits in
     omega (arith, c .before .before .before .before .before .if2 .left, fits .most)
 
 level-loop-less : (t : ℕ) → level-lts.Need-loop-less (level-claims t) (level-at t) level.Post level-Inv-loop level-μ-loop
@@ -419,30 +422,30 @@ level-loop-less t c = omega (arith, c .before .before .before .before .before .i
 
 level-loop-again : (t : ℕ) → level-lts.Need-loop-again (level-claims t) (level-at t) level.Post level-Inv-loop level-μ-loop
 level-loop-again t c =
-    try-more _ _ _ _ _ _ _ _ _ _ _ _
-    (c .before .before .before .before .before .before .before .before .before .before .before .before .before .before .before .before .before .loop .inv)
-    (level-written t (c .before .before .before .before .before .before .before .before .before .before .before .before .before .before))
+    try-more _ _ _ _ _ _ _ _ _ _ _
+    (c .before .before .before .before .before .before .before .before .before .before .before .before .before .before .before .before .loop .inv)
+    (level-written t (c .before .before .before .before .before .before .before .before .before .before .before .before .before))
     (c .before .before .before .before .before .before .before .before .rest .ensures)
     (sym (c .before .before .before .before .before .before .before .is-failed .ensures) ∙ not-false _ (c .before .before .before .before .before .before .if1 .left)) (omega (arith, c .before .before .before .before .before .if2 .left)) (c .before .before .before .if3 .left) _ (c .before .extent .result)
     (c .before .extent .ensures .0) refl refl refl refl (level-grows t (c .before))
 
 level-returns : (t : ℕ) → level-lts.Need-returns (level-claims t) (level-at t) level.Post level-Inv-loop level-μ-loop
 level-returns t c =
-    try-hit _ _ _ _ _ _ _ _ _ _ _ _ (c .before .before .before .before .before .before .before .before .before .before .before .loop .inv)
-    (level-written t (c .before .before .before .before .before .before .before .before)) (c .before .before .rest .ensures)
+    try-hit _ _ _ _ _ _ _ _ _ _ _ (c .before .before .before .before .before .before .before .before .before .before .loop .inv)
+    (level-written t (c .before .before .before .before .before .before .before)) (c .before .before .rest .ensures)
     (sym (c .before .is-failed .ensures) ∙ not-true _ (c .if1 .taken))
 
 level-returns-2 : (t : ℕ) → level-lts.Need-returns-2 (level-claims t) (level-at t) level.Post level-Inv-loop level-μ-loop
 level-returns-2 t c =
-    try-last _ _ _ _ _ _ _ _ _ _ _ _ (c .before .before .before .before .before .before .before .before .before .before .before .before .loop .inv)
-    (level-written t (c .before .before .before .before .before .before .before .before .before)) (c .before .before .before .rest .ensures)
+    try-last _ _ _ _ _ _ _ _ _ _ _ (c .before .before .before .before .before .before .before .before .before .before .before .loop .inv)
+    (level-written t (c .before .before .before .before .before .before .before .before)) (c .before .before .before .rest .ensures)
     (c .if2 .taken)
 
 level-returns-3 : (t : ℕ) → level-lts.Need-returns-3 (level-claims t) (level-at t) level.Post level-Inv-loop level-μ-loop
 level-returns-3 t c =
-    try-spent _ _ _ _ _ _ _ _ _ _ _ _
-    (c .before .before .before .before .before .before .before .before .before .before .before .before .before .before .loop .inv)
-    (level-written t (c .before .before .before .before .before .before .before .before .before .before .before))
+    try-spent _ _ _ _ _ _ _ _ _ _ _
+    (c .before .before .before .before .before .before .before .before .before .before .before .before .before .loop .inv)
+    (level-written t (c .before .before .before .before .before .before .before .before .before .before))
     (c .before .before .before .before .before .rest .ensures)
     (sym (c .before .before .before .before .is-failed .ensures) ∙ not-false _ (c .before .before .before .if1 .left)) (omega (arith, c .before .before .if2 .left)) (c .if3 .taken)
 
@@ -457,27 +460,27 @@ rest-claims t = (
 )
 
 rest-walk-requires : (t : ℕ) → rest-lts.Need-walk-requires (rest-claims t) (rest-at t) rest.Post
-rest-walk-requires t c κs = c .before .before .before .before .before .before .before .before .pre .1
+rest-walk-requires t c κs = c .before .before .before .before .before .before .before .pre .1
 
 rest-is-failure-requires : (t : ℕ) → rest-lts.Need-is-failure-requires (rest-claims t) (rest-at t) rest.Post
 rest-is-failure-requires t c κs = search needs
 
 rest-returns : (t : ℕ) → rest-lts.Need-returns (rest-claims t) (rest-at t) rest.Post
 rest-returns t c =
-    rest-fails (c .before .before .before .before .before .before .before .before .before .before .before .before .before .pre .1 .0)
+    rest-fails (c .before .before .before .before .before .before .before .before .before .before .before .before .pre .1 .0)
     (c .before .before .before .before .walk .ensures) (sym (c .before .is-failure .ensures) ∙ c .if1 .taken)
 
 rest-follow-requires : (t : ℕ) → rest-lts.Need-follow-requires (rest-claims t) (rest-at t) rest.Post
 rest-follow-requires t c κs =
-    let pre = c .before .before .before .before .before .before .before .before .before .before .before .before .before .before .before .before .before .before .pre in
-    let w = c .before .before .before .before .before .before .before .before .before .walk .ensures (pre .1 .0 .state) (pre .1 .0 .holds) in
+    let pre = c .before .before .before .before .before .before .before .before .before .before .before .before .before .before .before .before .pre in
+    let w = c .before .before .before .before .before .before .before .before .walk .ensures (pre .1 .0 .state) (pre .1 .0 .holds) in
     (omega (arith, pre .0, w .further), (record { state = w .end; holds = w .holds }, w .stops, w .unassigned, pre .1 .1))
 
 rest-returns-2 : (t : ℕ) → rest-lts.Need-returns-2 (rest-claims t) (rest-at t) rest.Post
 rest-returns-2 t c =
     rest-follows
-    (c .before .before .before .before .before .before .before .before .before .before .before .before .before .before .before .before .before .before .before .pre .1 .0)
-    (c .before .before .before .before .before .before .before .before .before .before .walk .ensures) (c .follow .ensures)
+    (c .before .before .before .before .before .before .before .before .before .before .before .before .before .before .before .before .before .pre .1 .0)
+    (c .before .before .before .before .before .before .before .before .before .walk .ensures) (c .follow .ensures)
 
 pub +complement+complements+follow+level+rest-spec : {M : Type 1} → statement M
 +complement+complements+follow+level+rest-spec =
@@ -505,6 +508,7 @@ pub +complement+complements+follow+level+rest-spec : {M : Type 1} → statement 
     complements-Inv-loop
     complements-μ-loop
     (complements-loop-holds t)
+    (complements-sub-c t)
     (complements-mul-c t)
     (complements-element-copy-out-c t)
     (complements-complement-requires t)

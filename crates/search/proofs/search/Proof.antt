@@ -29,13 +29,13 @@ start-requires : tie.Need-start-requires
 start-requires c κs = search needs
 
 -- the buffers as they are made
-sized : Sized (replicate 49 0) (replicate 256 0) (replicate 256 0)
-sized = record { of-parts = refl; of-frames = refl; of-waiting = refl }
+sized : Sized (replicate 49 0) (replicate 256 0)
+sized = record { of-parts = refl; of-stack = refl }
 
 level-requires : tie.Need-level-requires
 level-requires c κs =
     rw (c .start .ensures) (
-      record { state = startOf (replicate 48 absent) 0; holds = first-holds _ _ _ _ _ (omega arith) sized },
+      record { state = startOf (replicate 48 absent) 0; holds = first-holds _ _ _ _ (omega arith) sized },
       none-free,
       omega arith,
       record
@@ -52,7 +52,7 @@ returns-3 : tie.Need-returns-3
 returns-3 c =
     let entered = c .before .before .before .before .before in
     within-shows _ _ _ _ _ _ _ _ _ _ (c .before .before .show .ensures)
-    (search-within _ _ _ _ _ _ _ (omega arith) (omega arith) sized (entered .before .start .ensures) (entered .level .ensures))
+    (search-within _ _ _ _ _ _ (omega arith) (omega arith) sized (entered .before .start .ensures) (entered .level .ensures))
 
 pub search-spec : {M : Type 1} → statement M
 search-spec =

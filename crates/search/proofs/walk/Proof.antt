@@ -32,12 +32,12 @@ use Rattle.search.proofs.walk.Tie as tie
 use Rattle.search.proofs.wide.Reads as wide-reads
 
 abbrev Inv-loop : tie.InvT-loop
-Inv-loop table pattern «record» parts₀ frames₀ waiting₀ assigned₀ left₀ marks₀ place₀ parts frames waiting assigned left marks place =
-    (s₀ : State) → Holds (length pattern) (length «record») assigned₀ parts₀ frames₀ waiting₀ marks₀ place₀ s₀
-    → Walking table pattern «record» assigned₀ left₀ parts₀ frames₀ waiting₀ marks₀ place₀ s₀ parts frames waiting place marks assigned left
+Inv-loop table pattern «record» parts₀ stack₀ assigned₀ left₀ marks₀ place₀ parts stack assigned left marks place =
+    (s₀ : State) → Holds (length pattern) (length «record») assigned₀ parts₀ stack₀ marks₀ place₀ s₀
+    → Walking table pattern «record» assigned₀ left₀ parts₀ stack₀ marks₀ place₀ s₀ parts stack place marks assigned left
 
 abbrev μ-loop : tie.MeasureT-loop
-μ-loop table pattern «record» parts₀ frames₀ waiting₀ assigned₀ left₀ marks₀ place₀ parts frames waiting assigned left marks place =
+μ-loop table pattern «record» parts₀ stack₀ assigned₀ left₀ marks₀ place₀ parts stack assigned left marks place =
     512 * (length pattern - place .at) + marks .inner
 
 abbrev claims : lts.Claims
@@ -76,17 +76,15 @@ module _ (c : lts.After-step-of claims reads.Pre reads.Post Inv-loop μ-loop) wh
       → Holds (length (c .before .before .before .before .before .before .args .pattern .now))
       (length (c .before .before .before .before .before .before .args .«record» .now))
       (c .before .before .before .before .before .before .args .assigned) (c .before .before .before .before .before .before .args .parts .now)
-      (c .before .before .before .before .before .before .args .frames .now)
-      (c .before .before .before .before .before .before .args .waiting .now)
+      (c .before .before .before .before .before .before .args .stack .now)
       (c .before .before .before .before .before .before .args .marks) (c .before .before .before .before .before .before .args .place) s₀
       → Turn (c .before .before .before .before .before .before .args .table .now)
       (c .before .before .before .before .before .before .args .pattern .now)
       (c .before .before .before .before .before .before .args .«record» .now) (c .before .before .before .before .before .before .args .assigned)
       (c .before .before .before .before .before .before .args .left) (c .before .before .before .before .before .before .args .parts .now)
-      (c .before .before .before .before .before .before .args .frames .now)
-      (c .before .before .before .before .before .before .args .waiting .now) (c .before .before .before .before .before .before .args .marks)
-      (c .before .before .before .before .before .before .args .place) s₀ (c .before .before .loop .parts) (c .before .before .loop .frames)
-      (c .before .before .loop .waiting) (c .before .before .loop .place) (c .before .before .loop .marks) (c .before .before .loop .assigned)
+      (c .before .before .before .before .before .before .args .stack .now) (c .before .before .before .before .before .before .args .marks)
+      (c .before .before .before .before .before .before .args .place) s₀ (c .before .before .loop .parts) (c .before .before .loop .stack)
+      (c .before .before .loop .place) (c .before .before .loop .marks) (c .before .before .loop .assigned)
       (c .before .before .loop .left) (c .step-of .result)
   turn s₀ h = record { walking = c .before .before .loop .inv s₀ h; is-step = c .step-of .ensures }
 
@@ -100,18 +98,18 @@ module _ (c : lts.After-step-of claims reads.Pre reads.Post Inv-loop μ-loop) wh
       (partIn (c .before .before .loop .assigned) (c .before .before .loop .parts)
       (variableAt (c .before .before .before .before .before .before .args .pattern .now) (c .before .before .loop .place .at)))
       (c .before .before .loop .place) (c .before .before .loop .left) y
-  asks = asked _ _ _ _ _ _ _ _ _ _ _
+  asks = asked _ _ _ _ _ _ _ _ _ _
       (turn (c .before .before .before .before .before .before .pre .0 .state) (c .before .before .before .before .before .before .pre .0 .holds))
 
   inside : c .step-of .result ≡ Closes
       → (0 < c .before .before .loop .marks .inner) ×
-      (outer (getD (c .before .before .loop .frames) (c .before .before .loop .marks .inner - 1) 0) < c .before .before .loop .marks .inner)
-  inside = closes-inside _ _ _ _ _ _ _ _ _ _ _
+      (outer (getD (c .before .before .loop .stack) (c .before .before .loop .marks .inner - 1) 0) < c .before .before .loop .marks .inner)
+  inside = closes-inside _ _ _ _ _ _ _ _ _ _
       (turn (c .before .before .before .before .before .before .pre .0 .state) (c .before .before .before .before .before .before .pre .0 .holds))
 
   held : Holding (length (c .before .before .before .before .before .before .args .pattern .now))
       (length (c .before .before .before .before .before .before .args .«record» .now)) (c .before .before .loop .assigned)
-      (c .before .before .loop .parts) (c .before .before .loop .frames) (c .before .before .loop .waiting) (c .before .before .loop .marks)
+      (c .before .before .loop .parts) (c .before .before .loop .stack) (c .before .before .loop .marks)
       (c .before .before .loop .place)
   held = record {
     state = _;
@@ -120,7 +118,7 @@ module _ (c : lts.After-step-of claims reads.Pre reads.Post Inv-loop μ-loop) wh
   }
 
 loop-holds : tie.Need-loop-holds Inv-loop μ-loop
-loop-holds c = λ s₀ h. walk-starts _ _ _ _ _ _ _ _ _ _ _ (c .before .before .before .pre .1) h
+loop-holds c = λ s₀ h. walk-starts _ _ _ _ _ _ _ _ _ _ (c .before .before .before .pre .1) h
 
 step-of-requires : tie.Need-step-of-requires Inv-loop μ-loop
 step-of-requires c κs = c .before .loop .inv (c .before .before .before .before .before .pre .0 .state)
@@ -171,7 +169,7 @@ loop-less c =
 loop-again : tie.Need-loop-again Inv-loop μ-loop
 loop-again c =
     rw (c .closed .ensures, c .before .reopened .ensures)
-    (λ s₀ h. walk-closes _ _ _ _ _ _ _ _ _ _ _ (turn (c .before .before .before .before .before .before) s₀ h)
+    (λ s₀ h. walk-closes _ _ _ _ _ _ _ _ _ _ (turn (c .before .before .before .before .before .before) s₀ h)
     (c .before .before .before .before .enum-told2 .given .1))
 
 enum-known-step-2 : tie.Need-enum-known-step-2 Inv-loop μ-loop
@@ -188,14 +186,14 @@ frame-requires c κs =
     let h = held (c .before .before .before) in
     (k .children, k .elements, omega arith)
 
-mul-frames : tie.Need-mul-frames Inv-loop μ-loop
-mul-frames c =
+mul-stack : tie.Need-mul-stack Inv-loop μ-loop
+mul-stack c =
     let k = asks (c .before .before .before .before) _ (c .before .before .step2 .given .1) in
     let h = held (c .before .before .before .before) in
     omega arith
 
-element-write-frames : tie.Need-element-write-frames Inv-loop μ-loop
-element-write-frames c =
+element-write-stack : tie.Need-element-write-stack Inv-loop μ-loop
+element-write-stack c =
     let k = asks (c .before .before .before .before) _ (c .before .before .step2 .given .1) in
     let h = held (c .before .before .before .before) in
     omega arith
@@ -221,7 +219,7 @@ loop-less-2 c =
 loop-again-2 : tie.Need-loop-again-2 Inv-loop μ-loop
 loop-again-2 c =
     rw (c .opened .ensures, c .before .entered .ensures)
-    (λ s₀ h. walk-opens _ _ _ _ _ _ _ _ _ _ _ (turn (c .before .before .before .before .before .before) s₀ h) _ _ _ _
+    (λ s₀ h. walk-opens _ _ _ _ _ _ _ _ _ _ (turn (c .before .before .before .before .before .before) s₀ h) _ _ _ _
     (c .before .before .before .before .step2 .given .1) (c .before .before .frame .ensures))
 
 enum-known-step-3 : tie.Need-enum-known-step-3 Inv-loop μ-loop
@@ -246,7 +244,7 @@ loop-less-3 c =
 loop-again-3 : tie.Need-loop-again-3 Inv-loop μ-loop
 loop-again-3 c =
     rw (c .passed .ensures)
-    (λ s₀ h. walk-passes _ _ _ _ _ _ _ _ _ _ _ (turn (c .before .before .before .before) s₀ h) _ _ (c .before .before .step3 .given .1))
+    (λ s₀ h. walk-passes _ _ _ _ _ _ _ _ _ _ (turn (c .before .before .before .before) s₀ h) _ _ (c .before .before .step3 .given .1))
 
 enum-known-step-4 : tie.Need-enum-known-step-4 Inv-loop μ-loop
 enum-known-step-4 c = search needs
@@ -301,7 +299,7 @@ loop-again-4 c =
       c .before .before .before .bound .ensures,
       c .before .before .before .before .wide .ensures,
     )
-    (λ s₀ h. walk-binds _ _ _ _ _ _ _ _ _ _ _ (turn (c .before .before .before .before .before .before .before .before) s₀ h) _ _
+    (λ s₀ h. walk-binds _ _ _ _ _ _ _ _ _ _ (turn (c .before .before .before .before .before .before .before .before) s₀ h) _ _
     (c .before .before .before .before .before .before .step4 .given .1)
     (short (c .before .before .before .before .before .before .before .before)))
 
@@ -320,17 +318,17 @@ complement-requires c κs =
     let l = short (c .before .before .before) in
     (k .some, omega arith, omega arith)
 
-mul-waiting : tie.Need-mul-waiting Inv-loop μ-loop
-mul-waiting c =
+sub-stack : tie.Need-sub-stack Inv-loop μ-loop
+sub-stack c =
     let k = asks (c .before .before .before .before) _ (c .before .before .step5 .given .1) in
     let h = held (c .before .before .before .before) in
     omega arith
 
-element-write-waiting : tie.Need-element-write-waiting Inv-loop μ-loop
-element-write-waiting c =
-    let k = asks (c .before .before .before .before) _ (c .before .before .step5 .given .1) in
-    let h = held (c .before .before .before .before) in
-    omega arith
+mul-stack-2 : tie.Need-mul-stack-2 Inv-loop μ-loop
+mul-stack-2 c = omega arith
+
+element-write-stack-2 : tie.Need-element-write-stack-2 Inv-loop μ-loop
+element-write-stack-2 c = omega arith
 
 passed-requires-3 : tie.Need-passed-requires-3 Inv-loop μ-loop
 passed-requires-3 c κs =
@@ -352,14 +350,14 @@ loop-less-5 c =
 loop-again-5 : tie.Need-loop-again-5 Inv-loop μ-loop
 loop-again-5 c =
     rw (c .put-by .ensures, c .before .passed3 .ensures)
-    (λ s₀ h. walk-puts _ _ _ _ _ _ _ _ _ _ _ (turn (c .before .before .before .before .before .before) s₀ h) _ _ _
+    (λ s₀ h. walk-puts _ _ _ _ _ _ _ _ _ _ (turn (c .before .before .before .before .before .before) s₀ h) _ _ _
     (c .before .before .before .before .step5 .given .1) (c .before .before .complement .ensures))
 
 returns : tie.Need-returns Inv-loop μ-loop
-returns c = λ s₀ h. walk-stops _ _ _ _ _ _ _ _ _ _ _ (turn (c .before .before .before) s₀ h) _ (c .before .step .given .1)
+returns c = λ s₀ h. walk-stops _ _ _ _ _ _ _ _ _ _ (turn (c .before .before .before) s₀ h) _ (c .before .step .given .1)
 
 returns-2 : tie.Need-returns-2 Inv-loop μ-loop
-returns-2 c = λ s₀ h. walk-fails _ _ _ _ _ _ _ _ _ _ _ (turn (c .before .before) s₀ h) (c .enum-told .given .1)
+returns-2 c = λ s₀ h. walk-fails _ _ _ _ _ _ _ _ _ _ (turn (c .before .before) s₀ h) (c .enum-told .given .1)
 
 pub walk-spec : {M : Type 1} → statement M
 walk-spec =
@@ -383,8 +381,8 @@ walk-spec =
     enum-known-step-2
     sub-left-2
     frame-requires
-    mul-frames
-    element-write-frames
+    mul-stack
+    element-write-stack
     entered-requires
     opened-requires
     loop-less-2
@@ -408,8 +406,9 @@ walk-spec =
     enum-known-step-5
     sub-left-5
     complement-requires
-    mul-waiting
-    element-write-waiting
+    sub-stack
+    mul-stack-2
+    element-write-stack-2
     passed-requires-3
     put-by-requires
     loop-less-5
