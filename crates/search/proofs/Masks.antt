@@ -1,14 +1,14 @@
 -- The laws of what is kept as a number: the mask of the assigned variables, a part, an open node, a complement put by.
 -- Assumes nothing.
 use Prim.Native.Nat.{ℕ, suc, _+_, _-_, _*_, _/_, _%_, _^_, _<_, _≤_, max}
-use native.Mathlib.Nat.{max-zero, max-le, le-max-right, pow-suc, zero-div}
+use native.Mathlib.Nat.{max-zero, max-le, le-max-right, pow-suc, lt-of-lt-of-le, mod-lt, div-eq-of-lt}
 use native.Mathlib.Omega.{arith}
 use mathlib.Core.Bool.{Bool, true, false}
 use mathlib.Core.Path.{_≡_, refl, sym, _∙_, ap, subst}
 use lib.Bits.{bitOr, or-step, or-shr}
 use lib.Dec.{eqb, ltb}
-use lib.Pow.{pow-lt, pow-add, shl-shr, shr-lt, shr-shr, field, mod-mod-pow}
-use borrow.Author.Tests.{eqb-true, eqb-false, ltb-true, ltb-false, eq-eqb, ne-eqb}
+use lib.Pow.{pow-pos, pow-mono, pow-lt, pow-add, shl-shr, shr-lt, split, field, mod-mod-pow}
+use borrow.Author.Tests.{eqb-true, eqb-false, ltb-true, ltb-false, eq-eqb}
 use Rattle.term.specs.Part.{part, boundPart}
 use Rattle.search.specs.Memory.{bit, packed, unpacked, frameIn, outer, putByIn}
 use Rattle.search.specs.State.{frame, putBy}
@@ -85,23 +85,44 @@ bit-still a i v h = by (eqb i v) refl
     by true e = ap (λ (n : ℕ). bit (bitOr a (2 ^ n)) v) (eqb-true i v e) ∙ bit-new a v
     by false e = bit-other a i v (eqb-false i v e) ∙ h
 
--- none from i on is in a mask of 48 variables that is 0 from there on
-pub none-from : (a i : ℕ) → a % 281474976710656 / 2 ^ i ≡ 0 → (v : ℕ) → i ≤ v → v < 48 → bit a v ≡ false
-none-from a i e v h l = ne-eqb (a / 2 ^ v % 2) 1 (λ z. omega (arith, z, odd))
+-- a mask of n variables
+
+none-past : {a n v : ℕ} → a < 2 ^ n → n ≤ v → a / 2 ^ v ≡ 0
+none-past l h = div-eq-of-lt (lt-of-lt-of-le l (pow-mono h))
+
+pub below : (a n i : ℕ) → a < 2 ^ n → 0 < a / 2 ^ i → i < n
+below a n i l h = by (ltb i n) refl
   where
-    all : 48 ≡ 48 - suc v + 1 + v
-    all = omega arith
+    by : (b : Bool) → ltb i n ≡ b → i < n
+    by true e = ltb-true i n e
+    by false e = absurd (omega (arith, h, none-past {n = n} {v = i} l (ltb-false i n e)))
 
-    here : v ≡ i + (v - i)
-    here = omega arith
+pub whole : (a n : ℕ) → a / 2 ^ n ≡ 0 → a % 2 ^ n ≡ a
+whole a n e = by (2 ^ n) (split a n)
+  where
+    by : (k : ℕ) → a / 2 ^ n * k + a % 2 ^ n ≡ a → a % 2 ^ n ≡ a
+    by k s = let z : 0 * k ≡ 0 = omega arith in omega (arith, sym (ap (λ (q : ℕ). q * k) e ∙ z), s)
 
-    rest : a / 2 ^ v % 2 ^ (48 - suc v + 1) ≡ 0
-    rest =
-        sym (field a (48 - suc v + 1) v) ∙ ap (λ (n : ℕ). a % 2 ^ n / 2 ^ v) (sym all) ∙ ap (λ (n : ℕ). a % 281474976710656 / 2 ^ n) here
-        ∙ sym (shr-shr (a % 281474976710656) i (v - i)) ∙ ap (λ (n : ℕ). n / 2 ^ (v - i)) e ∙ zero-div (2 ^ (v - i))
+-- the variables below n in a mask
 
-    odd : a / 2 ^ v % 2 ≡ 0
-    odd = sym (mod-mod-pow (a / 2 ^ v) (48 - suc v) 1) ∙ ap (λ (n : ℕ). n % 2 ^ 1) rest
+pub bit-below : (a n v : ℕ) → v < n → bit (a % 2 ^ n) v ≡ bit a v
+bit-below a n v h =
+    let z : n ≡ n - suc v + 1 + v = omega arith in
+    ap (λ (k : ℕ). eqb (k % 2) 1) (ap (λ (k : ℕ). a % 2 ^ k / 2 ^ v) z ∙ field a (n - suc v + 1) v)
+    ∙ ap (λ (k : ℕ). eqb k 1) (mod-mod-pow (a / 2 ^ v) (n - suc v) 1)
+
+pub bit-past : (a n v : ℕ) → n ≤ v → bit (a % 2 ^ n) v ≡ false
+bit-past a n v h = ap (λ (k : ℕ). eqb (k % 2) 1) (none-past {n = n} {v = v} (mod-lt a (pow-pos n)) h)
+
+pub bit-next : (a n v : ℕ) → (v ≡ n → ⊥) → bit (a % 2 ^ n) v ≡ bit (a % 2 ^ (n + 1)) v
+bit-next a n v d = by (ltb v n) refl
+  where
+    by : (b : Bool) → ltb v n ≡ b → bit (a % 2 ^ n) v ≡ bit (a % 2 ^ (n + 1)) v
+    by true e = let l = ltb-true v n e in bit-below a n v l ∙ sym (bit-below a (n + 1) v (omega arith))
+    by false e = let l = ltb-false v n e in bit-past a n v l ∙ sym (bit-past a (n + 1) v (arrange l d))
+      where
+        arrange : n ≤ v → (v ≡ n → ⊥) → n + 1 ≤ v
+        arrange l d = omega arith
 
 -- Numbers that are packed into one
 

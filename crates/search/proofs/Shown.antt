@@ -1,15 +1,15 @@
 -- What a search shows in the answer buffer.
 -- Assumes nothing.
-use Prim.Native.Nat.{ℕ, zero, suc, _+_, _-_, _*_, _/_, _%_, _^_, _<_, _≤_}
+use Prim.Native.Nat.{ℕ, zero, suc, _+_, _*_, _/_, _%_, _^_, _<_, _≤_}
 use native.Mathlib.Omega.{arith}
 use native.Mathlib.Numerals.{add-one}
 use mathlib.Core.Path.{_≡_, refl, sym, _∙_, ap, ap₂}
-use mathlib.Core.List.{List, [], _∷_, _++_, append-assoc}
-use mathlib.Core.Bool.{true, false, _&&_, true≢false}
-use lib.ListN.{length, getD, take, drop, set, replicate, length-set, length-drop, take-append-drop, getD-replicate}
-use lib.Seq.{take-all, drop-nil, drop-append-le, getD-drop, ext-getD, paste, paste-zero, paste-suc}
+use mathlib.Core.List.{List, [], _∷_, _++_}
+use mathlib.Core.Bool.{Bool, true, false, _&&_, true≢false}
+use lib.ListN.{length, getD, drop, set, replicate, length-set, getD-replicate}
+use lib.Seq.{getD-set-same, getD-set-other, set-append-left, drop-at, paste, paste-zero, paste-suc}
 use lib.Dec.{leb, eqb}
-use borrow.Author.Tests.{lt-ltb, le-ltb, eqb-true}
+use borrow.Author.Tests.{lt-ltb, le-ltb, eqb-true, eqb-false}
 use Rattle.term.specs.Part.{part, absent}
 use Rattle.term.specs.declared.Part.{Part}
 use Rattle.search.specs.Level.{Reply, endOf, searchOf}
@@ -19,7 +19,8 @@ use Rattle.search.specs.Replies.{found, partsIn, replyOf}
 use Rattle.search.specs.declared.Ended.{Ended}
 use Rattle.search.specs.declared.Outcome.{Outcome}
 use Rattle.search.specs.declared.Outcome.the-variants.{Found, Failed, Spent}
-use Rattle.search.proofs.Masks.{none-from}
+use Rattle.search.proofs.Masks.{whole, bit-below, bit-past, bit-next}
+use Rattle.search.proofs.Kept.{parts-shown}
 use Rattle.search.proofs.Levels.{search-over}
 
 -- the numbers of parts
@@ -42,27 +43,26 @@ numbers-size (p ∷ ps) (suc v) h =
     let z : 2 * suc v + 1 ≡ suc (suc (2 * v + 1)) = omega arith in
     ap (λ (i : ℕ). getD (numbers (p ∷ ps)) i 0) z ∙ numbers-size ps v (omega arith)
 
-numbers-drop : (ps : List Part) (i : ℕ) → drop (2 * i) (numbers ps) ≡ numbers (drop i ps)
-numbers-drop ps zero = refl
-numbers-drop [] (suc i) = drop-nil (2 * suc i)
-numbers-drop (p ∷ ps) (suc i) =
-    let z : 2 * suc i ≡ suc (suc (2 * i)) = omega arith in
-    ap (λ (n : ℕ). drop n (numbers (p ∷ ps))) z ∙ numbers-drop ps i
+pair-set : (ps : List Part) (v : ℕ) (p : Part) → set (set (numbers ps) (2 * v) (p .offset)) (2 * v + 1) (p .length) ≡ numbers (set ps v p)
+pair-set [] v p = refl
+pair-set (q ∷ ps) zero p = refl
+pair-set (q ∷ ps) (suc v) p =
+    let z : 2 * suc v ≡ suc (suc (2 * v)) = omega arith in
+    let y : suc (suc (2 * v)) + 1 ≡ suc (suc (2 * v + 1)) = omega arith in
+    rw (z, y) (ap (λ (l : List ℕ). q .offset ∷ q .length ∷ l) (pair-set ps v p))
 
-rest-absent : (ps : List Part) → length ps ≡ 48 → (i : ℕ) → ((v : ℕ) → i ≤ v → v < 48 → getD ps v (part 0 0 0) ≡ absent)
-    → drop i (replicate 48 absent) ≡ drop i ps
-rest-absent ps all i h =
-    ext-getD (part 0 0 0) (drop i (replicate 48 absent)) (drop i ps)
-    (length-drop i (replicate 48 absent) ∙ ap (λ (n : ℕ). n - i) (sym all) ∙ sym (length-drop i ps))
-    (λ j l.
-    let low : i + j < 48 = omega (arith, l, length-drop i (replicate 48 absent)) in
-    getD-drop i (replicate 48 absent) j (part 0 0 0) ∙ getD-replicate 48 (i + j) absent (part 0 0 0) low
-    ∙ sym (getD-drop i ps j (part 0 0 0) ∙ h (i + j) (omega arith) low))
+pair-shown : (ps : List Part) (rest : List ℕ) (i : ℕ) (p : Part) → i < length ps
+    → set (set (numbers ps ++ rest) (2 * i) (p .offset)) (2 * i + 1) (p .length) ≡ numbers (set ps i p) ++ rest
+pair-shown ps rest i p h =
+    ap (λ (l : List ℕ). set l (2 * i + 1) (p .length)) (set-append-left (numbers ps) rest (2 * i) (p .offset) (omega (arith, numbers-length ps)))
+    ∙ set-append-left (set (numbers ps) (2 * i) (p .offset)) rest (2 * i + 1) (p .length)
+    (omega (arith, numbers-length ps, length-set (numbers ps) (2 * i) (p .offset)))
+    ∙ ap (λ (l : List ℕ). l ++ rest) (pair-set ps i p)
 
 -- the parts that mask and parts stand for
 
 module _ (assigned : ℕ) (parts : List ℕ) where
-  pub parts-length : (v k : ℕ) → length (partsIn assigned parts v k) ≡ k
+  parts-length : (v k : ℕ) → length (partsIn assigned parts v k) ≡ k
   unfolding partsIn
   parts-length v zero = refl
   parts-length v (suc k) = ap suc (parts-length (v + 1) k)
@@ -73,79 +73,131 @@ module _ (assigned : ℕ) (parts : List ℕ) where
   parts-from v (suc k) zero h = let z : v ≡ v + 0 = omega arith in ap (partIn assigned parts) z
   parts-from v (suc k) (suc i) h = let z : v + 1 + i ≡ v + suc i = omega arith in parts-from (v + 1) k i (omega arith) ∙ ap (partIn assigned parts) z
 
-  pub parts-at : (i : ℕ) → i < 48 → getD (partsIn assigned parts 0 48) i (part 0 0 0) ≡ partIn assigned parts i
-  parts-at i h = let z : 0 + i ≡ i = omega arith in parts-from 0 48 i h ∙ ap (partIn assigned parts) z
+-- absent marks for all
 
-  pub none-at : (i : ℕ) → eqb (assigned % 281474976710656 / 2 ^ i) 0 ≡ true → (v : ℕ) → i ≤ v → v < 48
-      → getD (partsIn assigned parts 0 48) v (part 0 0 0) ≡ absent
-  none-at i e v h l = parts-at v l ∙ rw (none-from assigned i (eqb-true _ 0 e) v h l)
+abbrev marks : List ℕ
+marks = numbers (replicate 48 absent)
 
--- the pairs of the first i of these 48 parts are written
-pub record Writing (ps : List Part) (before b : List ℕ) (i : ℕ) : Type 0 where
+-- the first i pairs are absent marks
+pub record Clearing (before b : List ℕ) (i : ℕ) : Type 0 where
   pub few : i ≤ 48
   pub long : length b ≡ length before
-  pub pairs : b ≡ paste before 0 (numbers ps) (2 * i)
+  pub pairs : b ≡ paste before 0 marks (2 * i)
 
-pub write-first : (ps : List Part) (before : List ℕ) → Writing ps before before 0
-write-first ps before = record { few = omega arith; long = refl; pairs = paste-zero before 0 (numbers ps) }
+pub clear-first : (before : List ℕ) → Clearing before before 0
+clear-first before = record { few = omega arith; long = refl; pairs = paste-zero before 0 marks }
 
-module _ (ps : List Part) (all : length ps ≡ 48) (before : List ℕ) where
-  number-written : 96 ≤ length before → (n m : ℕ) → n < 96 → m ≡ getD (numbers ps) n 0
-      → set (paste before 0 (numbers ps) n) n m ≡ paste before 0 (numbers ps) (suc n)
-  number-written wide n m h e =
+module _ (before : List ℕ) where
+  mark-written : 96 ≤ length before → (n m : ℕ) → n < 96 → m ≡ getD marks n 0 → set (paste before 0 marks n) n m ≡ paste before 0 marks (suc n)
+  mark-written wide n m h e =
       let z : n ≡ 0 + n = omega arith in
-      ap₂ (λ (k x : ℕ). set (paste before 0 (numbers ps) n) k x) z e
-      ∙ paste-suc before 0 (numbers ps) n 0 (omega arith) (omega (arith, numbers-length ps))
+      ap₂ (λ (k x : ℕ). set (paste before 0 marks n) k x) z e ∙ paste-suc before 0 marks n 0 (omega arith) (omega arith)
 
-  module _ {b : List ℕ} {i : ℕ} (t : Writing ps before b i) where
-    pub write-next : 96 ≤ length before → i < 48 → (k x y : ℕ) → k ≡ i → (p : Part) → getD ps i (part 0 0 0) ≡ p → x ≡ p .offset → y ≡ p .length
-        → Writing ps before (set (set b (2 * k) x) (2 * k + 1) y) (i + 1)
-    write-next wide h k x y e p here f g = record {
+  module _ {b : List ℕ} {i : ℕ} (t : Clearing before b i) where
+    pub clear-next : 96 ≤ length before → i < 48 → Clearing before (set (set b (2 * i) 65535) (2 * i + 1) 0) (i + 1)
+    clear-next wide h = record {
       few = omega arith;
-      long = length-set (set b (2 * k) x) (2 * k + 1) y ∙ length-set b (2 * k) x ∙ t .long;
-      pairs = rw e
-          (ap (λ (l : List ℕ). set (set l (2 * i) x) (2 * i + 1) y) (t .pairs)
-          ∙ ap (λ (l : List ℕ). set l (2 * i + 1) y) (first ∙ ap (paste before 0 (numbers ps)) (sym (add-one (2 * i))))
-          ∙ second ∙ ap (paste before 0 (numbers ps)) last);
+      long = length-set (set b (2 * i) 65535) (2 * i + 1) 0 ∙ length-set b (2 * i) 65535 ∙ t .long;
+      pairs = ap (λ (l : List ℕ). set (set l (2 * i) 65535) (2 * i + 1) 0) (t .pairs)
+          ∙ ap (λ (l : List ℕ). set l (2 * i + 1) 0) (first ∙ ap (paste before 0 marks) (sym (add-one (2 * i))))
+          ∙ second ∙ ap (paste before 0 marks) last;
     }
       where
-        first : set (paste before 0 (numbers ps) (2 * i)) (2 * i) x ≡ paste before 0 (numbers ps) (suc (2 * i))
-        first =
-            number-written wide (2 * i) x (omega arith)
-            (f ∙ ap (λ (q : Part). q .offset) (sym here) ∙ sym (numbers-offset ps i (omega arith)))
+        here : getD (replicate 48 absent) i (part 0 0 0) ≡ absent
+        here = getD-replicate 48 i absent (part 0 0 0) h
 
-        second : set (paste before 0 (numbers ps) (2 * i + 1)) (2 * i + 1) y ≡ paste before 0 (numbers ps) (suc (2 * i + 1))
-        second =
-            number-written wide (2 * i + 1) y (omega arith)
-            (g ∙ ap (λ (q : Part). q .length) (sym here) ∙ sym (numbers-size ps i (omega arith)))
+        first : set (paste before 0 marks (2 * i)) (2 * i) 65535 ≡ paste before 0 marks (suc (2 * i))
+        first = mark-written wide (2 * i) 65535 (omega arith) (ap (λ (q : Part). q .offset) (sym here) ∙ sym (numbers-offset (replicate 48 absent) i h))
+
+        second : set (paste before 0 marks (2 * i + 1)) (2 * i + 1) 0 ≡ paste before 0 marks (suc (2 * i + 1))
+        second = mark-written wide (2 * i + 1) 0 (omega arith) (ap (λ (q : Part). q .length) (sym here) ∙ sym (numbers-size (replicate 48 absent) i h))
 
         last : suc (2 * i + 1) ≡ 2 * (i + 1)
         last = omega arith
 
-    pub write-end : 48 ≤ i → b ≡ numbers ps ++ drop 96 before
-    write-end h =
-        let z : 2 * i ≡ 96 = omega (arith, t .few) in
-        t .pairs ∙ ap (paste before 0 (numbers ps)) z
-        ∙ ap (λ (l : List ℕ). l ++ drop 96 before) (take-all 96 (numbers ps) (omega (arith, numbers-length ps)))
+    pub clear-end : 48 ≤ i → b ≡ marks ++ drop 96 before
+    clear-end h = let z : 2 * i ≡ 96 = omega (arith, t .few) in t .pairs ∙ ap (paste before 0 marks) z
 
-    -- among absent marks the parts that are absent need not be written
-    pub write-rest : (o : Outcome) (first : List ℕ) → found o ≡ true → 96 ≤ length first → before ≡ numbers (replicate 48 absent) ++ drop 96 first
-        → ((v : ℕ) → i ≤ v → v < 48 → getD ps v (part 0 0 0) ≡ absent) → b ≡ shownBy o ps first
+-- what a mask shows
+
+module _ (parts : List ℕ) (a : ℕ) where
+  none-shown : replicate 48 absent ≡ partsIn (a % 2 ^ 0) parts 0 48
+  none-shown = parts-shown (a % 2 ^ 0) parts 0 48 (replicate 48 absent) refl at
+    where
+      at : (v : ℕ) → v < 48 → getD (replicate 48 absent) v (part 0 0 0) ≡ partIn (a % 2 ^ 0) parts (0 + v)
+      at v h = getD-replicate 48 v absent (part 0 0 0) h ∙ rw (bit-past a 0 (0 + v) (omega arith))
+
+  all-shown : partsIn (a % 2 ^ 48) parts 0 48 ≡ partsIn a parts 0 48
+  all-shown = parts-shown a parts 0 48 (partsIn (a % 2 ^ 48) parts 0 48) (parts-length (a % 2 ^ 48) parts 0 48) at
+    where
+      at : (v : ℕ) → v < 48 → getD (partsIn (a % 2 ^ 48) parts 0 48) v (part 0 0 0) ≡ partIn a parts (0 + v)
+      at v h = parts-from (a % 2 ^ 48) parts 0 48 v h ∙ rw (bit-below a 48 (0 + v) (omega arith))
+
+  next-part : (i : ℕ) → i < 48 → set (partsIn (a % 2 ^ i) parts 0 48) i (partIn a parts i) ≡ partsIn (a % 2 ^ (i + 1)) parts 0 48
+  next-part i low =
+      parts-shown (a % 2 ^ (i + 1)) parts 0 48 (set (partsIn (a % 2 ^ i) parts 0 48) i (partIn a parts i))
+      (length-set (partsIn (a % 2 ^ i) parts 0 48) i (partIn a parts i) ∙ parts-length (a % 2 ^ i) parts 0 48) (λ v h. at v h (eqb v i) refl)
+    where
+      at : (v : ℕ) → v < 48 → (b : Bool) → eqb v i ≡ b
+          → getD (set (partsIn (a % 2 ^ i) parts 0 48) i (partIn a parts i)) v (part 0 0 0) ≡ partIn (a % 2 ^ (i + 1)) parts (0 + v)
+      at v h true e =
+          let z : v ≡ i = eqb-true v i e in
+          let y : 0 + v ≡ i = omega arith in
+          rw (y, z, bit-below a (i + 1) i (omega arith))
+          (getD-set-same (partsIn (a % 2 ^ i) parts 0 48) i (partIn a parts i) (part 0 0 0) (omega (arith, parts-length (a % 2 ^ i) parts 0 48)))
+      at v h false e =
+          let z : 0 + v ≡ v = omega arith in
+          getD-set-other (partsIn (a % 2 ^ i) parts 0 48) i v (partIn a parts i) (part 0 0 0) (eqb-false v i e) ∙ parts-from (a % 2 ^ i) parts 0 48 v h
+          ∙ rw (z, bit-next a i v (eqb-false v i e))
+
+-- the buffer shows the variables of the mask below i
+pub record Showing (parts : List ℕ) (a : ℕ) (before b : List ℕ) (i : ℕ) : Type 0 where
+  pub few : i ≤ 48
+  pub long : length b ≡ length before
+  pub pairs : b ≡ numbers (partsIn (a % 2 ^ i) parts 0 48) ++ drop 96 before
+
+module _ (parts : List ℕ) (a : ℕ) (before : List ℕ) {b : List ℕ} {i : ℕ} (t : Showing parts a before b i) where
+  pub show-next : i < 48 → (k x y : ℕ) → k ≡ i → x ≡ partIn a parts i .offset → y ≡ partIn a parts i .length
+      → Showing parts a before (set (set b (2 * k) x) (2 * k + 1) y) (i + 1)
+  show-next h k x y e f g = record {
+    few = omega arith;
+    long = length-set (set b (2 * k) x) (2 * k + 1) y ∙ length-set b (2 * k) x ∙ t .long;
+    pairs = rw (e, f, g, t .pairs)
+        (pair-shown (partsIn (a % 2 ^ i) parts 0 48) (drop 96 before) i (partIn a parts i) (omega (arith, parts-length (a % 2 ^ i) parts 0 48))
+        ∙ ap (λ (l : List Part). numbers l ++ drop 96 before) (next-part parts a i h));
+  }
+
+  pub show-end : a / 2 ^ i ≡ 0 → b ≡ numbers (partsIn a parts 0 48) ++ drop 96 before
+  show-end e = t .pairs ∙ ap (λ (m : ℕ). numbers (partsIn m parts 0 48) ++ drop 96 before) (whole a i e)
+
+-- a buffer that shows some parts shows the same parts, and the rest of it stays
+module _ (ps : List Part) (all : length ps ≡ 48) (before b : List ℕ) (e : b ≡ numbers ps ++ drop 96 before) where
+  rest-stays : drop 96 b ≡ drop 96 before
+  rest-stays = ap (drop 96) e ∙ drop-at (numbers ps) (drop 96 before) 96 (omega (arith, numbers-length ps))
+
+  shown-same : (qs : List Part) → ps ≡ qs → b ≡ numbers qs ++ drop 96 b
+  shown-same qs h = e ∙ ap₂ (λ (l : List Part) (r : List ℕ). numbers l ++ r) h (sym rest-stays)
+
+-- absent marks, then the variables of the mask m, then those of the mask n
+module _ (parts before cleared : List ℕ) (e : cleared ≡ marks ++ drop 96 before) where
+  pub first-next : (m : ℕ) → cleared ≡ numbers (partsIn (m % 2 ^ 0) parts 0 48) ++ drop 96 cleared
+  first-next m = shown-same (replicate 48 absent) refl before cleared e (partsIn (m % 2 ^ 0) parts 0 48) (none-shown parts m)
+
+  module _ (m n : ℕ) (named : List ℕ) (f : named ≡ numbers (partsIn m parts 0 48) ++ drop 96 cleared) where
+    pub second-next : m ≡ n % 2 ^ 32 → named ≡ numbers (partsIn (n % 2 ^ 32) parts 0 48) ++ drop 96 named
+    second-next h =
+        shown-same (partsIn m parts 0 48) (parts-length m parts 0 48) cleared named f (partsIn (n % 2 ^ 32) parts 0 48)
+        (ap (λ (k : ℕ). partsIn k parts 0 48) h)
+
+    pub both-shown : (o : Outcome) (a : ℕ) (b : List ℕ) → found o ≡ true → 96 ≤ length before → n ≡ a % 2 ^ 48
+        → b ≡ numbers (partsIn n parts 0 48) ++ drop 96 named → b ≡ shownBy o (partsIn a parts 0 48) before
     unfolding shownBy
-    write-rest Found first f wide e h =
-        t .pairs ∙ ap (λ (l : List ℕ). take (2 * i) (numbers ps) ++ l) behind
-        ∙ sym (append-assoc (take (2 * i) (numbers ps)) (drop (2 * i) (numbers ps)) (drop 96 first))
-        ∙ ap (λ (l : List ℕ). l ++ drop 96 first) (take-append-drop (2 * i) (numbers ps)) ∙ rw (le-ltb (length first) 96 wide)
-      where
-        behind : drop (0 + 2 * i) before ≡ drop (2 * i) (numbers ps) ++ drop 96 first
-        behind =
-            let z : 0 + 2 * i ≡ 2 * i = omega arith in
-            ap (λ (n : ℕ). drop n before) z ∙ ap (drop (2 * i)) e
-            ∙ drop-append-le (2 * i) (numbers (replicate 48 absent)) (drop 96 first) (omega (arith, t .few))
-            ∙ ap (λ (l : List ℕ). l ++ drop 96 first)
-            (numbers-drop (replicate 48 absent) i ∙ ap numbers (rest-absent ps all i h) ∙ sym (numbers-drop ps i))
-    write-rest Failed first f wide e h = absurd (true≢false (sym f))
-    write-rest Spent first f wide e h = absurd (true≢false (sym f))
+    both-shown Found a b h wide all g =
+        g ∙ ap₂ (λ (l : List Part) (r : List ℕ). numbers l ++ r) (ap (λ (k : ℕ). partsIn k parts 0 48) all ∙ all-shown parts a)
+        (rest-stays (partsIn m parts 0 48) (parts-length m parts 0 48) cleared named f ∙ rest-stays (replicate 48 absent) refl before cleared e)
+        ∙ rw (le-ltb (length before) 96 wide)
+    both-shown Failed a b h wide all g = absurd (true≢false (sym h))
+    both-shown Spent a b h wide all g = absurd (true≢false (sym h))
 
 -- nothing is
 

@@ -768,14 +768,6 @@ fn complements(
     Outcome::Found
 }
 
-// Whether no variable from v on is assigned.
-fn none_from(assigned: u64, v: u8) -> bool
-    requires { ⌜ v < 48 ⌝ }
-    ensures { λ r. ⌜ r ≡ eqb (assigned % 281474976710656 / 2 ^ v) 0 ⌝ }
-{
-    (assigned % 281474976710656) >> v == 0
-}
-
 // Absent marks for every name and run name.
 fn clear(answer: &mut [u16])
     requires { ⌜ 96 ≤ length (now answer) ⌝ }
@@ -789,8 +781,26 @@ fn clear(answer: &mut [u16])
     }
 }
 
+// Offset and length of what the variables of this mask are assigned, where those below `first` are shown and the others have absent marks.
+fn show_from(parts: &[u64; 49], assigned: u64, first: u8, answer: &mut [u16])
+    requires { ⌜ assigned < 2 ^ 48 ⌝ }
+    requires { ⌜ first ≤ 48 ⌝ }
+    requires { ⌜ 96 ≤ length (now answer) ⌝ }
+    requires { ⌜ now answer ≡ numbers (partsIn (assigned % 2 ^ first) (now parts) 0 48) ++ drop 96 (now answer) ⌝ }
+    ensures { λ _. ⌜ now (answer .exit) ≡ numbers (partsIn assigned (now (parts .entry)) 0 48) ++ drop 96 (now (answer .entry)) ⌝ }
+{
+    let mut i = first;
+    while 0 < assigned >> i {
+        let j = wide(i);
+        let p = part_of(parts, assigned, i);
+        answer[2 * j] = p.offset;
+        answer[2 * j + 1] = p.length;
+        i = i + 1;
+    }
+}
+
 // What is found is shown in a buffer of 96 numbers or more: offset and length of what each name and run name is assigned, and absent marks for
-// those that are not. All else stays.
+// those that are not. All else stays. The names are 0 to 31, the run names 32 to 47.
 fn show(outcome: Outcome, parts: &[u64; 49], assigned: u64, answer: &mut [u16])
     ensures { λ _. ⌜ now (answer .exit) ≡ shownBy outcome (partsIn assigned (now (parts .entry)) 0 48) (now (answer .entry)) ⌝ }
 {
@@ -801,17 +811,8 @@ fn show(outcome: Outcome, parts: &[u64; 49], assigned: u64, answer: &mut [u16])
         return;
     }
     clear(answer);
-    let mut i: u8 = 0;
-    while i < 48 {
-        if none_from(assigned, i) {
-            return;
-        }
-        let j = wide(i);
-        let p = part_of(parts, assigned, i);
-        answer[2 * j] = p.offset;
-        answer[2 * j + 1] = p.length;
-        i = i + 1;
-    }
+    show_from(parts, assigned % 4294967296, 0, answer);
+    show_from(parts, assigned % 281474976710656, 32, answer);
 }
 
 // The search of a whole pattern on a record, and what it finds in the answer buffer. A pattern or a record over its limit is never found.

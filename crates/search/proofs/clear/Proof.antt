@@ -1,21 +1,19 @@
 -- `search::clear` meets its contract. The invariant: the first v pairs are absent marks. Assumes nothing.
 use Prim.Native.Nat.{_-_}
 use native.Mathlib.Omega.{arith}
-use mathlib.Core.Path.{refl}
-use lib.ListN.{replicate, length-set, getD-replicate}
-use Rattle.term.specs.Part.{part, absent}
-use Rattle.search.proofs.Shown.{Writing, write-first, write-next, write-end}
+use lib.ListN.{length-set}
+use Rattle.search.proofs.Shown.{Clearing, clear-first, clear-next, clear-end}
 use Rattle.search.proofs.clear.Statement.{statement}
 use Rattle.search.proofs.clear.Tie as tie
 
 abbrev Inv-loop : tie.InvT-loop
-Inv-loop answer₀ v₀ answer v = Writing (replicate 48 absent) answer₀ answer v
+Inv-loop answer₀ v₀ answer v = Clearing answer₀ answer v
 
 abbrev μ-loop : tie.MeasureT-loop
 μ-loop answer₀ v₀ answer v = 48 - v
 
 loop-holds : tie.Need-loop-holds Inv-loop μ-loop
-loop-holds c = write-first _ _
+loop-holds c = clear-first _
 
 mul-answer : tie.Need-mul-answer Inv-loop μ-loop
 mul-answer c = omega arith
@@ -45,15 +43,13 @@ loop-less : tie.Need-loop-less Inv-loop μ-loop
 loop-less c = omega arith
 
 loop-again : tie.Need-loop-again Inv-loop μ-loop
-loop-again c =
-    let now = c .before .loop in
-    write-next _ refl _ (now .inv) (omega arith) (omega arith) (now .v) _ _ refl absent (getD-replicate 48 (now .v) absent (part 0 0 0) (omega arith)) refl refl
+loop-again c = clear-next _ (c .before .loop .inv) (omega arith) (omega arith)
 
 same-length : tie.Need-same-length Inv-loop μ-loop
 same-length c = c .before .loop .inv .long
 
 returns : tie.Need-returns Inv-loop μ-loop
-returns c = write-end _ refl _ (c .before .loop .inv) (omega arith)
+returns c = clear-end _ (c .before .loop .inv) (omega arith)
 
 pub clear-spec : {M : Type 1} → statement M
 clear-spec =
