@@ -7,7 +7,7 @@ use mathlib.Core.List.{List, [], _∷_}
 use mathlib.Core.Bool.{Bool, false}
 use lib.ListN.{length, getD, drop, set, take, length-drop, length-set}
 use lib.Seq.{drop-drop, getD-set-same, getD-set-other}
-use Rattle.term.specs.Frame.{frame, restOf}
+use Rattle.term.specs.Frame.{frame}
 use Rattle.term.specs.Node.{nodeAt}
 use Rattle.term.specs.Reading.{shown, readAll, readTree}
 use Rattle.term.specs.declared.Frame.{Frame}
@@ -17,6 +17,10 @@ use Rattle.term.specs.declared.Node.the-variants.{Open}
 use Rattle.term.specs.declared.Read.{Read}
 use Rattle.term.specs.declared.Read.the-variants.{Ends}
 use Rattle.term.proofs.Steps.{plus, andThen, all-none, all-more, shown-chain, tree-refused, tree-open, node-within, node-below, rest-part}
+
+-- all but the first tree
+abbrev restOf : Frame → Frame
+restOf f = frame (f .count - 1) (f .left) (f .list)
 
 -- Frames in an array: the first so many, the last of them innermost
 
@@ -182,66 +186,64 @@ module _ {table : List ℕ} {records : Bool} {s : List ℕ} {around : List Frame
         ∙ plus-plus at size (resume table records fs (drop size (drop at s)))
         ∙ ap (λ (l : List ℕ). plus (at + size) (resume table records fs l)) (drop-drop size at s)
 
-    module _ (f g : Frame) (q : g ≡ frame k low list) (r : f ≡ restOf top) where
-      fewer : f .count ≡ top .count - 1
-      fewer = ap (λ (x : Frame). x .count) r
+    -- a node without children: its frame goes on, or after its last tree the one around it
+    next-frames : k ≤ 0 → ToCome table records s (restOf top ∷ stack depth around) (at + size)
+    next-frames z = skip table records s (frame k low list) (restOf top ∷ stack depth around) (at + size) (omega arith) opened
 
-      -- a node without children: its frame goes on, or after its last tree the one around it
-      next-frames : k ≡ 0 → ToCome table records s (f ∷ stack depth around) (at + size)
-      next-frames z = rw r (skip table records s (frame k low list) (restOf top ∷ stack depth around) (at + size) z opened)
+    pub next-tree : k ≤ 0 → (top .count - 1 ≡ 0 → ⊥) → Reading table records s around depth (restOf top) (at + size)
+    next-tree z h = record {
+      within = node-ends .0;
+      some = omega (arith, h);
+      room = omega (arith, i .room, h);
+      places = i .places;
+      kept = i .kept;
+      to-come = next-frames z;
+    }
 
-      pub next-tree : k ≡ 0 → 0 < f .count → Reading table records s around depth f (at + size)
-      next-tree z h = record {
-        within = node-ends .0;
-        some = h;
-        room = omega (arith, i .room, fewer, h, ap (λ (x : Frame). x .left) r);
-        places = i .places;
-        kept = i .kept;
-        to-come = next-frames z;
-      }
+    last-tree : k ≤ 0 → top .count - 1 ≡ 0 → ToCome table records s (stack depth around) (at + size)
+    last-tree z h = skip table records s (restOf top) (stack depth around) (at + size) h (next-frames z)
 
-      last-tree : k ≡ 0 → f .count ≤ 0 → ToCome table records s (stack depth around) (at + size)
-      last-tree z h = skip table records s f (stack depth around) (at + size) (omega arith) (next-frames z)
+    pub next-around : k ≤ 0 → top .count - 1 ≡ 0 → (depth ≡ 0 → ⊥) → Reading table records s around (depth - 1) (getD around (depth - 1) none) (at + size)
+    next-around z h d =
+        let p = stack-popped depth around (omega (arith, d)) in
+        let o : Kept (getD around (depth - 1) none ∷ stack (depth - 1) around) = rw p at (i .kept) in
+        record {
+          within = node-ends .0;
+          some = o .0;
+          room = omega (arith, o .1, stack-length (depth - 1) around);
+          places = i .places;
+          kept = o .2;
+          to-come = rw (← p) (last-tree z h);
+        }
 
-      pub next-around : k ≡ 0 → f .count ≤ 0 → 0 < depth → Reading table records s around (depth - 1) (getD around (depth - 1) none) (at + size)
-      next-around z h d =
-          let p = stack-popped depth around d in
-          let o : Kept (getD around (depth - 1) none ∷ stack (depth - 1) around) = rw p at (i .kept) in
-          record {
-            within = node-ends .0;
-            some = o .0;
-            room = omega (arith, o .1, stack-length (depth - 1) around);
-            places = i .places;
-            kept = o .2;
-            to-come = rw (← p) (last-tree z h);
-          }
+    pub no-more : k ≤ 0 → top .count - 1 ≡ 0 → depth ≡ 0 → shown (readTree table records 32 false s) ≡ Ends (at + size)
+    unfolding resume
+    no-more z h d = last-tree z h ∙ rw d (ap Ends (omega arith))
 
-      pub no-more : k ≡ 0 → f .count ≤ 0 → depth ≤ 0 → shown (readTree table records 32 false s) ≡ Ends (at + size)
-      unfolding resume
-      no-more z h d = let o : depth ≡ 0 = omega arith in last-tree z h ∙ rw o (ap Ends (omega arith))
+    pub place-free : 0 < top .count - 1 → depth < 32
+    place-free h = omega (arith, i .room, below)
 
-      -- a node with children: they come next, and then what is left of its frame
-      pub child-last : (k ≡ 0 → ⊥) → f .count ≤ 0 → Reading table records s around depth g (at + size)
+    -- a node with children: they come next, and then what is left of its frame
+    module _ (g : Frame) (q : g ≡ frame k low list) where
+      pub child-last : 0 < k → top .count - 1 ≤ 0 → Reading table records s around depth g (at + size)
       child-last z h = record {
         within = node-ends .0;
-        some = rw q (omega (arith, z));
-        room = rw q (omega (arith, i .room, i .some, fewer, below));
+        some = rw q z;
+        room = rw q (omega (arith, i .room, i .some, below));
         places = i .places;
         kept = i .kept;
-        to-come = rw q (skip-under table records s (frame k low list) (restOf top) (stack depth around) (at + size) (omega (arith, fewer)) opened);
+        to-come = rw q (skip-under table records s (frame k low list) (restOf top) (stack depth around) (at + size) (omega arith) opened);
       }
 
-      pub place-free : 0 < f .count → depth < 32
-      place-free h = omega (arith, i .room, fewer, below)
-
-      pub child-first : (k ≡ 0 → ⊥) → 0 < f .count → Reading table records s (set around depth f) (depth + 1) g (at + size)
+      pub child-first : 0 < k → 0 < top .count - 1 → Reading table records s (set around depth (restOf top)) (depth + 1) g (at + size)
       child-first z h =
-          let p : stack (depth + 1) (set around depth f) ≡ f ∷ stack depth around = stack-pushed depth around f (omega (arith, place-free h, i .places)) in
+          let p : stack (depth + 1) (set around depth (restOf top)) ≡ restOf top ∷ stack depth around =
+          stack-pushed depth around (restOf top) (omega (arith, place-free h, i .places)) in
           record {
             within = node-ends .0;
-            some = rw q (omega (arith, z));
-            room = rw q (omega (arith, i .room, fewer, below));
-            places = length-set around depth f ∙ i .places;
-            kept = rw p (h, omega (arith, i .room, fewer, ap (λ (x : Frame). x .left) r, stack-length depth around), i .kept);
-            to-come = rw (p, q, r) opened;
+            some = rw q z;
+            room = rw q (omega (arith, i .room, below));
+            places = length-set around depth (restOf top) ∙ i .places;
+            kept = rw p (h, omega (arith, i .room, stack-length depth around), i .kept);
+            to-come = rw (p, q) opened;
           }

@@ -11,7 +11,7 @@ ghost use Rattle.term.specs.Node.{known, listNode, openNode, nodeAt};
 ghost use Rattle.term.specs.Extent.{entryOf, extentOf};
 ghost use Rattle.term.specs.Same.{samePart};
 ghost use Rattle.term.specs.Part.{boundPart, isAbsent, partBytes};
-ghost use Rattle.term.specs.Frame.{frame, restOf};
+ghost use Rattle.term.specs.Frame.{frame};
 ghost use Rattle.term.specs.Reading.{shown, readTree, nodeRefusal, readWhole, readRecord, readPattern};
 
 // What a byte of a pattern stands for. A name or a run name holds its variable's number.
@@ -230,14 +230,6 @@ impl Frame {
             list: list,
         }
     }
-
-    // All but the first tree.
-    fn rest(self) -> Frame
-        requires { ⌜ 0 < self .count ⌝ }
-        ensures { λ r. ⌜ r ≡ restOf self ⌝ }
-    {
-        Frame::of(self.count - 1, self.left, self.list)
-    }
 }
 
 fn node_refusal(n: Node) -> Read
@@ -274,23 +266,19 @@ fn read_tree(table: &[u8], s: &[u8], records: bool) -> Read
             return node_refusal(node);
         };
         at = at + size;
-        let inner = Frame::of(kids, low, list);
-        let rest = top.rest();
-        if kids == 0 {
-            if 0 < rest.count {
-                top = rest;
-            } else if 0 < depth {
-                depth = depth - 1;
-                top = around[depth];
-            } else {
+        top.count = top.count - 1;
+        if 0 < kids {
+            if 0 < top.count {
+                around[depth] = top;
+                depth = depth + 1;
+            }
+            top = Frame::of(kids, low, list);
+        } else if top.count == 0 {
+            if depth == 0 {
                 return Read::Ends(at);
             }
-        } else if 0 < rest.count {
-            around[depth] = rest;
-            depth = depth + 1;
-            top = inner;
-        } else {
-            top = inner;
+            depth = depth - 1;
+            top = around[depth];
         }
     }
 }

@@ -5,6 +5,7 @@ use borrow.Author.Needs.{needs}
 use native.Mathlib.Omega.{arith}
 use Prim.Native.Nat.{_-_}
 use lib.ListN.{length}
+use mathlib.Core.Logic.{⊎-elim}
 use mathlib.Core.Path.{refl, sym, ap, _∙_}
 use Rattle.term.proofs.read_tree.Statement.{statement}
 use Rattle.term.proofs.read_tree.Tie as tie
@@ -48,56 +49,84 @@ returns c = c .node-refusal .ensures ∙ ap nodeRefusal (c .before .enum-told .g
 add-at : tie.Need-add-at Inv-loop μ-loop
 add-at c = omega (arith, node-ends (c .before .before .before .before .before .loop .inv) (c .before .before .before .node-at .ensures) (c .before .node .given .1))
 
+sub-top : tie.Need-sub-top Inv-loop μ-loop
+sub-top c = c .before .before .before .before .before .before .loop .inv .some
+
+mul-around : tie.Need-mul-around Inv-loop μ-loop
+mul-around c =
+    let node = c .before .before .before .before .before in
+    omega (arith, depth-within (node .before .before .before .before .loop .inv) (node .before .before .node-at .ensures) (node .node .given .1))
+
+array-set-from-around : tie.Need-array-set-from-around Inv-loop μ-loop
+array-set-from-around c =
+    let node = c .before .before .before .before .before in
+    place-free (node .before .before .before .before .loop .inv) (node .before .before .node-at .ensures) (node .node .given .1)
+    (omega (arith, c .if2 .taken))
+
+add-depth : tie.Need-add-depth Inv-loop μ-loop
+add-depth c =
+    let node = c .before .before .before .before .before in
+    omega (arith, depth-within (node .before .before .before .before .loop .inv) (node .before .before .node-at .ensures) (node .node .given .1))
+
 of-requires-2 : tie.Need-of-requires-2 Inv-loop μ-loop
 of-requires-2 c κs = search needs
 
-rest-requires : tie.Need-rest-requires Inv-loop μ-loop
-rest-requires c κs = c .before .before .before .before .before .before .loop .inv .some
-
 loop-less : tie.Need-loop-less Inv-loop μ-loop
-loop-less c = omega (arith, node-ends (c .before .before .before .before .before .before .before .before .before .before .loop .inv) (c .before .before .before .before .before .before .before .before .node-at .ensures) (c .before .before .before .before .before .before .node .given .1))
+loop-less c =
+    let node = c .before .before .before .before .before .before in
+    omega (arith, node-ends (node .before .before .before .before .loop .inv) (node .before .before .node-at .ensures) (node .node .given .1))
 
 loop-again : tie.Need-loop-again Inv-loop μ-loop
-loop-again c = next-tree (c .before .before .before .before .before .before .before .before .before .before .loop .inv) (c .before .before .before .before .before .before .before .before .node-at .ensures) (c .before .before .before .before .before .before .node .given .1) _ _ (c .before .before .before .before .of2 .ensures) (c .before .before .before .rest .ensures) (c .before .before .if1 .taken) (c .if2 .taken)
-
-sub-depth : tie.Need-sub-depth Inv-loop μ-loop
-sub-depth c = search needs
-
-mul-top : tie.Need-mul-top Inv-loop μ-loop
-mul-top c = omega (arith, depth-within (c .before .before .before .before .before .before .before .before .before .before .before .loop .inv) (c .before .before .before .before .before .before .before .before .before .node-at .ensures) (c .before .before .before .before .before .before .before .node .given .1))
-
-array-copy-out-top : tie.Need-array-copy-out-top Inv-loop μ-loop
-array-copy-out-top c = omega (arith, depth-within (c .before .before .before .before .before .before .before .before .before .before .before .loop .inv) (c .before .before .before .before .before .before .before .before .before .node-at .ensures) (c .before .before .before .before .before .before .before .node .given .1))
-
-loop-less-2 : tie.Need-loop-less-2 Inv-loop μ-loop
-loop-less-2 c = omega (arith, node-ends (c .before .before .before .before .before .before .before .before .before .before .before .before .loop .inv) (c .before .before .before .before .before .before .before .before .before .before .node-at .ensures) (c .before .before .before .before .before .before .before .before .node .given .1))
-
-loop-again-2 : tie.Need-loop-again-2 Inv-loop μ-loop
-loop-again-2 c = next-around (c .before .before .before .before .before .before .before .before .before .before .before .before .loop .inv) (c .before .before .before .before .before .before .before .before .before .before .node-at .ensures) (c .before .before .before .before .before .before .before .before .node .given .1) _ _ (c .before .before .before .before .before .before .of2 .ensures) (c .before .before .before .before .before .rest .ensures) (c .before .before .before .before .if1 .taken) (c .before .before .if2 .left) (c .before .if3 .taken)
+loop-again c =
+    let node = c .before .before .before .before .before .before in
+    let of = c .of2 .ensures in
+    let some = c .before .before .before .if1 .taken in
+    ⊎-elim
+    (λ w. rw (w .1, w .2) (child-first (node .before .before .before .before .loop .inv) (node .before .before .node-at .ensures) (node .node .given .1) _ of some (omega (arith, w .0 .taken))))
+    (λ w. rw (w .1, w .2) (child-last (node .before .before .before .before .loop .inv) (node .before .before .node-at .ensures) (node .node .given .1) _ of some (omega (arith, w .0 .left))))
+    (c .before .if2 .came)
 
 returns-2 : tie.Need-returns-2 Inv-loop μ-loop
-returns-2 c = sym (no-more (c .before .before .before .before .before .before .before .before .before .before .before .loop .inv) (c .before .before .before .before .before .before .before .before .before .node-at .ensures) (c .before .before .before .before .before .before .before .node .given .1) _ _ (c .before .before .before .before .before .of2 .ensures) (c .before .before .before .before .rest .ensures) (c .before .before .before .if1 .taken) (c .before .if2 .left) (c .if3 .left))
+returns-2 c =
+    let node = c .before .before .before .before .before .before in
+    sym
+    (no-more (node .before .before .before .before .loop .inv) (node .before .before .node-at .ensures) (node .node .given .1)
+    (c .before .before .before .if1 .left) (c .before .if3 .taken) (c .if4 .taken))
 
-mul-around : tie.Need-mul-around Inv-loop μ-loop
-mul-around c = omega (arith, depth-within (c .before .before .before .before .before .before .before .before .before .before .loop .inv) (c .before .before .before .before .before .before .before .before .node-at .ensures) (c .before .before .before .before .before .before .node .given .1))
+sub-depth : tie.Need-sub-depth Inv-loop μ-loop
+sub-depth c = omega (arith, c .if4 .left)
 
-array-set-from-around : tie.Need-array-set-from-around Inv-loop μ-loop
-array-set-from-around c = place-free (c .before .before .before .before .before .before .before .before .before .before .loop .inv) (c .before .before .before .before .before .before .before .before .node-at .ensures) (c .before .before .before .before .before .before .node .given .1) _ _ (c .before .before .before .before .of2 .ensures) (c .before .before .before .rest .ensures) (c .if4 .taken)
+mul-top : tie.Need-mul-top Inv-loop μ-loop
+mul-top c =
+    let node = c .before .before .before .before .before .before in
+    omega (arith, depth-within (node .before .before .before .before .loop .inv) (node .before .before .node-at .ensures) (node .node .given .1))
 
-add-depth : tie.Need-add-depth Inv-loop μ-loop
-add-depth c = omega (arith, depth-within (c .before .before .before .before .before .before .before .before .before .before .loop .inv) (c .before .before .before .before .before .before .before .before .node-at .ensures) (c .before .before .before .before .before .before .node .given .1))
+array-copy-out-top : tie.Need-array-copy-out-top Inv-loop μ-loop
+array-copy-out-top c =
+    let node = c .before .before .before .before .before .before in
+    omega (arith, c .if4 .left, depth-within (node .before .before .before .before .loop .inv) (node .before .before .node-at .ensures) (node .node .given .1))
+
+loop-less-2 : tie.Need-loop-less-2 Inv-loop μ-loop
+loop-less-2 c =
+    let node = c .before .before .before .before .before .before .before in
+    omega (arith, node-ends (node .before .before .before .before .loop .inv) (node .before .before .node-at .ensures) (node .node .given .1))
+
+loop-again-2 : tie.Need-loop-again-2 Inv-loop μ-loop
+loop-again-2 c =
+    let node = c .before .before .before .before .before .before .before in
+    next-around (node .before .before .before .before .loop .inv) (node .before .before .node-at .ensures) (node .node .given .1)
+    (c .before .before .before .before .if1 .left) (c .before .before .if3 .taken) (c .before .if4 .left)
 
 loop-less-3 : tie.Need-loop-less-3 Inv-loop μ-loop
-loop-less-3 c = omega (arith, node-ends (c .before .before .before .before .before .before .before .before .before .before .loop .inv) (c .before .before .before .before .before .before .before .before .node-at .ensures) (c .before .before .before .before .before .before .node .given .1))
+loop-less-3 c =
+    let node = c .before .before .before .before .before in
+    omega (arith, node-ends (node .before .before .before .before .loop .inv) (node .before .before .node-at .ensures) (node .node .given .1))
 
 loop-again-3 : tie.Need-loop-again-3 Inv-loop μ-loop
-loop-again-3 c = child-first (c .before .before .before .before .before .before .before .before .before .before .loop .inv) (c .before .before .before .before .before .before .before .before .node-at .ensures) (c .before .before .before .before .before .before .node .given .1) _ _ (c .before .before .before .before .of2 .ensures) (c .before .before .before .rest .ensures) (c .before .before .if1 .left) (c .if4 .taken)
-
-loop-less-4 : tie.Need-loop-less-4 Inv-loop μ-loop
-loop-less-4 c = omega (arith, node-ends (c .before .before .before .before .before .before .before .before .before .before .loop .inv) (c .before .before .before .before .before .before .before .before .node-at .ensures) (c .before .before .before .before .before .before .node .given .1))
-
-loop-again-4 : tie.Need-loop-again-4 Inv-loop μ-loop
-loop-again-4 c = child-last (c .before .before .before .before .before .before .before .before .before .before .loop .inv) (c .before .before .before .before .before .before .before .before .node-at .ensures) (c .before .before .before .before .before .before .node .given .1) _ _ (c .before .before .before .before .of2 .ensures) (c .before .before .before .rest .ensures) (c .before .before .if1 .left) (c .if4 .left)
+loop-again-3 c =
+    let node = c .before .before .before .before .before in
+    next-tree (node .before .before .before .before .loop .inv) (node .before .before .node-at .ensures) (node .node .given .1)
+    (c .before .before .if1 .left) (c .if3 .left)
 
 pub read-tree-spec : {M : Type 1} → statement M
 read-tree-spec =
@@ -116,20 +145,18 @@ read-tree-spec =
     node-refusal-requires
     returns
     add-at
+    sub-top
+    mul-around
+    array-set-from-around
+    add-depth
     of-requires-2
-    rest-requires
     loop-less
     loop-again
+    returns-2
     sub-depth
     mul-top
     array-copy-out-top
     loop-less-2
     loop-again-2
-    returns-2
-    mul-around
-    array-set-from-around
-    add-depth
     loop-less-3
-    loop-again-3
-    loop-less-4
-    loop-again-4)
+    loop-again-3)
