@@ -91,7 +91,7 @@ module _ (lv : State → ℕ → Reply) (table bytes : List ℕ) (v : ℕ) (s : 
 
 -- The rest of a level, by the stop of its walk
 
-level-stops : (n : ℕ) (table pattern bytes : List ℕ) (s : State) (left : ℕ) (stop : Stop) (l : ℕ) (end : State) (r : Reply)
+pub level-stops : (n : ℕ) (table pattern bytes : List ℕ) (s : State) (left : ℕ) (stop : Stop) (l : ℕ) (end : State) (r : Reply)
     → 0 < n → walkOf 1024 table pattern bytes s left ≡ walked stop l end
     → r ≡ stopBy stop (levelOf (n - 1) table bytes) table pattern bytes end l
     → r ≡ levelOf n table bytes pattern s left
@@ -327,10 +327,10 @@ rest-fails {table} {pattern} {bytes} {r = r} {parts₁ = parts₁} {stack₁ = s
 
 module _ (pattern : List ℕ) (c : PutBy) (within : c .at + 1 + c .size ≤ length pattern) where
   -- the inside, as the code takes it
-  abbrev taken : List ℕ
+  abbrev pub taken : List ℕ
   taken = take (c .at + 1 + c .size - (c .at + 1)) (drop (c .at + 1) pattern)
 
-  inside-is : taken ≡ take (c .size) (drop (c .at + 1) pattern)
+  pub inside-is : taken ≡ take (c .size) (drop (c .at + 1) pattern)
   inside-is = let z : c .at + 1 + c .size - (c .at + 1) ≡ c .size = omega arith in rw z
 
   pub inside-length : length taken ≡ c .size

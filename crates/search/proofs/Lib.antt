@@ -7,5 +7,6 @@ pub mod Held
 pub mod Walks
 pub mod Kept
 pub mod Levels
+pub mod FirstPairs
 pub mod Lefts
 pub mod Shown

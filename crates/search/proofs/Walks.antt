@@ -42,7 +42,7 @@ abbrev pub reached : Stop → ℕ → ℕ → Marks → Place → Reached
 reached stop left assigned m p = record { stop = stop; left = left; assigned = assigned; marks = m; place = p }
 
 module _ (table pattern bytes : List ℕ) where
-  walk-suc : (n : ℕ) (s : State) (left : ℕ) → 0 < n
+  pub walk-suc : (n : ℕ) (s : State) (left : ℕ) → 0 < n
       → walkOf n table pattern bytes s left
       ≡ nextOf (stepOf (alone (s .frames)) table pattern bytes (partAt s (variableAt pattern (s .place .at))) (s .place) left)
       (walkOf (n - 1) table pattern bytes) s left

@@ -9,7 +9,7 @@ use Rattle.term.specs.Extent.{extentOf}
 use Rattle.term.specs.Part.{boundPart}
 use Rattle.term.specs.declared.Part.{Part}
 use Rattle.search.specs.State.{PutBy, State, place, state}
-use Rattle.search.specs.Level.{Reply, reply, failedAt, spentAt, startOf, orElse, insideOf, complementsOf, stopBy, levelOf, levels}
+use Rattle.search.specs.Level.{Reply, reply, failedAt, spentAt, startOf, orElse, insideOf, complementsOf, stopBy, levelOf, levels, endOf}
 use Rattle.search.specs.Memory.{bit, partIn, Holds, Holding, Kept}
 use Rattle.search.specs.declared.Place.{Place}
 use Rattle.search.specs.declared.Marks.{Marks}
@@ -17,6 +17,8 @@ use Rattle.search.specs.declared.Stop.{Stop}
 use Rattle.search.specs.declared.Stop.the-variants.{Failure, NoAllowance, NoPair, RunName}
 use Rattle.search.specs.declared.Outcome.{Outcome}
 use Rattle.search.specs.declared.Outcome.the-variants.{Found, Failed, Spent}
+use Rattle.search.specs.declared.First.{First}
+use Rattle.search.specs.declared.First.the-variants.{Decided, Unsure}
 
 abbrev pub failure : Stop → Bool
 failure Failure = true
@@ -81,6 +83,19 @@ inside m = record { inner = 0; frames = m .frames; first = m .waiting; waiting =
 pub record Testable (codes bytes assigned : ℕ) (parts stack : List ℕ) (m : Marks) (c : PutBy) : Type 0 where
   pub within : c .at + 1 + c .size ≤ codes
   pub holding : Holding (c .size) bytes assigned parts stack (inside m) (place 1 1 0 (c .node))
+
+-- The first pair
+
+-- the search of the level from a node counts its first pair and no other
+pub record EndsAtOnce (table pattern bytes : List ℕ) (node left : ℕ) (outcome : Outcome) : Type 0 where
+  pub some : 0 < left
+  pub ends : (shown : List Part) (n : ℕ) → 0 < n
+      → endOf (levelOf n table bytes pattern (startOf shown node) left) ≡ record { outcome = outcome; left = left - 1 }
+
+-- what the first pair decides alone
+abbrev pub Decides : List ℕ → List ℕ → List ℕ → ℕ → ℕ → First → Type 0
+Decides table pattern bytes node left (Decided outcome) = EndsAtOnce table pattern bytes node left outcome
+Decides table pattern bytes node left Unsure = Unit {0}
 
 -- The replies: the definition's, with any number of levels that is enough, and what is left alone
 

@@ -19,7 +19,7 @@ ghost use Rattle.search.specs.Level.{failed, endOf, searchOf};
 ghost use Rattle.search.specs.Memory.{bit, packed, unpacked, partIn, frameIn, outer, putByIn, openedMarks, closedMarks, putByMarks, Holding};
 ghost use Rattle.search.specs.Bounds.{Short, Walks, StopsAt, Unassigned};
 ghost use Rattle.search.specs.Shown.{numbers, shownBy, shownIn};
-ghost use Rattle.search.specs.Replies.{failure, found, turned, partsIn, inside, Free, Resting, Testable, LevelIs, RestIs, FollowIs, ComplementIs, ComplementsAre};
+ghost use Rattle.search.specs.Replies.{failure, found, turned, partsIn, inside, Free, Resting, Testable, Decides, LevelIs, RestIs, FollowIs, ComplementIs, ComplementsAre};
 
 // Where the search of a level stands: what is left of the innermost open node, child patterns and elements of the record, and the next byte of
 // the pattern and of the record.
@@ -78,6 +78,12 @@ pub enum Outcome {
 pub struct Ended {
     pub outcome: Outcome,
     pub left: u32,
+}
+
+// How the search of a level ends, where its first pair alone decides that.
+pub enum First {
+    Decided(Outcome),
+    Unsure,
 }
 
 fn wide(b: u8) -> usize
@@ -696,6 +702,32 @@ fn follow(
     }
 }
 
+// A level's first pair decides it where the pattern has a symbol that is not the record's, or one without children that is.
+fn first_pair(table: &[u8], pattern: &[u8], record: &[u8], node: usize, left: u32) -> First
+    ensures { λ r. ⌜ Decides (now (table .entry)) (now (pattern .entry)) (now («record» .entry)) node left r ⌝ }
+{
+    if left == 0 {
+        return First::Unsure;
+    }
+    if pattern.len() == 0 {
+        return First::Unsure;
+    }
+    if record.len() <= node {
+        return First::Unsure;
+    }
+    let code = decode(pattern[0]);
+    let Code::Symbol(b) = code else {
+        return First::Unsure;
+    };
+    if b != record[node] {
+        return First::Decided(Outcome::Failed);
+    }
+    if entry_of(table, b) == 0 {
+        return First::Decided(Outcome::Found);
+    }
+    First::Unsure
+}
+
 // The inside of a complement is a level of its own, that starts from the assignments made so far.
 fn complement(
     table: &[u8],
@@ -714,9 +746,15 @@ fn complement(
     let from = (c % 256) as usize + 1;
     let stop = from + (c / 256 % 256) as usize;
     let node = (c / 65536) as usize;
+    let inside = &pattern[from..stop];
+    let first = first_pair(table, inside, record, node, *left);
+    if let First::Decided(outcome) = first {
+        *left = *left - 1;
+        return opposite(outcome);
+    }
     opposite(level(
         table,
-        &pattern[from..stop],
+        inside,
         record,
         parts,
         stack,

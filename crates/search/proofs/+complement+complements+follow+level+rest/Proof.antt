@@ -10,8 +10,10 @@ use borrow.Author.Tests.{not-true, not-false}
 use Rattle.search.specs.Level.{levels}
 use Rattle.search.specs.Memory.{packed, putByIn}
 use Rattle.search.specs.Bounds.{Ready, StopsAt, Unassigned}
+use Rattle.search.specs.Replies.{Decides}
 use Rattle.search.proofs.Steps.{rest-length}
 use Rattle.search.proofs.Kept.{past, past-holds, none-free}
+use Rattle.search.proofs.FirstPairs.{complement-ends}
 use Rattle.search.proofs.Levels.{rest-follows, rest-fails, Trying, try-first, Written, written-holding, try-last, try-hit, try-spent, try-more, Testing, test-first, test-end, test-next, test-stop, test-on, inside-length, inside-holding, complement-tests, follow-fails, follow-spent, follow-none, follow-tests, follow-tries}
 use borrow.Fn.Kinds.{In}
 use borrow.Fn.PlainCycle.{Measures, is, falls, and}
@@ -34,6 +36,7 @@ use Rattle.search.proofs.Marks.inside.Reads as inside-reads
 use Rattle.search.proofs.Place.passed.Reads as passed-reads
 use Rattle.search.proofs.Place.start.Reads as start-reads
 use Rattle.search.proofs.also.Reads as also-reads
+use Rattle.search.proofs.first_pair.Reads as first-pair-reads
 use Rattle.search.proofs.is_failed.Reads as is-failed-reads
 use Rattle.search.proofs.is_failure.Reads as is-failure-reads
 use Rattle.search.proofs.is_found.Reads as is-found-reads
@@ -97,14 +100,16 @@ rest-below t = and 7 rest-kinds.ps (falls 7 rest-kinds.ps _<_ μ-rest t) rest.Pr
 
 abbrev complement-claims : ℕ → complement-lts.Claims
 complement-claims t = (
+  first-pair-reads.Asked,
+  first-pair-reads.Learnt,
+  opposite-reads.Asked,
+  opposite-reads.Learnt,
   inside-reads.Asked,
   inside-reads.Learnt,
   start-reads.Asked,
   start-reads.Learnt,
   level-below t,
   level.Post,
-  opposite-reads.Asked,
-  opposite-reads.Learnt,
 )
 
 complement-cast-from : (t : ℕ) → complement-lts.Need-cast-from (complement-claims t) (complement-at t) complement.Post
@@ -122,14 +127,34 @@ complement-add-stop t c = omega arith
 complement-cast-node : (t : ℕ) → complement-lts.Need-cast-node (complement-claims t) (complement-at t) complement.Post
 complement-cast-node t c = omega arith
 
-complement-sub-level : (t : ℕ) → complement-lts.Need-sub-level (complement-claims t) (complement-at t) complement.Post
-complement-sub-level t c = omega arith
+complement-sub-inside : (t : ℕ) → complement-lts.Need-sub-inside (complement-claims t) (complement-at t) complement.Post
+complement-sub-inside t c = omega arith
 
-complement-part-level-start : (t : ℕ) → complement-lts.Need-part-level-start (complement-claims t) (complement-at t) complement.Post
-complement-part-level-start t c = omega arith
+complement-part-inside-start : (t : ℕ) → complement-lts.Need-part-inside-start (complement-claims t) (complement-at t) complement.Post
+complement-part-inside-start t c = omega arith
 
-complement-part-level-end : (t : ℕ) → complement-lts.Need-part-level-end (complement-claims t) (complement-at t) complement.Post
-complement-part-level-end t c = omega (arith, c .before .before .before .pre .1 .0 .within)
+complement-part-inside-end : (t : ℕ) → complement-lts.Need-part-inside-end (complement-claims t) (complement-at t) complement.Post
+complement-part-inside-end t c = omega (arith, c .before .before .before .pre .1 .0 .within)
+
+complement-first-pair-requires : (t : ℕ) → complement-lts.Need-first-pair-requires (complement-claims t) (complement-at t) complement.Post
+complement-first-pair-requires t c κs = search needs
+
+complement-enum-known-first : (t : ℕ) → complement-lts.Need-enum-known-first (complement-claims t) (complement-at t) complement.Post
+complement-enum-known-first t c = search needs
+
+complement-sub-left : (t : ℕ) → complement-lts.Need-sub-left (complement-claims t) (complement-at t) complement.Post
+complement-sub-left t c = subst (Decides _ _ _ _ _) (c .before .first .given .1) (c .before .before .before .first-pair .ensures) .some
+
+complement-opposite-requires : (t : ℕ) → complement-lts.Need-opposite-requires (complement-claims t) (complement-at t) complement.Post
+complement-opposite-requires t c κs = search needs
+
+complement-returns : (t : ℕ) → complement-lts.Need-returns (complement-claims t) (complement-at t) complement.Post
+complement-returns t c =
+    complement-ends _ _ (c .before .before .before .before .before .before .before .before .before .before .pre .1 .0 .within) _ _ _ _ _ _ _
+    (subst (Decides _ _ _ _ _) (c .before .before .first .given .1) (c .before .before .before .before .first-pair .ensures)) (c .opposite .ensures)
+
+complement-enum-told : (t : ℕ) → complement-lts.Need-enum-told (complement-claims t) (complement-at t) complement.Post
+complement-enum-told t c = search needs
 
 complement-inside-requires : (t : ℕ) → complement-lts.Need-inside-requires (complement-claims t) (complement-at t) complement.Post
 complement-inside-requires t c κs = search needs
@@ -139,11 +164,11 @@ complement-start-requires t c κs = search needs
 
 complement-level-requires : (t : ℕ) → complement-lts.Need-level-requires (complement-claims t) (complement-at t) complement.Post
 complement-level-requires t c κs =
-    let args = c .before .before .before .before .before .before .before .before .before .before .args in
-    let pre = c .before .before .before .before .before .before .before .before .before .before .pre in
+    let args = c .before .before .before .before .before .before .before .before .before .before .before .before .before .before .args in
+    let pre = c .before .before .before .before .before .before .before .before .before .before .before .before .before .before .pre in
     let w = pre .1 .0 .within in
     let d = inside-length (args .pattern .now) (putByIn (args .c)) w in
-    rw (c .start .ensures, c .before .inside .ensures) (
+    rw (c .start .ensures, c .before .inside2 .ensures) (
       omega (arith, pre .0, w, d, pre .1 .1 .of-pattern),
       (
         inside-holding _ _ w (pre .1 .0),
@@ -153,16 +178,16 @@ complement-level-requires t c κs =
       ),
     )
 
-complement-opposite-requires : (t : ℕ) → complement-lts.Need-opposite-requires (complement-claims t) (complement-at t) complement.Post
-complement-opposite-requires t c κs = search needs
+complement-opposite-requires-2 : (t : ℕ) → complement-lts.Need-opposite-requires-2 (complement-claims t) (complement-at t) complement.Post
+complement-opposite-requires-2 t c κs = search needs
 
-complement-returns : (t : ℕ) → complement-lts.Need-returns (complement-claims t) (complement-at t) complement.Post
-complement-returns t c =
+complement-returns-2 : (t : ℕ) → complement-lts.Need-returns-2 (complement-claims t) (complement-at t) complement.Post
+complement-returns-2 t c =
     complement-tests _ _
-    (c .before .before .before .before .before .before .before .before .before .before .before .before .pre .1 .0 .within) _ _ _ _ _ _ _
-    (c .before .before .before .before .before .before .before .before .before .before .before .before .pre .1 .1 .of-pattern)
-    (c .before .before .before .inside .ensures) (c .before .before .start .ensures)
-    (c .before .level .ensures) (c .opposite .ensures)
+    (c .before .before .before .before .before .before .before .before .before .before .before .before .before .before .before .before .pre .1 .0 .within) _ _ _ _ _ _ _
+    (c .before .before .before .before .before .before .before .before .before .before .before .before .before .before .before .before .pre .1 .1 .of-pattern)
+    (c .before .before .before .inside2 .ensures) (c .before .before .start .ensures)
+    (c .before .level .ensures) (c .opposite2 .ensures)
 
 abbrev complements-claims : ℕ → complements-lts.Claims
 complements-claims t = (
@@ -493,14 +518,20 @@ pub +complement+complements+follow+level+rest-spec : {M : Type 1} → statement 
     (complement-cast-stop t)
     (complement-add-stop t)
     (complement-cast-node t)
-    (complement-sub-level t)
-    (complement-part-level-start t)
-    (complement-part-level-end t)
+    (complement-sub-inside t)
+    (complement-part-inside-start t)
+    (complement-part-inside-end t)
+    (complement-first-pair-requires t)
+    (complement-enum-known-first t)
+    (complement-sub-left t)
+    (complement-opposite-requires t)
+    (complement-returns t)
+    (complement-enum-told t)
     (complement-inside-requires t)
     (complement-start-requires t)
     (complement-level-requires t)
-    (complement-opposite-requires t)
-    (complement-returns t))
+    (complement-opposite-requires-2 t)
+    (complement-returns-2 t))
     (λ t. complements-lts.spec
     (complements-claims t)
     (complements-at t)
