@@ -3,12 +3,14 @@ use Prim.Native.Nat.{ℕ, suc, _+_, _-_, _≤_}
 use native.Mathlib.Omega.{arith}
 use mathlib.Core.Path.{_≡_, refl, sym, _∙_, ap, ap₂, subst}
 use mathlib.Core.List.{List, [], _∷_}
-use mathlib.Core.Bool.{Bool, true, false, cond}
+use mathlib.Core.Bool.{Bool, true, false, cond, _&&_, false≢true}
 use lib.ListN.{length, getD, drop, length-drop}
+use lib.Dec.{eqb}
+use borrow.Author.Tests.{eqb-true}
 use Rattle.term.specs.Table.{isList, width}
 use Rattle.term.specs.Tree.{Tree, Trees, branch, empty, more, number, listCode, encode, encodes}
 use Rattle.term.specs.Term.{Terms, node, nil, _::_, _⧺_, count, size, sizes, termTrees, termsBytes}
-use Rattle.term.specs.Pattern.{Children, symbol, end, plain, arity, childTrees, childrenBytes}
+use Rattle.term.specs.Pattern.{Children, symbol, end, plain, run, arity, childTrees, childrenBytes}
 use Rattle.term.specs.Limits.{Shape, belowOf, Fits}
 use Rattle.term.specs.declared.Code.{Code}
 use Rattle.term.specs.declared.Code.the-variants.{Symbol}
@@ -17,7 +19,7 @@ use Rattle.term.proofs.Sizes.{front, past-front, past-tree, past-terms, terms-l
 use Rattle.anti_pattern.specs.Search.{Env}
 use Rattle.anti_pattern.specs.Machine.{Frame, Pending, frame}
 use Rattle.anti_pattern.proofs.Facts.{count-join}
-use Rattle.search.specs.State.{Frame as Counts, frame as counts, State, state, passed, entered, reopened}
+use Rattle.search.specs.State.{Frame as Counts, frame as counts, State, state, passed, entered, reopened, alone}
 use Rattle.search.specs.declared.Place.{Place}
 use Rattle.matcher.specs.Represents.{Limited, codesLeft, bytesLeft, Stacked, Here, Stands, Shown, Represents}
 use Rattle.term.proofs.Joins.{bytes-join, sizes-join, fit-split, leaf-length}
@@ -70,6 +72,16 @@ pub stacked-open : (table : List ℕ) (frames : List Counts) (at : ℕ) (f : Fra
     → (c : Counts) × (cs : List Counts) × (frames ≡ c ∷ cs)
 stacked-open table [] at f fs h = absurd h
 stacked-open table (c ∷ cs) at f fs h = (c, cs, refl)
+
+-- behind the last child pattern of a level nothing of the pattern is left
+pub behind-last : (table : List ℕ) (frames : List Counts) (at children : ℕ) (qs : Children) (fs : List Frame) → Stacked table frames at fs
+    → children ≡ suc (arity qs) → alone frames && eqb children 1 ≡ true → childrenBytes table qs (codesLeft table fs) ≡ []
+unfolding encode
+behind-last table [] at children end [] h k e = refl
+behind-last table [] at children (plain q qs) [] h k e = absurd (omega (arith, eqb-true children 1 e))
+behind-last table [] at children (run v qs) [] h k e = absurd (omega (arith, eqb-true children 1 e))
+behind-last table [] at children qs (f ∷ fs) h k e = absurd h
+behind-last table (c ∷ cs) at children qs fs h k e = absurd (false≢true e)
 
 module _ (table pattern bytes : List ℕ) (p : Place) (frames : List Counts) where
   -- past a child that holds of the elements w

@@ -23,12 +23,13 @@ use Rattle.term.proofs.Sizes.{front, number-children, number-terms, node-bytes,
 use Rattle.term.proofs.Extents.{entry-symbol, extent-tree}
 use Rattle.anti_pattern.specs.Machine.{Frame}
 use Rattle.anti_pattern.specs.Search.{behind}
-use Rattle.search.specs.State.{Frame as Counts, alone, variableOf, variableAt, standsOf, overStep, symbolStep, assignedStep, nameStep, pairStep, plainStep, codeStep, stepOf}
+use Rattle.search.specs.State.{Frame as Counts, alone, variableOf, variableAt, standsOf, overStep, symbolStep, assignedStep, nameStep, complementStep, pairStep, plainStep, codeStep, stepOf}
 use Rattle.search.specs.declared.Place.{Place}
 use Rattle.search.specs.declared.Step.the-variants.{Stops, Fails, Closes, Opens, Passes, Binds, PutsBy}
 use Rattle.search.specs.declared.Stop.the-variants.{Failure, NoAllowance, NoPair}
 use Rattle.matcher.specs.Represents.{Limited, codesLeft, bytesLeft, Here, Stands}
 use Rattle.term.proofs.Joins.{sizes-single, rootOf, first-code}
+use Rattle.matcher.proofs.Places.{behind-last}
 use Rattle.matcher.proofs.Parts.{assigned-stands, assigned-differs}
 
 -- the extent of what stands first
@@ -45,36 +46,38 @@ extent-element table small t ts bs h =
 
 -- by the numbers alone
 
-module _ (table pattern bytes : List ℕ) (had : Part) (p : Place) (left : ℕ) where
-  pub turn-over : (outermost : Bool) → p .children ≡ 0 → 0 < p .elements → stepOf outermost table pattern bytes had p left ≡ Stops Failure
+module _ (table pattern bytes : List ℕ) (had : Part) (p : Place) (left : ℕ) (outermost : Bool) where
+  pub turn-over : p .children ≡ 0 → 0 < p .elements → stepOf outermost table pattern bytes had p left ≡ Stops Failure
   unfolding stepOf overStep
-  turn-over outermost h k = rw (eq-eqb (p .children) 0 h, ne-eqb (p .elements) 0 (λ e. omega arith))
+  turn-over h k = rw (eq-eqb (p .children) 0 h, ne-eqb (p .elements) 0 (λ e. omega arith))
 
-  pub turn-end : (outermost : Bool) → p .children ≡ 0 → p .elements ≡ 0 → stepOf outermost table pattern bytes had p left ≡ cond outermost (Stops NoPair) Closes
+  pub turn-end : p .children ≡ 0 → p .elements ≡ 0 → stepOf outermost table pattern bytes had p left ≡ cond outermost (Stops NoPair) Closes
   unfolding stepOf overStep
-  turn-end outermost h k = rw (eq-eqb (p .children) 0 h, eq-eqb (p .elements) 0 k)
+  turn-end h k = rw (eq-eqb (p .children) 0 h, eq-eqb (p .elements) 0 k)
 
-  turn-code : (outermost : Bool) (c : Code) → 0 < p .children → p .at < length pattern → decodeOf (getD pattern (p .at) 0) ≡ c
-      → stepOf outermost table pattern bytes had p left ≡ codeStep c table pattern bytes had p left
+  turn-code : (c : Code) → 0 < p .children → p .at < length pattern → decodeOf (getD pattern (p .at) 0) ≡ c
+      → stepOf outermost table pattern bytes had p left ≡ codeStep outermost c table pattern bytes had p left
   unfolding stepOf
-  turn-code outermost c h k e = rw (ne-eqb (p .children) 0 (λ z. omega arith), lt-ltb (p .at) (length pattern) k, e)
+  turn-code c h k e = rw (ne-eqb (p .children) 0 (λ z. omega arith), lt-ltb (p .at) (length pattern) k, e)
 
-  plain-short : (c : Code) → p .elements ≡ 0 → plainStep c table pattern bytes had p left ≡ Stops Failure
+  plain-short : (c : Code) → p .elements ≡ 0 → plainStep outermost c table pattern bytes had p left ≡ Stops Failure
   unfolding plainStep
   plain-short c h = rw (eq-eqb (p .elements) 0 h)
 
-  plain-spent : (c : Code) → 0 < p .elements → p .node < length bytes → left ≡ 0 → plainStep c table pattern bytes had p left ≡ Stops NoAllowance
+  plain-spent : (c : Code) → 0 < p .elements → p .node < length bytes → left ≡ 0 → plainStep outermost c table pattern bytes had p left ≡ Stops NoAllowance
   unfolding plainStep
   plain-spent c h k z = rw (ne-eqb (p .elements) 0 (λ e. omega arith), lt-leb (length bytes) (p .node) k, eq-eqb left 0 z)
 
   plain-pair : (c : Code) → 0 < p .elements → p .node < length bytes → 0 < left
-      → plainStep c table pattern bytes had p left ≡ pairStep c table bytes (drop (p .at) pattern) (drop (p .node) bytes) had (p .elements)
+      → plainStep outermost c table pattern bytes had p left
+      ≡ pairStep (outermost && eqb (p .children) 1) c table bytes (drop (p .at) pattern) (drop (p .node) bytes) had (p .elements)
   unfolding plainStep
   plain-pair c h k z =
       rw (ne-eqb (p .elements) 0 (λ e. omega arith), lt-leb (length bytes) (p .node) k, ne-eqb left 0 (λ e. omega arith))
 
   by-plain : (q : Pattern)
-      → codeStep (rootOf (patternTree q)) table pattern bytes had p left ≡ plainStep (rootOf (patternTree q)) table pattern bytes had p left
+      → codeStep outermost (rootOf (patternTree q)) table pattern bytes had p left
+      ≡ plainStep outermost (rootOf (patternTree q)) table pattern bytes had p left
   unfolding codeStep
   by-plain (name v) = refl
   by-plain (symbol s qs) = refl
@@ -107,31 +110,33 @@ module _ (table pattern bytes : List ℕ) (p : Place) (frames : List Counts) (fs
     unfolding variableAt
     variable-here = rw (lt-ltb (p .at) (length pattern) (first-child .0), first-child .1)
 
-    pub does-code : (had : Part) (left : ℕ) → stepOf (alone frames) table pattern bytes had p left ≡ codeStep (rootOf c) table pattern bytes had p left
+    pub does-code : (had : Part) (left : ℕ)
+        → stepOf (alone frames) table pattern bytes had p left ≡ codeStep (alone frames) (rootOf c) table pattern bytes had p left
     does-code had left = turn-code table pattern bytes had p left (alone frames) (rootOf c) some-children (first-child .0) (first-child .1)
 
   -- a plain child pattern
   module _ (q : Pattern) (qs : Children) (had : Part) (left : ℕ) where
     does-plain : (ts : Terms) → Here table pattern bytes p frames (plain q qs) ts fs
-        → stepOf (alone frames) table pattern bytes had p left ≡ plainStep (rootOf (patternTree q)) table pattern bytes had p left
-    does-plain ts h = does-code (plain q qs) qs (patternTree q) ts refl h had left ∙ by-plain table pattern bytes had p left q
+        → stepOf (alone frames) table pattern bytes had p left ≡ plainStep (alone frames) (rootOf (patternTree q)) table pattern bytes had p left
+    does-plain ts h = does-code (plain q qs) qs (patternTree q) ts refl h had left ∙ by-plain table pattern bytes had p left (alone frames) q
 
     pub does-short : Here table pattern bytes p frames (plain q qs) nil fs → stepOf (alone frames) table pattern bytes had p left ≡ Stops Failure
-    does-short h = does-plain nil h ∙ plain-short table pattern bytes had p left (rootOf (patternTree q)) (h .elements)
+    does-short h = does-plain nil h ∙ plain-short table pattern bytes had p left (alone frames) (rootOf (patternTree q)) (h .elements)
 
     module _ (t : Term) (ts : Terms) (h : Here table pattern bytes p frames (plain q qs) (t :: ts) fs) where
       pub does-spent : left ≡ 0 → stepOf (alone frames) table pattern bytes had p left ≡ Stops NoAllowance
       does-spent z =
           does-plain (t :: ts) h
-          ∙ plain-spent table pattern bytes had p left (rootOf (patternTree q)) (omega (arith, h .elements))
+          ∙ plain-spent table pattern bytes had p left (alone frames) (rootOf (patternTree q)) (omega (arith, h .elements))
           (some-bytes table bytes (p .node) t ts _ (h .stands)) z
 
       pub does-pair : 0 < left
           → stepOf (alone frames) table pattern bytes had p left
-          ≡ pairStep (rootOf (patternTree q)) table bytes (drop (p .at) pattern) (drop (p .node) bytes) had (p .elements)
+          ≡ pairStep (alone frames && eqb (p .children) 1) (rootOf (patternTree q)) table bytes (drop (p .at) pattern) (drop (p .node) bytes) had
+          (p .elements)
       does-pair z =
           does-plain (t :: ts) h
-          ∙ plain-pair table pattern bytes had p left (rootOf (patternTree q)) (omega (arith, h .elements))
+          ∙ plain-pair table pattern bytes had p left (alone frames) (rootOf (patternTree q)) (omega (arith, h .elements))
           (some-bytes table bytes (p .node) t ts _ (h .stands)) z
 
   -- an assigned variable, its own elements against those left
@@ -210,16 +215,25 @@ module _ (table : List ℕ) (small : length table ≤ 200) (pattern bytes : List
   unfolding symbolStep encode
   symbol-fails s r cs us ts h e = rw (h .stands, node-bytes table r us (termsBytes table ts (bytesLeft table fs (h .bytes-after))), e)
 
-  -- a complement is put by
+  -- a complement is put by, the last child pattern of its level or not
   pub complement-put-by : (q : Pattern) (qs : Children) (t : Term) (ts : Terms) (had : Part)
       → Here table pattern bytes p frames (plain (complement q) qs) (t :: ts) fs
-      → pairStep Complement table bytes (drop (p .at) pattern) (drop (p .node) bytes) had (p .elements)
-      ≡ PutsBy (length (patternBytes table (complement q) [])) (sizes table (single t))
-  unfolding pairStep
-  complement-put-by q qs t ts had h =
-      rw (
-        h .codes,
-        extent-first table small false (patternTree (complement q)) (childTrees qs) (codesLeft table fs) (h .patterns-limited),
-        h .stands,
-        extent-element table small t ts (bytesLeft table fs (h .bytes-after)) (h .elements-limited),
-      )
+      → pairStep (alone frames && eqb (p .children) 1) Complement table bytes (drop (p .at) pattern) (drop (p .node) bytes) had (p .elements)
+      ≡ PutsBy (length (patternBytes table (complement q) [])) (cond (alone frames && eqb (p .children) 1) 0 (sizes table (single t)))
+  unfolding pairStep complementStep encode
+  complement-put-by q qs t ts had h = by (alone frames && eqb (p .children) 1) refl
+    where
+      by : (last : Bool) → alone frames && eqb (p .children) 1 ≡ last
+          → complementStep last table (drop (p .at) pattern) (drop (p .node) bytes)
+          ≡ PutsBy (length (patternBytes table (complement q) [])) (cond last 0 (sizes table (single t)))
+      by true e =
+          ap (λ (l : List ℕ). PutsBy (length l) 0)
+          (h .codes
+          ∙ ap (encode table (patternTree (complement q))) (behind-last table frames _ (p .children) qs fs (h .around) (h .children) e))
+      by false e =
+          rw (
+            h .codes,
+            extent-first table small false (patternTree (complement q)) (childTrees qs) (codesLeft table fs) (h .patterns-limited),
+            h .stands,
+            extent-element table small t ts (bytesLeft table fs (h .bytes-after)) (h .elements-limited),
+          )

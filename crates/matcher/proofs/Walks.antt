@@ -3,7 +3,7 @@ use Prim.Native.Nat.{ℕ, zero, suc, _+_, _-_, _*_, _<_, _≤_}
 use native.Mathlib.Omega.{arith}
 use mathlib.Core.Path.{_≡_, refl, sym, _∙_, ap, ap₂, subst}
 use mathlib.Core.List.{List, [], _∷_, _++_}
-use mathlib.Core.Bool.{Bool, true, false, cond}
+use mathlib.Core.Bool.{Bool, true, false, cond, _&&_}
 use mathlib.Core.Option.{Option, none, some}
 use lib.ListN.{length, getD, take, drop, set}
 use lib.Seq.{take-at}
@@ -29,8 +29,9 @@ use Rattle.anti_pattern.proofs.Facts.{behind-sound, one-behind, none-behind}
 use Rattle.anti_pattern.proofs.Machinery.{machine-end, machine-run-fresh}
 use Rattle.anti_pattern.proofs.Metering.{Split, enough, over, split}
 use Rattle.anti_pattern.proofs.Steps.{step-over, step-short, pair-used-up, step-name, step-name-differs, step-symbol, step-symbol-differs, step-complement, step-run, step-run-differs, run-used-up}
-use Rattle.search.specs.State.{Frame as Counts, frame as counts, PutBy, putBy, State, state, partAt, passed, entered, closedBy, closed, alone, variableOf, variableAt, assignedStep, symbolStep, nameStep, runStep, pairStep, codeStep, stepOf, nextOf, walkOf}
+use Rattle.search.specs.State.{Frame as Counts, frame as counts, PutBy, putBy, place, State, state, partAt, passed, entered, closedBy, closed, alone, variableOf, variableAt, overStep, assignedStep, symbolStep, nameStep, runStep, pairStep, codeStep, stepOf, nextOf, walkOf}
 use Rattle.search.specs.Level.{Reply, failedAt, stopBy, afterWalk, levels}
+use Rattle.search.specs.declared.Place.{Place}
 use Rattle.search.specs.declared.Step.{Step}
 use Rattle.search.specs.declared.Step.the-variants.{Stops, Fails, Closes, Opens, Passes, Binds, PutsBy}
 use Rattle.search.specs.declared.Stop.{Stop}
@@ -119,6 +120,29 @@ module _ (table : List ℕ) (small : length table ≤ 200) (bytes : List ℕ) (s
         (passed (s .place) 1 codes size)) (left - 1)
     unfolding walkOf nextOf
     puts-by codes size h = rw h
+
+  -- a level with no child pattern left ends alike wherever in the record it stands
+  ends-anywhere : (turns : ℕ) (parts : List Part) (waiting : List PutBy) (elements at here there left : ℕ)
+      → searched turns (state parts [] waiting (place 0 elements at here)) left ≡ searched turns (state parts [] waiting (place 0 elements at there)) left
+  unfolding walkOf stepOf overStep nextOf afterWalk
+  ends-anywhere zero parts waiting elements at here there left = refl
+  ends-anywhere (suc turns) parts waiting zero at here there left = refl
+  ends-anywhere (suc turns) parts waiting (suc elements) at here there left = rw (ne-eqb (suc elements) 0 (λ z. omega arith))
+
+  -- so past a complement that was its last
+  past-last : (turns : ℕ) (parts : List Part) (frames : List Counts) (waiting : List PutBy) (p : Place) (codes size left : ℕ)
+      → searched turns (state parts frames waiting (passed p 1 codes (cond (alone frames && eqb (p .children) 1) 0 size))) left
+      ≡ searched turns (state parts frames waiting (passed p 1 codes size)) left
+  past-last turns parts (f ∷ frames) waiting p codes size left = refl
+  past-last turns parts [] waiting p codes size left = by (eqb (p .children) 1) refl
+    where
+      by : (last : Bool) → eqb (p .children) 1 ≡ last
+          → searched turns (state parts [] waiting (passed p 1 codes (cond last 0 size))) left
+          ≡ searched turns (state parts [] waiting (passed p 1 codes size)) left
+      by true e =
+          let z : p .children - 1 ≡ 0 = omega (arith, eqb-true (p .children) 1 e) in
+          rw z (ends-anywhere turns parts waiting (p .elements - 1) (p .at + codes) (p .node + 0) (p .node + size) left)
+      by false e = refl
 
   module _ (turns : ℕ) (goes : Goes turns) (s : State) (fs : List Frame) (e : Env) (ds : List Pending) (left : ℕ) where
     abbrev Agreed : Children → Terms → Type 0
@@ -372,7 +396,8 @@ module _ (table : List ℕ) (small : length table ≤ 200) (bytes : List ℕ) (s
           (sym (sizes-single table t)))
           (puts-by turns s left _ _
           (does-pair table pattern bytes (s .place) (s .frames) fs (complement q) qs _ left t ts (h .is .here) i
-          ∙ complement-put-by table small pattern bytes (s .place) (s .frames) fs q qs t ts _ (h .is .here)))
+          ∙ complement-put-by table small pattern bytes (s .place) (s .frames) fs q qs t ts _ (h .is .here))
+          ∙ past-last turns (s .parts) (s .frames) _ (s .place) _ (sizes table (single t)) (left - 1))
           (goes _ qs ts fs e (ds ++ (pending q t (s .place .node) ∷ [])) (left - 1)
           (record {
             is = record {

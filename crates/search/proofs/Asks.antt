@@ -19,7 +19,7 @@ use Rattle.term.specs.declared.Code.the-variants.{Symbol, Name, Run, Complement
 use Rattle.term.specs.declared.Code.{Code}
 use Rattle.term.specs.declared.Part.{Part}
 use Rattle.search.specs.Bounds.{Ready}
-use Rattle.search.specs.State.{standsOf, overStep, symbolStep, assignedStep, nameStep, runStep, pairStep, plainStep, codeStep, stepOf, variableOf, variableAt}
+use Rattle.search.specs.State.{standsOf, overStep, symbolStep, assignedStep, nameStep, runStep, complementStep, pairStep, plainStep, codeStep, stepOf, variableOf, variableAt}
 use Rattle.search.specs.declared.Place.{Place}
 use Rattle.search.specs.declared.Step.the-variants.{Stops, Fails, Closes, Opens, Passes, Binds, PutsBy}
 use Rattle.search.specs.declared.Step.{Step}
@@ -154,8 +154,29 @@ module _ (outermost : Bool) (table pattern bytes : List ℕ) (had : Part) (p : P
             node = omega (arith, leb-true 2 (length (drop (p .node) bytes)) (f .1), length-drop (p .node) bytes);
           }
 
+      asks-complement : (last : Bool)
+          → Asks outermost pattern bytes had p left (complementStep last table (drop (p .at) pattern) (drop (p .node) bytes))
+      unfolding complementStep
+      asks-complement true = record {
+        allowed = l;
+        children = children;
+        elements = elements;
+        some = omega (arith, length-drop (p .at) pattern);
+        at = omega (arith, length-drop (p .at) pattern);
+        node = omega arith;
+      }
+      asks-complement false = record {
+        allowed = l;
+        children = children;
+        elements = elements;
+        some = extent-some table (drop (p .at) pattern) (omega (arith, length-drop (p .at) pattern));
+        at = extent-within table pattern (p .at) (omega arith);
+        node = extent-within table bytes (p .node) node;
+      }
+
       asks-pair : (c : Code) → VariableBelow c → variableOf c ≡ variableAt pattern (p .at)
-          → Asks outermost pattern bytes had p left (pairStep c table bytes (drop (p .at) pattern) (drop (p .node) bytes) had (p .elements))
+          → Asks outermost pattern bytes had p left
+          (pairStep (outermost && eqb (p .children) 1) c table bytes (drop (p .at) pattern) (drop (p .node) bytes) had (p .elements))
       unfolding pairStep nameStep VariableBelow
       asks-pair (Symbol b) low here = asks-symbol b
       asks-pair (Name v) low here =
@@ -173,18 +194,11 @@ module _ (outermost : Bool) (table pattern bytes : List ℕ) (had : Part) (p : P
           ))
           (λ e. asks-assigned l)
       asks-pair (Run v) low here = l
-      asks-pair Complement low here = record {
-        allowed = l;
-        children = children;
-        elements = elements;
-        some = extent-some table (drop (p .at) pattern) (omega (arith, length-drop (p .at) pattern));
-        at = extent-within table pattern (p .at) (omega arith);
-        node = extent-within table bytes (p .node) node;
-      }
+      asks-pair Complement low here = asks-complement (outermost && eqb (p .children) 1)
       asks-pair Code.Refused low here = l
 
     asks-plain : (c : Code) → VariableBelow c → variableOf c ≡ variableAt pattern (p .at)
-        → Asks outermost pattern bytes had p left (plainStep c table pattern bytes had p left)
+        → Asks outermost pattern bytes had p left (plainStep outermost c table pattern bytes had p left)
     unfolding plainStep
     asks-plain c low here =
         cond-all (Asks outermost pattern bytes had p left) _ (λ e. tt)
@@ -195,7 +209,7 @@ module _ (outermost : Bool) (table pattern bytes : List ℕ) (had : Part) (p : P
         (pos-of-ne-zero (eqb-false left 0 z)) c low here))
 
     asks-code : (c : Code) → VariableBelow c → variableOf c ≡ variableAt pattern (p .at)
-        → Asks outermost pattern bytes had p left (codeStep c table pattern bytes had p left)
+        → Asks outermost pattern bytes had p left (codeStep outermost c table pattern bytes had p left)
     unfolding codeStep VariableBelow
     asks-code (Symbol b) low here = asks-plain (Symbol b) low here
     asks-code (Name v) low here = asks-plain (Name v) low here

@@ -49,7 +49,7 @@ module _ (table pattern bytes : List ℕ) (node left b : ℕ) (some : left ≡ 0
   first-step shown x e =
       step-at true table pattern bytes (partAt (startOf shown node)) (place 1 1 0 node) left (Symbol b) x (λ z. omega arith) codes
       (sym is-symbol ∙ is-code)
-      (plain-pair (Symbol b) table pattern bytes _ (place 1 1 0 node) left x (λ z. omega arith) within some e)
+      (plain-pair true (Symbol b) table pattern bytes _ (place 1 1 0 node) left x (λ z. omega arith) within some e)
 
   walk-differs : (shown : List Part) → Fails ≡ symbolStep table here there b
       → walkOf 1024 table pattern bytes (startOf shown node) left ≡ walked Failure (left - 1) (startOf shown node)

@@ -5,7 +5,7 @@ use native.Mathlib.Nat.{le-of-eq}
 use mathlib.Core.Bool.{Bool, false, _&&_}
 use mathlib.Core.List.{List}
 use mathlib.Core.Path.{_≡_, ap, _∙_}
-use lib.Dec.{leb}
+use lib.Dec.{leb, eqb}
 use lib.ListN.{length, getD, drop, take, length-drop}
 use lib.Seq.{take-all}
 use borrow.Author.Tests.{lt-ltb, le-leb, lt-leb, eq-eqb, ne-eqb}
@@ -45,19 +45,19 @@ module _ (table q r : List ℕ) (b : ℕ) (same : b ≡ getD r 0 0) (e : ℕ) (e
   unfolding symbolStep
   symbol-short z n i = rw (← entry, eq-eqb b (getD r 0 0) same, ne-eqb e 0 z, eq-eqb e 255 n, i)
 
-pub plain-pair : (c : Code) (table pattern bytes : List ℕ) (had : Part) (p : Place) (left : ℕ) (x : Step)
+pub plain-pair : (outermost : Bool) (c : Code) (table pattern bytes : List ℕ) (had : Part) (p : Place) (left : ℕ) (x : Step)
     → (p .elements ≡ 0 → ⊥) → p .node < length bytes → (left ≡ 0 → ⊥)
-    → x ≡ pairStep c table bytes (take (length pattern - p .at) (drop (p .at) pattern)) (take (length bytes - p .node) (drop (p .node) bytes)) had
-    (p .elements)
-    → x ≡ plainStep c table pattern bytes had p left
+    → x ≡ pairStep (outermost && eqb (p .children) 1) c table bytes (take (length pattern - p .at) (drop (p .at) pattern))
+    (take (length bytes - p .node) (drop (p .node) bytes)) had (p .elements)
+    → x ≡ plainStep outermost c table pattern bytes had p left
 unfolding plainStep
-plain-pair c table pattern bytes had p left x e n l h =
+plain-pair outermost c table pattern bytes had p left x e n l h =
     rw (ne-eqb (p .elements) 0 e, lt-leb (length bytes) (p .node) n, ne-eqb left 0 l)
     (h ∙ rw (rest-drop (p .at) pattern, rest-drop (p .node) bytes))
 
 pub step-at : (outermost : Bool) (table pattern bytes : List ℕ) (part : ℕ → Part) (p : Place) (left : ℕ) (c : Code) (x : Step)
     → (p .children ≡ 0 → ⊥) → p .at < length pattern → c ≡ decodeOf (getD pattern (p .at) 0)
-    → x ≡ codeStep c table pattern bytes (part (variableOf c)) p left
+    → x ≡ codeStep outermost c table pattern bytes (part (variableOf c)) p left
     → x ≡ stepOf outermost table pattern bytes (part (variableAt pattern (p .at))) p left
 unfolding stepOf variableAt
 step-at outermost table pattern bytes part p left c x n a e h = rw (ne-eqb (p .children) 0 n, lt-ltb (p .at) (length pattern) a, ← e) h

@@ -121,32 +121,37 @@ unfoldable pub runStep : List ℕ → ℕ → Part → List ℕ → ℕ → ℕ 
 runStep bytes v had r elements left =
     cond (isAbsent had) (Stops (RunName v)) (cond (eqb left 0) (Stops NoAllowance) (assignedStep bytes had r elements))
 
--- a pattern node is set against a record node: q and r start there; a complement is put by
-unfoldable pub pairStep : Code → List ℕ → List ℕ → List ℕ → List ℕ → Part → ℕ → Step
-pairStep (Symbol b) table bytes q r had elements = symbolStep table q r b
-pairStep (Name v) table bytes q r had elements = nameStep table bytes r v had elements
-pairStep (Run v) table bytes q r had elements = Fails
-pairStep Complement table bytes q r had elements = PutsBy (extentOf table q) (extentOf table r)
-pairStep Code.Refused table bytes q r had elements = Fails
+-- a complement is put by; the last child pattern of a level is all that is left of it, and where its node ends does not matter
+unfoldable pub complementStep : Bool → List ℕ → List ℕ → List ℕ → Step
+complementStep last table q r = cond last (PutsBy (length q) 0) (PutsBy (extentOf table q) (extentOf table r))
+
+-- a pattern node, the last of its level or not, is set against a record node: q and r start there
+unfoldable pub pairStep : Bool → Code → List ℕ → List ℕ → List ℕ → List ℕ → Part → ℕ → Step
+pairStep last (Symbol b) table bytes q r had elements = symbolStep table q r b
+pairStep last (Name v) table bytes q r had elements = nameStep table bytes r v had elements
+pairStep last (Run v) table bytes q r had elements = Fails
+pairStep last Complement table bytes q r had elements = complementStep last table q r
+pairStep last Code.Refused table bytes q r had elements = Fails
 
 -- a plain child pattern: with no element left it fails uncounted
-unfoldable pub plainStep : Code → List ℕ → List ℕ → List ℕ → Part → Place → ℕ → Step
-plainStep c table pattern bytes had p left =
+unfoldable pub plainStep : Bool → Code → List ℕ → List ℕ → List ℕ → Part → Place → ℕ → Step
+plainStep outermost c table pattern bytes had p left =
     cond (eqb (p .elements) 0 || leb (length bytes) (p .node)) (Stops Failure)
-    (cond (eqb left 0) (Stops NoAllowance) (pairStep c table bytes (drop (p .at) pattern) (drop (p .node) bytes) had (p .elements)))
+    (cond (eqb left 0) (Stops NoAllowance)
+    (pairStep (outermost && eqb (p .children) 1) c table bytes (drop (p .at) pattern) (drop (p .node) bytes) had (p .elements)))
 
-unfoldable pub codeStep : Code → List ℕ → List ℕ → List ℕ → Part → Place → ℕ → Step
-codeStep (Symbol b) table pattern bytes had p left = plainStep (Symbol b) table pattern bytes had p left
-codeStep (Name v) table pattern bytes had p left = plainStep (Name v) table pattern bytes had p left
-codeStep (Run v) table pattern bytes had p left = runStep bytes v had (drop (p .node) bytes) (p .elements) left
-codeStep Complement table pattern bytes had p left = plainStep Complement table pattern bytes had p left
-codeStep Code.Refused table pattern bytes had p left = Stops Failure
+unfoldable pub codeStep : Bool → Code → List ℕ → List ℕ → List ℕ → Part → Place → ℕ → Step
+codeStep outermost (Symbol b) table pattern bytes had p left = plainStep outermost (Symbol b) table pattern bytes had p left
+codeStep outermost (Name v) table pattern bytes had p left = plainStep outermost (Name v) table pattern bytes had p left
+codeStep outermost (Run v) table pattern bytes had p left = runStep bytes v had (drop (p .node) bytes) (p .elements) left
+codeStep outermost Complement table pattern bytes had p left = plainStep outermost Complement table pattern bytes had p left
+codeStep outermost Code.Refused table pattern bytes had p left = Stops Failure
 
 -- what the next turn does, where the variable at this place of the pattern has the part given
 unfoldable pub stepOf : Bool → List ℕ → List ℕ → List ℕ → Part → Place → ℕ → Step
 stepOf outermost table pattern bytes had p left =
     cond (eqb (p .children) 0) (overStep outermost (p .elements))
-    (cond (ltb (p .at) (length pattern)) (codeStep (decodeOf (getD pattern (p .at) 0)) table pattern bytes had p left) (Stops Failure))
+    (cond (ltb (p .at) (length pattern)) (codeStep outermost (decodeOf (getD pattern (p .at) 0)) table pattern bytes had p left) (Stops Failure))
 
 -- The pairs of a level that leave no choice
 

@@ -8,13 +8,14 @@ use term::extent;
 use term::same;
 ghost use mathlib.Core.Path.{_≡_};
 ghost use mathlib.Core.List.{_++_};
+ghost use mathlib.Core.Bool.{_&&_};
 ghost use Prim.Native.Nat.{_+_, _-_, _/_, _%_, _^_, _≤_, _<_};
 ghost use lib.ListN.{length, drop, replicate};
 ghost use lib.Bits.{bitOr};
 ghost use lib.Dec.{eqb};
 ghost use Rattle.term.specs.Code.{VariableBelow};
 ghost use Rattle.term.specs.Part.{absent};
-ghost use Rattle.search.specs.State.{place, frame, putBy, passed, entered, reopened, variableOf, variableAt, standsOf, overStep, symbolStep, assignedStep, nameStep, runStep, pairStep, plainStep, stepOf};
+ghost use Rattle.search.specs.State.{place, frame, putBy, passed, entered, reopened, variableOf, variableAt, standsOf, overStep, symbolStep, assignedStep, nameStep, runStep, complementStep, pairStep, plainStep, stepOf};
 ghost use Rattle.search.specs.Level.{failed, endOf, searchOf};
 ghost use Rattle.search.specs.Memory.{bit, packed, unpacked, partIn, frameIn, outer, putByIn, openedMarks, closedMarks, putByMarks, Holding};
 ghost use Rattle.search.specs.Bounds.{Short, Walks, StopsAt, Unassigned};
@@ -221,7 +222,19 @@ fn run_name(record: &[u8], v: u8, part: Part, r: &[u8], elements: u8, left: u32)
     assigned_step(record, part, r, elements)
 }
 
-// A pattern node is set against a record node; a complement is put by.
+// A complement is put by. The last child pattern of a level is all that is left of it, and where its node ends does not matter.
+fn complement_step(table: &[u8], q: &[u8], r: &[u8], inner: usize, children: u8) -> Step
+    ensures { λ x. ⌜ x ≡ complementStep (eqb inner 0 && eqb children 1) (now (table .entry)) (now (q .entry)) (now (r .entry)) ⌝ }
+{
+    if inner == 0 {
+        if children == 1 {
+            return Step::PutsBy(q.len(), 0);
+        }
+    }
+    Step::PutsBy(extent(table, q), extent(table, r))
+}
+
+// A pattern node is set against a record node.
 fn pair(
     table: &[u8],
     record: &[u8],
@@ -230,16 +243,18 @@ fn pair(
     code: Code,
     q: &[u8],
     r: &[u8],
+    inner: usize,
+    children: u8,
     elements: u8,
 ) -> Step
     requires { ⌜ VariableBelow code × (0 < length (now r)) ⌝ }
-    ensures { λ x. ⌜ x ≡ pairStep code (now (table .entry)) (now («record» .entry)) (now (q .entry)) (now (r .entry)) (partIn assigned (now (parts .entry)) (variableOf code)) elements ⌝ }
+    ensures { λ x. ⌜ x ≡ pairStep (eqb inner 0 && eqb children 1) code (now (table .entry)) (now («record» .entry)) (now (q .entry)) (now (r .entry)) (partIn assigned (now (parts .entry)) (variableOf code)) elements ⌝ }
 {
     match code {
         Code::Symbol(b) => symbol(table, q, r, b),
         Code::Name(v) => name(table, record, r, v, part_of(parts, assigned, v), elements),
         Code::Run(_) => Step::Fails,
-        Code::Complement => Step::PutsBy(extent(table, q), extent(table, r)),
+        Code::Complement => complement_step(table, q, r, inner, children),
         Code::Refused => Step::Fails,
     }
 }
@@ -252,11 +267,12 @@ fn plain(
     parts: &[u64; 49],
     assigned: u64,
     code: Code,
+    inner: usize,
     place: Place,
     left: u32,
 ) -> Step
     requires { ⌜ VariableBelow code × (place .at ≤ length (now pattern)) ⌝ }
-    ensures { λ x. ⌜ x ≡ plainStep code (now (table .entry)) (now (pattern .entry)) (now («record» .entry)) (partIn assigned (now (parts .entry)) (variableOf code)) place left ⌝ }
+    ensures { λ x. ⌜ x ≡ plainStep (eqb inner 0) code (now (table .entry)) (now (pattern .entry)) (now («record» .entry)) (partIn assigned (now (parts .entry)) (variableOf code)) place left ⌝ }
 {
     let at = place.at;
     let node = place.node;
@@ -277,6 +293,8 @@ fn plain(
         code,
         &pattern[at..],
         &record[node..],
+        inner,
+        place.children,
         place.elements,
     )
 }
@@ -314,7 +332,17 @@ fn step_of(
             left,
         ),
         Code::Symbol(_) | Code::Name(_) | Code::Complement => {
-            plain(table, pattern, record, parts, assigned, code, place, left)
+            plain(
+                table,
+                pattern,
+                record,
+                parts,
+                assigned,
+                code,
+                marks.inner,
+                place,
+                left,
+            )
         }
         Code::Refused => Step::Stops(Stop::Failure),
     }

@@ -28,11 +28,8 @@ enum-told c = search needs
 enum-told-2 : tie.Need-enum-told-2
 enum-told-2 c = search needs
 
-extent-requires : tie.Need-extent-requires
-extent-requires c κs = search needs
-
-extent-requires-2 : tie.Need-extent-requires-2
-extent-requires-2 c κs = search needs
+complement-step-requires : tie.Need-complement-step-requires
+complement-step-requires c κs = search needs
 
 enum-told-3 : tie.Need-enum-told-3
 enum-told-3 c = search needs
@@ -51,7 +48,7 @@ returns-3 c = rw (c .enum-told .given .1)
 
 returns-4 : tie.Need-returns-4
 unfolding pairStep
-returns-4 c = rw (c .before .before .enum-told2 .given .1, c .extent2 .ensures .0, c .before .extent .ensures .0)
+returns-4 c = rw (c .before .enum-told2 .given .1) (c .complement-step .ensures)
 
 returns-5 : tie.Need-returns-5
 unfolding pairStep
@@ -68,8 +65,7 @@ pair-spec =
     name-requires
     enum-told
     enum-told-2
-    extent-requires
-    extent-requires-2
+    complement-step-requires
     enum-told-3
     returns
     returns-2

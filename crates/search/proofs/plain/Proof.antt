@@ -43,7 +43,7 @@ pair-requires c κs = let r = rest-length (c .before .before .before .before .be
     (c .before .before .before .before .before .before .before .before .before .pre .0, omega arith)
 
 returns-4 : tie.Need-returns-4
-returns-4 c = plain-pair _ _ _ _ _ (c .before .before .before .before .before .before .before .before .before .before .args .place) _ _
+returns-4 c = plain-pair _ _ _ _ _ _ (c .before .before .before .before .before .before .before .before .before .before .args .place) _ _
     (c .before .before .before .before .before .if1 .left) (omega arith) (c .before .before .before .if3 .left) (c .pair .ensures)
 
 pub plain-spec : {M : Type 1} → statement M

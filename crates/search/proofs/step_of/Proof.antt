@@ -1,6 +1,7 @@
 -- `search::step_of` meets its contract. Assumes nothing.
 use Prim.Native.Nat.{ℕ}
 use native.Mathlib.Omega.{arith}
+use mathlib.Core.Bool.{Bool}
 use mathlib.Core.List.{List, [], _∷_}
 use mathlib.Core.Path.{_≡_, sym, _∙_, subst}
 use lib.ListN.{getD}
@@ -23,15 +24,15 @@ use Rattle.search.proofs.step_of.Statement.{statement}
 use Rattle.search.proofs.step_of.Tie as tie
 
 -- the codes of the arm for plain child patterns
-plain-code : (code : Code) (table pattern bytes : List ℕ) (had : Part) (p : Place) (left : ℕ) (x : Step)
-    → OneOf (0 ∷ 1 ∷ 3 ∷ []) (Declared.tagOf codes.the-type code) → x ≡ plainStep code table pattern bytes had p left
-    → x ≡ codeStep code table pattern bytes had p left
+plain-code : (outermost : Bool) (code : Code) (table pattern bytes : List ℕ) (had : Part) (p : Place) (left : ℕ) (x : Step)
+    → OneOf (0 ∷ 1 ∷ 3 ∷ []) (Declared.tagOf codes.the-type code) → x ≡ plainStep outermost code table pattern bytes had p left
+    → x ≡ codeStep outermost code table pattern bytes had p left
 unfolding codeStep
-plain-code (Symbol b) table pattern bytes had p left x k e = e
-plain-code (Name v) table pattern bytes had p left x k e = e
-plain-code (Run v) table pattern bytes had p left x k e = absurd (miss (0 ∷ 1 ∷ 3 ∷ []) 2 tt k)
-plain-code Complement table pattern bytes had p left x k e = e
-plain-code Code.Refused table pattern bytes had p left x k e = absurd (miss (0 ∷ 1 ∷ 3 ∷ []) 4 tt k)
+plain-code outermost (Symbol b) table pattern bytes had p left x k e = e
+plain-code outermost (Name v) table pattern bytes had p left x k e = e
+plain-code outermost (Run v) table pattern bytes had p left x k e = absurd (miss (0 ∷ 1 ∷ 3 ∷ []) 2 tt k)
+plain-code outermost Complement table pattern bytes had p left x k e = e
+plain-code outermost Code.Refused table pattern bytes had p left x k e = absurd (miss (0 ∷ 1 ∷ 3 ∷ []) 4 tt k)
 
 over-requires : tie.Need-over-requires
 over-requires c κs = search needs
@@ -96,7 +97,7 @@ returns-4 c =
     let args = c .before .before .before .before .before .before .before .before .before .before .args in
     step-at _ _ _ _ (partIn (args .assigned) (args .parts .now)) _ _ (c .before .before .decode .result) (c .plain .result)
     (c .before .before .before .before .before .if1 .left) (omega arith) (c .before .before .decode .ensures)
-    (plain-code (c .before .before .decode .result) _ _ _
+    (plain-code _ (c .before .before .decode .result) _ _ _
     (partIn (args .assigned) (args .parts .now) (variableOf (c .before .before .decode .result))) _ _ (c .plain .result) (c .before .match .keys2)
     (c .plain .ensures))
 
