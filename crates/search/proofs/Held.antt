@@ -14,7 +14,7 @@ use borrow.Author.Tests.{eqb-true, eqb-false, ne-eqb}
 use Rattle.term.specs.Part.{part, isAbsent, boundPart}
 use Rattle.term.specs.declared.Part.{Part}
 use Rattle.search.specs.Memory.{bit, packed, partIn, frameIn, outer, openedMarks, closedMarks, Linked, putByIn, putByMarks, Holds, Kept}
-use Rattle.search.specs.State.{Frame, PutBy, frame, putBy, state, passed, entered, reopened}
+use Rattle.search.specs.State.{Frame, PutBy, State, frame, putBy, state, passed, entered, reopened}
 use Rattle.search.specs.declared.Marks.{Marks}
 use Rattle.search.specs.declared.Place.{Place}
 use Rattle.search.proofs.Asks.{Takes}
@@ -24,7 +24,7 @@ use Rattle.search.proofs.Masks.{bit-new, bit-other, part-back}
 -- Variables: v is assigned n elements of so many bytes
 
 module _ (assigned v node size n : ℕ) (parts : List ℕ) (vs : List Part) where
-  pub shown-assigned : v < length parts → n < 256 → length vs ≡ 48
+  shown-assigned : v < length parts → n < 256 → length vs ≡ 48
       → ((w : ℕ) → w < 48 → getD vs w (part 0 0 0) ≡ partIn assigned parts w) → (w : ℕ) → w < 48
       → getD (set vs v (boundPart node size n)) w (part 0 0 0) ≡ partIn (bitOr assigned (2 ^ v)) (set parts v (packed (boundPart node size n))) w
   shown-assigned room small many h w low = by (eqb v w) refl
@@ -40,7 +40,7 @@ module _ (assigned v node size n : ℕ) (parts : List ℕ) (vs : List Part) wher
           rw (bit-other assigned v w d, getD-set-other parts v w (packed (boundPart node size n)) 0 (λ i. d (sym i)))
           (getD-set-other vs v w (boundPart node size n) (part 0 0 0) (λ i. d (sym i)) ∙ h w low)
 
-  pub present-assigned : node ≤ 4096 → length vs ≡ 48
+  present-assigned : node ≤ 4096 → length vs ≡ 48
       → ((w : ℕ) → w < 48 → bit assigned w ≡ true → isAbsent (getD vs w (part 0 0 0)) ≡ false) → (w : ℕ) → w < 48
       → bit (bitOr assigned (2 ^ v)) w ≡ true → isAbsent (getD (set vs v (boundPart node size n)) w (part 0 0 0)) ≡ false
   present-assigned low-node many h w low b = by (eqb v w) refl
@@ -52,6 +52,48 @@ module _ (assigned v node size n : ℕ) (parts : List ℕ) (vs : List Part) wher
       by false e =
           let d = eqb-false v w e in
           rw (getD-set-other vs v w (boundPart node size n) (part 0 0 0) (λ i. d (sym i))) (h w low (sym (bit-other assigned v w d) ∙ b))
+
+-- Two laws for every step: the place moves on, and v is assigned n elements of so many bytes
+
+module _ {codes bytes assigned : ℕ} {parts stack : List ℕ} {m : Marks} {p : Place} {s : State} (h : Holds codes bytes assigned parts stack m p s) where
+  pub holds-moved : (q : Place) → p .at ≤ q .at → q .at ≤ codes → q .node ≤ bytes
+      → Holds codes bytes assigned parts stack m q (state (s .parts) (s .frames) (s .waiting) q)
+  holds-moved q further at node =
+      let room = h .room in
+      record {
+        sized = h .sized;
+        place = refl;
+        variables = h .variables;
+        shown = h .shown;
+        present = h .present;
+        linked = h .linked;
+        innermost = h .innermost;
+        queued = h .queued;
+        insides = insides-on codes bytes (p .at) (q .at) m m (omega arith) (s .waiting) (h .insides);
+        at = at;
+        node = node;
+        room = omega arith;
+      }
+
+  pub holds-assigned : (v offset size n : ℕ) → v ≤ 48 → offset ≤ 4096 → n < 256
+      → Holds codes bytes (bitOr assigned (2 ^ v)) (set parts v (packed (boundPart offset size n))) stack m p
+      (state (set (s .parts) v (boundPart offset size n)) (s .frames) (s .waiting) (s .place))
+  holds-assigned v offset size n low offset-fits n-fits =
+      let z = h .sized .of-parts in
+      record {
+        sized = sized-part (h .sized) v (packed (boundPart offset size n));
+        place = h .place;
+        variables = length-set (s .parts) v (boundPart offset size n) ∙ h .variables;
+        shown = shown-assigned assigned v offset size n parts (s .parts) (omega arith) n-fits (h .variables) (h .shown);
+        present = present-assigned assigned v offset size n parts (s .parts) offset-fits (h .variables) (h .present);
+        linked = h .linked;
+        innermost = h .innermost;
+        queued = h .queued;
+        insides = h .insides;
+        at = h .at;
+        node = h .node;
+        room = h .room;
+      }
 
 -- Steps
 
@@ -107,46 +149,6 @@ module _ (codes bytes assigned : ℕ) (parts stack : List ℕ) (m : Marks) (p : 
             (h .queued);
         insides = insides-on codes bytes (p .at) (p .at + width) m (openedMarks m) (omega arith) cs (h .insides);
         at = at;
-        node = t .node;
-        room = omega arith;
-      }
-
-  pub holds-passed : (left elements size : ℕ) → Takes codes bytes p left elements 1 size
-      → Holds codes bytes assigned parts stack m (passed p elements 1 size) (state vs fs cs (passed p elements 1 size))
-  holds-passed left elements size t =
-      let room = h .room in
-      record {
-        sized = h .sized;
-        place = refl;
-        variables = h .variables;
-        shown = h .shown;
-        present = h .present;
-        linked = h .linked;
-        innermost = h .innermost;
-        queued = h .queued;
-        insides = insides-on codes bytes (p .at) (p .at + 1) m m (omega arith) cs (h .insides);
-        at = t .at;
-        node = t .node;
-        room = omega arith;
-      }
-
-  pub holds-bound : (left v size : ℕ) → v < 48 → Takes codes bytes p left 1 1 size → p .node ≤ 4096
-      → Holds codes bytes (bitOr assigned (2 ^ v)) (set parts v (packed (boundPart (p .node) size 1))) stack m (passed p 1 1 size)
-      (state (set vs v (boundPart (p .node) size 1)) fs cs (passed p 1 1 size))
-  holds-bound left v size low t node =
-      let z = h .sized .of-parts in
-      let room = h .room in
-      record {
-        sized = sized-part (h .sized) v (packed (boundPart (p .node) size 1));
-        place = refl;
-        variables = length-set vs v (boundPart (p .node) size 1) ∙ h .variables;
-        shown = shown-assigned assigned v (p .node) size 1 parts vs (omega arith) (omega arith) (h .variables) (h .shown);
-        present = present-assigned assigned v (p .node) size 1 parts vs node (h .variables) (h .present);
-        linked = h .linked;
-        innermost = h .innermost;
-        queued = h .queued;
-        insides = insides-on codes bytes (p .at) (p .at + 1) m m (omega arith) cs (h .insides);
-        at = t .at;
         node = t .node;
         room = omega arith;
       }

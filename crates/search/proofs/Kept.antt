@@ -1,13 +1,13 @@
 -- What a call leaves alone, and what its caller then holds again: why nothing is undone.
 -- Assumes nothing.
-use Prim.Native.Nat.{ℕ, zero, suc, _+_, _%_, _^_, _<_, _≤_}
+use Prim.Native.Nat.{ℕ, zero, suc, _+_, _-_, _%_, _^_, _<_, _≤_}
 use native.Mathlib.Omega.{arith}
 use native.Mathlib.Nat.{lt-of-lt-of-le, zero-div}
 use mathlib.Core.Path.{_≡_, refl, sym, ap, _∙_}
 use mathlib.Core.List.{List, [], _∷_}
 use mathlib.Core.Bool.{Bool, true, false, cond, true≢false}
 use lib.Bits.{bitOr}
-use lib.ListN.{length, getD, set, replicate, length-set, length-replicate, getD-replicate}
+use lib.ListN.{length, getD, set, replicate, length-replicate, getD-replicate}
 use lib.Dec.{eqb}
 use Rattle.term.specs.Part.{part, absent, boundPart}
 use Rattle.term.specs.declared.Part.{Part}
@@ -17,8 +17,8 @@ use Rattle.search.specs.Memory.{marks, bit, packed, unpacked, partIn, In
 use Rattle.search.specs.Replies.{partsIn, given, inside, Free}
 use Rattle.search.specs.declared.Place.{Place}
 use Rattle.search.specs.declared.Marks.{Marks}
-use Rattle.search.proofs.Buffers.{sized-part, linked-kept, queued-kept, insides-on}
-use Rattle.search.proofs.Held.{shown-assigned, present-assigned}
+use Rattle.search.proofs.Buffers.{linked-kept, queued-kept}
+use Rattle.search.proofs.Held.{holds-moved, holds-assigned}
 
 -- nothing is changed
 pub kept-all : {assigned : ℕ} {m : Marks} {parts stack : List ℕ} → Kept assigned m parts stack parts stack
@@ -69,20 +69,7 @@ past s = state (s .parts) (s .frames) (s .waiting) (passed (s .place) 0 1 0)
 
 pub past-holds : {codes bytes assigned : ℕ} {parts stack : List ℕ} {m : Marks} {p : Place} {s : State} → p .at < codes
     → Holds codes bytes assigned parts stack m p s → Holds codes bytes assigned parts stack m (passed p 0 1 0) (past s)
-past-holds {codes} {bytes} {m = m} {p = p} {s = s} l h = record {
-  place = ap (λ (q : Place). passed q 0 1 0) (h .place);
-  variables = h .variables;
-  shown = h .shown;
-  present = h .present;
-  linked = h .linked;
-  innermost = h .innermost;
-  queued = h .queued;
-  insides = insides-on codes bytes (p .at) (p .at + 1) m m (omega arith) (s .waiting) (h .insides);
-  at = omega arith;
-  node = omega (arith, h .node);
-  room = omega (arith, h .room);
-  sized = h .sized;
-}
+past-holds {p = p} l h = rw (h .place) (holds-moved h (passed p 0 1 0) (omega arith) (omega arith) (omega (arith, h .node)))
 
 -- One more variable is assigned
 
@@ -94,20 +81,9 @@ module _ (assigned v offset size n : ℕ) (offset-fits : offset ≤ 4096) (v-fit
   pub given-holds : {codes bytes : ℕ} {parts stack : List ℕ} {m : Marks} {s : State} → s .place .node ≡ offset → offset + size ≤ bytes
       → Holds codes bytes assigned parts stack m (s .place) s
       → Holds codes bytes (bitOr assigned (2 ^ v)) (set parts v (packed (boundPart offset size n))) stack m (given s v n size .place) (given s v n size)
-  given-holds {parts = parts} {s = s} o w h = record {
-    place = refl;
-    variables = length-set (s .parts) v (boundPart (s .place .node) size n) ∙ h .variables;
-    shown = rw o (shown-assigned assigned v offset size n parts (s .parts) (omega (arith, h .sized .of-parts)) n-fits (h .variables) (h .shown));
-    present = rw o (present-assigned assigned v offset size n parts (s .parts) offset-fits (h .variables) (h .present));
-    linked = h .linked;
-    innermost = h .innermost;
-    queued = h .queued;
-    insides = h .insides;
-    at = h .at;
-    node = rw o w;
-    room = h .room;
-    sized = sized-part (h .sized) v (packed (boundPart offset size n));
-  }
+  given-holds {s = s} o w h =
+      let moved = holds-moved h (place (s .place .children) (s .place .elements - n) (s .place .at) (offset + size)) (omega arith) (h .at) w in
+      rw o (holds-assigned moved v offset size n v-fits offset-fits n-fits)
 
 -- a level's start within another
 

@@ -24,7 +24,7 @@ use Rattle.search.specs.declared.Stop.the-variants.{Failure, NoAllowance
 use Rattle.search.specs.declared.Stop.{Stop}
 use Rattle.search.proofs.Asks.{Asks, variable-below, step-asks}
 use Rattle.search.proofs.Buffers.{linked-alone, linked-length}
-use Rattle.search.proofs.Held.{unassigned, holds-closed, holds-opened, holds-passed, holds-bound, holds-put, kept-part, kept-frame, kept-waiting}
+use Rattle.search.proofs.Held.{unassigned, holds-closed, holds-opened, holds-moved, holds-assigned, holds-put, kept-part, kept-frame, kept-waiting}
 use Rattle.search.proofs.Masks.{bit-still}
 
 -- the innermost of some open nodes
@@ -225,8 +225,7 @@ module _ (table pattern bytes : List ℕ) (assigned₀ left₀ : ℕ) (parts₀ 
           values = w .values;
           nodes = w .nodes;
           put-by = w .put-by;
-          holds = holds-passed (length pattern) (length bytes) assigned parts stack m p (w .values) (w .nodes) (w .put-by) (w .holds)
-              left elements size a;
+          holds = holds-moved (w .holds) (passed p elements 1 size) (omega arith) (a .at) (a .node);
           room = w .room - 1;
           enough = omega (arith, w .enough, a .at);
           same = stepped (Passes elements size) e;
@@ -248,8 +247,8 @@ module _ (table pattern bytes : List ℕ) (assigned₀ left₀ : ℕ) (parts₀ 
           values = set (w .values) v (boundPart (p .node) size 1);
           nodes = w .nodes;
           put-by = w .put-by;
-          holds = holds-bound (length pattern) (length bytes) assigned parts stack m p (w .values) (w .nodes) (w .put-by) (w .holds)
-              left v size (a .0 .below) (a .1) (omega (arith, w .holds .node, short .of-record));
+          holds = holds-assigned (holds-moved (w .holds) (passed p 1 1 size) (omega arith) (a .1 .at) (a .1 .node)) v (p .node) size 1
+              (omega (arith, a .0 .below)) (omega (arith, w .holds .node, short .of-record)) (omega arith);
           room = w .room - 1;
           enough = omega (arith, w .enough, a .1 .at);
           same = stepped (Binds v size) e;
