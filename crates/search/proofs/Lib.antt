@@ -8,5 +8,6 @@ pub mod Walks
 pub mod Kept
 pub mod Levels
 pub mod FirstPairs
+pub mod Halves
 pub mod Lefts
 pub mod Shown

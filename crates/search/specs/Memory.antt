@@ -11,6 +11,8 @@ use Rattle.term.specs.declared.Part.{Part}
 use Rattle.search.specs.State.{Frame, PutBy, State, frame, putBy, partAt}
 use Rattle.search.specs.declared.Place.{Place}
 use Rattle.search.specs.declared.Marks.{Marks}
+use Rattle.search.specs.declared.Nodes.{Nodes}
+use Rattle.search.specs.declared.Queue.{Queue}
 
 -- Variables: whether one is assigned is a bit of one number, its part is a number
 
@@ -30,6 +32,16 @@ partIn assigned parts v = cond (bit assigned v) (unpacked (getD parts v 0)) abse
 
 abbrev pub marks : ℕ → ℕ → ℕ → ℕ → Marks
 marks inner frames first waiting = record { inner = inner; frames = frames; first = first; waiting = waiting }
+
+-- their two halves, and both together
+abbrev pub nodesIn : Marks → Nodes
+nodesIn m = record { inner = m .inner; frames = m .frames }
+
+abbrev pub queueIn : Marks → Queue
+queueIn m = record { first = m .first; waiting = m .waiting }
+
+abbrev pub marksOf : Nodes → Queue → Marks
+marksOf n q = marks (n .inner) (n .frames) (q .first) (q .waiting)
 
 -- Open nodes, from the front of the stack: each is a number, with 1 more than the place of the one around it, or 0
 

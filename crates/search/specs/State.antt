@@ -12,6 +12,8 @@ use Rattle.term.specs.declared.Code.{Code}
 use Rattle.term.specs.declared.Code.the-variants.{Symbol, Name, Run, Complement}
 use Rattle.term.specs.declared.Part.{Part}
 use Rattle.search.specs.declared.Place.{Place}
+use Rattle.search.specs.declared.Remaining.{Remaining}
+use Rattle.search.specs.declared.Next.{Next}
 use Rattle.search.specs.declared.Stop.{Stop}
 use Rattle.search.specs.declared.Stop.the-variants.{Failure, NoAllowance, NoPair, RunName}
 use Rattle.search.specs.declared.Step.{Step}
@@ -38,6 +40,16 @@ putBy at size node = record { at = at; size = size; node = node }
 
 abbrev pub place : ℕ → ℕ → ℕ → ℕ → Place
 place children elements at node = record { children = children; elements = elements; at = at; node = node }
+
+-- its two halves, and both together
+abbrev pub remainingIn : Place → Remaining
+remainingIn p = record { children = p .children; elements = p .elements }
+
+abbrev pub nextIn : Place → Next
+nextIn p = record { at = p .at; node = p .node }
+
+abbrev pub placeOf : Remaining → Next → Place
+placeOf r n = place (r .children) (r .elements) (n .at) (n .node)
 
 -- what each name and run name is assigned, the nodes that are open around the innermost one, the complements put by, and the place
 pub record State : Type 0 where

@@ -15,9 +15,9 @@ ghost use lib.Bits.{bitOr};
 ghost use lib.Dec.{eqb};
 ghost use Rattle.term.specs.Code.{VariableBelow};
 ghost use Rattle.term.specs.Part.{absent};
-ghost use Rattle.search.specs.State.{place, frame, putBy, passed, entered, reopened, variableOf, variableAt, standsOf, overStep, symbolStep, assignedStep, nameStep, runStep, complementStep, pairStep, plainStep, stepOf};
+ghost use Rattle.search.specs.State.{place, remainingIn, nextIn, placeOf, frame, putBy, passed, entered, reopened, variableOf, variableAt, standsOf, overStep, symbolStep, assignedStep, nameStep, runStep, complementStep, pairStep, plainStep, stepOf};
 ghost use Rattle.search.specs.Level.{failed, endOf, searchOf};
-ghost use Rattle.search.specs.Memory.{bit, packed, unpacked, partIn, frameIn, outer, putByIn, openedMarks, closedMarks, putByMarks, Holding};
+ghost use Rattle.search.specs.Memory.{bit, packed, unpacked, partIn, frameIn, outer, putByIn, nodesIn, queueIn, marksOf, openedMarks, closedMarks, putByMarks, Holding};
 ghost use Rattle.search.specs.Bounds.{Short, Walks, StopsAt, Unassigned};
 ghost use Rattle.search.specs.Shown.{numbers, shownBy, shownIn};
 ghost use Rattle.search.specs.Replies.{failure, found, turned, partsIn, inside, Free, Resting, Testable, Decides, LevelIs, RestIs, FollowIs, ComplementIs, ComplementsAre};
@@ -38,6 +38,32 @@ pub struct Marks {
     pub frames: usize,
     pub first: usize,
     pub waiting: usize,
+}
+
+// `level` takes marks and place in halves: a call hands on a struct of two numbers in registers, but one of four through memory.
+
+// The marks of the open nodes.
+pub struct Nodes {
+    pub inner: usize,
+    pub frames: usize,
+}
+
+// The marks of the complements put by.
+pub struct Queue {
+    pub first: usize,
+    pub waiting: usize,
+}
+
+// What is left of the innermost open node.
+pub struct Remaining {
+    pub children: u8,
+    pub elements: u8,
+}
+
+// The next byte of the pattern and of the record.
+pub struct Next {
+    pub at: usize,
+    pub node: usize,
 }
 
 // Where the pairs of a level stop: at a failure, for want of allowance, with no pair left, or at a run name.
@@ -562,16 +588,84 @@ impl Place {
             node: node,
         }
     }
+
+    // Its halves, and both together.
+    fn remaining(self) -> Remaining
+        ensures { λ r. ⌜ r ≡ remainingIn self ⌝ }
+    {
+        Remaining {
+            children: self.children,
+            elements: self.elements,
+        }
+    }
+
+    fn next(self) -> Next
+        ensures { λ r. ⌜ r ≡ nextIn self ⌝ }
+    {
+        Next {
+            at: self.at,
+            node: self.node,
+        }
+    }
+
+    fn of(remaining: Remaining, next: Next) -> Place
+        ensures { λ r. ⌜ r ≡ placeOf remaining next ⌝ }
+    {
+        Place {
+            children: remaining.children,
+            elements: remaining.elements,
+            at: next.at,
+            node: next.node,
+        }
+    }
 }
 
-impl Marks {
-    // Nothing is in use.
-    const NONE: Marks = Marks {
+impl Nodes {
+    // No node is open.
+    const NONE: Nodes = Nodes {
         inner: 0,
         frames: 0,
+    };
+}
+
+impl Queue {
+    // No complement is put by.
+    const NONE: Queue = Queue {
         first: 0,
         waiting: 0,
     };
+}
+
+impl Marks {
+    // Their halves, and both together.
+    fn nodes(self) -> Nodes
+        ensures { λ r. ⌜ r ≡ nodesIn self ⌝ }
+    {
+        Nodes {
+            inner: self.inner,
+            frames: self.frames,
+        }
+    }
+
+    fn queue(self) -> Queue
+        ensures { λ r. ⌜ r ≡ queueIn self ⌝ }
+    {
+        Queue {
+            first: self.first,
+            waiting: self.waiting,
+        }
+    }
+
+    fn of(nodes: Nodes, queue: Queue) -> Marks
+        ensures { λ r. ⌜ r ≡ marksOf nodes queue ⌝ }
+    {
+        Marks {
+            inner: nodes.inner,
+            frames: nodes.frames,
+            first: queue.first,
+            waiting: queue.waiting,
+        }
+    }
 
     // A level's start, with these in use.
     fn inside(self) -> Marks
@@ -598,12 +692,16 @@ fn level(
     left: &mut u32,
     v: usize,
     most: u8,
-    marks: Marks,
-    start: Place,
+    nodes: Nodes,
+    queue: Queue,
+    remaining: Remaining,
+    next: Next,
 ) -> Outcome
-    requires { ⌜ Holding (length (now pattern)) (length (now «record»)) (now assigned) (now parts) (now stack) marks start × Free (now assigned) v × (most ≤ start .elements) × Short (now pattern) (now «record») ⌝ }
-    ensures { λ r. ⌜ LevelIs (now (table .entry)) (now (pattern .entry)) (now («record» .entry)) (now (assigned .entry)) (now (left .entry)) (now (parts .entry)) (now (stack .entry)) v most marks start r (now (assigned .exit)) (now (left .exit)) (now (parts .exit)) (now (stack .exit)) ⌝ }
+    requires { ⌜ Holding (length (now pattern)) (length (now «record»)) (now assigned) (now parts) (now stack) (marksOf nodes queue) (placeOf remaining next) × Free (now assigned) v × (most ≤ remaining .elements) × Short (now pattern) (now «record») ⌝ }
+    ensures { λ r. ⌜ LevelIs (now (table .entry)) (now (pattern .entry)) (now («record» .entry)) (now (assigned .entry)) (now (left .entry)) (now (parts .entry)) (now (stack .entry)) v most (marksOf nodes queue) (placeOf remaining next) r (now (assigned .exit)) (now (left .exit)) (now (parts .exit)) (now (stack .exit)) ⌝ }
 {
+    let marks = Marks::of(nodes, queue);
+    let start = Place::of(remaining, next);
     let seen = also(*assigned, v);
     let node = start.node;
     let mut place = start;
@@ -713,6 +811,7 @@ fn follow(
                 return Outcome::Spent;
             }
             *left = *left - 1;
+            let past = place.passed(0, 1, 0);
             level(
                 table,
                 pattern,
@@ -723,8 +822,10 @@ fn follow(
                 left,
                 wide(v),
                 place.elements,
-                marks,
-                place.passed(0, 1, 0),
+                marks.nodes(),
+                marks.queue(),
+                past.remaining(),
+                past.next(),
             )
         }
     }
@@ -780,6 +881,8 @@ fn complement(
         *left = *left - 1;
         return opposite(outcome);
     }
+    let marks = marks.inside();
+    let start = Place::start(node);
     opposite(level(
         table,
         inside,
@@ -790,8 +893,10 @@ fn complement(
         left,
         48,
         0,
-        marks.inside(),
-        Place::start(node),
+        marks.nodes(),
+        marks.queue(),
+        start.remaining(),
+        start.next(),
     ))
 }
 
@@ -908,6 +1013,7 @@ pub fn search(
     let mut stack = [0u32; 256];
     let mut assigned: u64 = 0;
     let mut left = allowance;
+    let start = Place::start(0);
     let outcome = level(
         table,
         pattern,
@@ -918,8 +1024,10 @@ pub fn search(
         &mut left,
         48,
         0,
-        Marks::NONE,
-        Place::start(0),
+        Nodes::NONE,
+        Queue::NONE,
+        start.remaining(),
+        start.next(),
     );
     show(outcome, &parts, assigned, answer);
     Ended {

@@ -11,9 +11,11 @@ use Rattle.search.specs.Level.{levels}
 use Rattle.search.specs.Memory.{packed, putByIn}
 use Rattle.search.specs.Bounds.{Ready, StopsAt, Unassigned}
 use Rattle.search.specs.Replies.{Decides}
+use Rattle.search.specs.declared.Place.{Place}
 use Rattle.search.proofs.Steps.{rest-length}
 use Rattle.search.proofs.Kept.{past, past-holds, none-free}
 use Rattle.search.proofs.FirstPairs.{complement-ends}
+use Rattle.search.proofs.Halves.{level-from}
 use Rattle.search.proofs.Levels.{rest-follows, rest-fails, Trying, try-first, Written, written-holding, try-last, try-hit, try-spent, try-more, Testing, test-first, test-end, test-next, test-stop, test-on, inside-length, inside-holding, complement-tests, follow-fails, follow-spent, follow-none, follow-tests, follow-tries}
 use borrow.Fn.Kinds.{In}
 use borrow.Fn.PlainCycle.{Measures, is, falls, and}
@@ -33,7 +35,13 @@ use Rattle.search.proofs.rest.Reads as rest
 use Rattle.search.proofs.rest.Kinds as rest-kinds
 use Rattle.search.proofs.+complement+complements+follow+level+rest.Lts-rest as rest-lts
 use Rattle.search.proofs.Marks.inside.Reads as inside-reads
+use Rattle.search.proofs.Marks.nodes.Reads as nodes-reads
+use Rattle.search.proofs.Marks.of.Reads as Marks-of-reads
+use Rattle.search.proofs.Marks.queue.Reads as queue-reads
+use Rattle.search.proofs.Place.next.Reads as next-reads
+use Rattle.search.proofs.Place.of.Reads as Place-of-reads
 use Rattle.search.proofs.Place.passed.Reads as passed-reads
+use Rattle.search.proofs.Place.remaining.Reads as remaining-reads
 use Rattle.search.proofs.Place.start.Reads as start-reads
 use Rattle.search.proofs.also.Reads as also-reads
 use Rattle.search.proofs.first_pair.Reads as first-pair-reads
@@ -59,7 +67,7 @@ abbrev μ-follow : Measures 7 follow-kinds.ps ℕ
 μ-follow κs a = 5 * levels (now (a .1 .0)) (a .1 .1 .1 .1 .1 .1 .1 .1 .1 .0 .at) + 2
 
 abbrev μ-level : Measures 7 level-kinds.ps ℕ
-μ-level κs a = 5 * levels (now (a .1 .0)) (a .1 .1 .1 .1 .1 .1 .1 .1 .1 .1 .0 .at) + 4
+μ-level κs a = 5 * levels (now (a .1 .0)) (a .1 .1 .1 .1 .1 .1 .1 .1 .1 .1 .1 .1 .0 .at) + 4
 
 abbrev μ-rest : Measures 7 rest-kinds.ps ℕ
 μ-rest κs a = 5 * levels (now (a .1 .0)) (a .1 .1 .1 .1 .1 .1 .1 .1 .0 .at) + 3
@@ -108,6 +116,14 @@ complement-claims t = (
   inside-reads.Learnt,
   start-reads.Asked,
   start-reads.Learnt,
+  nodes-reads.Asked,
+  nodes-reads.Learnt,
+  queue-reads.Asked,
+  queue-reads.Learnt,
+  remaining-reads.Asked,
+  remaining-reads.Learnt,
+  next-reads.Asked,
+  next-reads.Learnt,
   level-below t,
   level.Post,
 )
@@ -162,17 +178,37 @@ complement-inside-requires t c κs = search needs
 complement-start-requires : (t : ℕ) → complement-lts.Need-start-requires (complement-claims t) (complement-at t) complement.Post
 complement-start-requires t c κs = search needs
 
+complement-nodes-requires : (t : ℕ) → complement-lts.Need-nodes-requires (complement-claims t) (complement-at t) complement.Post
+complement-nodes-requires t c κs = search needs
+
+complement-queue-requires : (t : ℕ) → complement-lts.Need-queue-requires (complement-claims t) (complement-at t) complement.Post
+complement-queue-requires t c κs = search needs
+
+complement-remaining-requires : (t : ℕ) → complement-lts.Need-remaining-requires (complement-claims t) (complement-at t) complement.Post
+complement-remaining-requires t c κs = search needs
+
+complement-next-requires : (t : ℕ) → complement-lts.Need-next-requires (complement-claims t) (complement-at t) complement.Post
+complement-next-requires t c κs = search needs
+
 complement-level-requires : (t : ℕ) → complement-lts.Need-level-requires (complement-claims t) (complement-at t) complement.Post
 complement-level-requires t c κs =
-    let args = c .before .before .before .before .before .before .before .before .before .before .before .before .before .before .args in
-    let pre = c .before .before .before .before .before .before .before .before .before .before .before .before .before .before .pre in
+    let started = c .before .before .before .before .before .before .before .before in
+    let args = started .before .before .before .before .before .before .before .before .before .before .args in
+    let pre = started .before .before .before .before .before .before .before .before .before .before .pre in
     let w = pre .1 .0 .within in
     let d = inside-length (args .pattern .now) (putByIn (args .c)) w in
-    rw (c .start .ensures, c .before .inside2 .ensures) (
+    rw (
+      c .next .ensures,
+      c .before .remaining .ensures,
+      c .before .before .queue .ensures,
+      c .before .before .before .nodes .ensures,
+      started .start .ensures,
+      started .before .inside2 .ensures,
+    ) (
       omega (arith, pre .0, w, d, pre .1 .1 .of-pattern),
       (
         inside-holding _ _ w (pre .1 .0),
-        none-free,
+        none-free {assigned = args .assigned .now},
         omega arith,
         record { of-pattern = omega (arith, w, d, pre .1 .1 .of-pattern); of-record = pre .1 .1 .of-record },
       ),
@@ -183,10 +219,11 @@ complement-opposite-requires-2 t c κs = search needs
 
 complement-returns-2 : (t : ℕ) → complement-lts.Need-returns-2 (complement-claims t) (complement-at t) complement.Post
 complement-returns-2 t c =
-    complement-tests _ _
-    (c .before .before .before .before .before .before .before .before .before .before .before .before .before .before .before .before .pre .1 .0 .within) _ _ _ _ _ _ _
-    (c .before .before .before .before .before .before .before .before .before .before .before .before .before .before .before .before .pre .1 .1 .of-pattern)
-    (c .before .before .before .inside2 .ensures) (c .before .before .start .ensures)
+    let started = c .before .before .before .before .before .before .before .before .before .before in
+    let pre = started .before .before .before .before .before .before .before .before .before .before .pre in
+    complement-tests _ _ (pre .1 .0 .within) _ _ _ _ _ _ _ (pre .1 .1 .of-pattern)
+    (rw (c .before .before .before .before .queue .ensures, c .before .before .before .before .before .nodes .ensures) (started .before .inside2 .ensures))
+    (rw (c .before .before .next .ensures, c .before .before .before .remaining .ensures) (started .start .ensures))
     (c .before .level .ensures) (c .opposite2 .ensures)
 
 abbrev complements-claims : ℕ → complements-lts.Claims
@@ -250,21 +287,28 @@ abbrev follow-claims : ℕ → follow-lts.Claims
 follow-claims t = (
   complements-below t,
   complements.Post,
-  wide-reads.Asked,
-  wide-reads.Learnt,
   passed-reads.Asked,
   passed-reads.Learnt,
+  wide-reads.Asked,
+  wide-reads.Learnt,
+  nodes-reads.Asked,
+  nodes-reads.Learnt,
+  queue-reads.Asked,
+  queue-reads.Learnt,
+  remaining-reads.Asked,
+  remaining-reads.Learnt,
+  next-reads.Asked,
+  next-reads.Learnt,
   level-below t,
   level.Post,
 )
 
 -- the run name
-follow-ready : (t : ℕ) (c : follow-lts.After-wide (follow-claims t) (follow-at t) follow.Post)
-    → Ready (length (c .before .before .before .before .before .before .before .before .before .before .before .before .before .args .pattern .now)) (c .before .before .before .before .before .before .before .before .stop .given .0 .0) (c .before .before .before .before .before .before .before .before .before .before .before .before .before .args .place)
+follow-ready : (t : ℕ) (c : follow-lts.After-stop (follow-claims t) (follow-at t) follow.Post)
+    → Ready (length (c .before .before .before .before .before .args .pattern .now)) (c .stop .given .0 .0) (c .before .before .before .before .before .args .place)
 follow-ready t c =
-    let args = c .before .before .before .before .before .before .before .before .before .before .before .before .before .args in
-    subst (StopsAt (length (args .pattern .now)) (args .place)) (c .before .before .before .before .before .before .before .before .stop .given .1)
-    (c .before .before .before .before .before .before .before .before .before .before .before .before .before .pre .1 .1)
+    let args = c .before .before .before .before .before .args in
+    subst (StopsAt (length (args .pattern .now)) (args .place)) (c .stop .given .1) (c .before .before .before .before .before .pre .1 .1)
 
 follow-enum-told : (t : ℕ) → follow-lts.Need-enum-told (follow-claims t) (follow-at t) follow.Post
 follow-enum-told t c = search needs
@@ -289,22 +333,41 @@ follow-returns t c = follow-none _ _ _ _ _ _ _ _ _ _ _ (c .before .before .befor
 follow-sub-left : (t : ℕ) → follow-lts.Need-sub-left (follow-claims t) (follow-at t) follow.Post
 follow-sub-left t c = omega arith
 
+follow-passed-requires : (t : ℕ) → follow-lts.Need-passed-requires (follow-claims t) (follow-at t) follow.Post
+follow-passed-requires t c κs =
+    let ready = follow-ready t (c .before .before .before) in
+    let pre = c .before .before .before .before .before .before .before .before .pre in
+    (ready .children, omega arith, omega (arith, ready .at, pre .1 .3 .of-pattern), omega (arith, pre .1 .0 .holds .node, pre .1 .3 .of-record))
+
 follow-wide-requires : (t : ℕ) → follow-lts.Need-wide-requires (follow-claims t) (follow-at t) follow.Post
 follow-wide-requires t c κs = search needs
 
-follow-passed-requires : (t : ℕ) → follow-lts.Need-passed-requires (follow-claims t) (follow-at t) follow.Post
-follow-passed-requires t c κs =
-    let ready = follow-ready t c in
-    let pre = c .before .before .before .before .before .before .before .before .before .before .before .before .before .pre in
-    (ready .children, omega arith, omega (arith, ready .at, pre .1 .3 .of-pattern), omega (arith, pre .1 .0 .holds .node, pre .1 .3 .of-record))
+follow-nodes-requires : (t : ℕ) → follow-lts.Need-nodes-requires (follow-claims t) (follow-at t) follow.Post
+follow-nodes-requires t c κs = search needs
+
+follow-queue-requires : (t : ℕ) → follow-lts.Need-queue-requires (follow-claims t) (follow-at t) follow.Post
+follow-queue-requires t c κs = search needs
+
+follow-remaining-requires : (t : ℕ) → follow-lts.Need-remaining-requires (follow-claims t) (follow-at t) follow.Post
+follow-remaining-requires t c κs = search needs
+
+follow-next-requires : (t : ℕ) → follow-lts.Need-next-requires (follow-claims t) (follow-at t) follow.Post
+follow-next-requires t c κs = search needs
 
 follow-level-requires : (t : ℕ) → follow-lts.Need-level-requires (follow-claims t) (follow-at t) follow.Post
 follow-level-requires t c κs =
-    let ready = follow-ready t (c .before) in
-    let pre = c .before .before .before .before .before .before .before .before .before .before .before .before .before .before .pre in
-    let unassigned = subst (Unassigned (c .before .before .before .before .before .before .before .before .before .before .before .before .before .before .args .assigned .now))
-    (c .before .before .before .before .before .before .before .before .before .stop .given .1) (pre .1 .2) in
-    rw (c .passed .ensures, c .before .wide .ensures) (
+    let passed = c .before .before .before .before .before .before .before .before .before in
+    let ready = follow-ready t (passed .before .before .before .before) in
+    let pre = passed .before .before .before .before .before .before .before .before .before .pre in
+    let unassigned = subst (Unassigned (passed .before .before .before .before .before .before .before .before .before .args .assigned .now)) (passed .before .before .before .before .stop .given .1) (pre .1 .2) in
+    rw (
+      c .next .ensures,
+      c .before .remaining .ensures,
+      c .before .before .queue .ensures,
+      c .before .before .before .nodes .ensures,
+      c .before .before .before .before .wide .ensures,
+      passed .passed .ensures,
+    ) (
       omega (arith, pre .0, ready .at),
       (
         record { state = past (pre .1 .0 .state); holds = past-holds (ready .at) (pre .1 .0 .holds) },
@@ -326,13 +389,18 @@ follow-returns-4 t c =
 
 follow-returns-5 : (t : ℕ) → follow-lts.Need-returns-5 (follow-claims t) (follow-at t) follow.Post
 follow-returns-5 t c =
-    follow-tries _ _ _ _ _ _ _ _ _ _ _ _ _
-    (c .before .before .before .before .before .before .before .before .before .before .stop .given .1) (c .before .before .wide .ensures)
-    (c .before .passed .ensures) (c .before .before .before .before .before .before .before .if1 .left)
-    (follow-ready t (c .before .before) .at) (c .level .ensures)
+    let passed = c .before .before .before .before .before .before .before .before .before .before in
+    follow-tries _ _ _ _ _ _ _ _ _ _ _ _ _ (passed .before .before .before .before .stop .given .1) (c .before .before .before .before .before .wide .ensures) (passed .passed .ensures)
+    (passed .before .if1 .left) (follow-ready t (passed .before .before .before .before) .at)
+    (level-from (rw (c .before .before .before .queue .ensures, c .before .before .before .before .nodes .ensures)) (rw (c .before .next .ensures, c .before .before .remaining .ensures))
+    (c .level .ensures))
 
 abbrev level-claims : ℕ → level-lts.Claims
 level-claims t = (
+  Marks-of-reads.Asked,
+  Marks-of-reads.Learnt,
+  Place-of-reads.Asked,
+  Place-of-reads.Learnt,
   also-reads.Asked,
   also-reads.Learnt,
   bound-reads.Asked,
@@ -359,31 +427,38 @@ level-μ-loop table pattern «record» parts₀ stack₀ assigned₀ left₀ v m
 level-written : (t : ℕ) (c : level-lts.After-packed (level-claims t) (level-at t) level.Post level-Inv-loop level-μ-loop)
     → Written _ _ _ _ _ _ _ _ _ _ _ (c .before .before .before .loop .inv) (c .packed .result) (c .before .before .before .before .also .result)
 level-written t c = record {
-  holding = c .before .before .before .before .before .before .before .before .before .pre .1 .0;
-  free = c .before .before .before .before .before .before .before .before .before .pre .1 .1;
-  short = c .before .before .before .before .before .before .before .before .before .pre .1 .3 .of-record;
-  byte = omega (arith, c .before .before .before .loop .inv .few, c .before .before .before .before .before .before .before .before .before .fits .most);
+  holding = rw (c .before .before .before .before .before .before .of2 .ensures, c .before .before .before .before .before .before .before .of .ensures) (c .before .before .before .before .before .before .before .before .before .before .before .pre .1 .0);
+  free = c .before .before .before .before .before .before .before .before .before .before .before .pre .1 .1;
+  short = c .before .before .before .before .before .before .before .before .before .before .before .pre .1 .3 .of-record;
+  byte = omega (arith, c .before .before .before .loop .inv .few, c .before .before .before .before .before .before .before .before .before .before .before .fits .most);
   is-part = c .packed .ensures ∙ ap packed (c .before .bound .ensures);
   is-seen = c .before .before .before .before .also .ensures;
 }
 
 -- one element more stays within the record
 level-grows : (t : ℕ) (c : level-lts.After-extent (level-claims t) (level-at t) level.Post level-Inv-loop level-μ-loop)
-    → c .before .before .before .before .before .before .before .before .before .before .before .before .before .before .before .loop .place .node + c .extent .result ≤ length (c .before .before .before .before .before .before .before .before .before .before .before .before .before .before .before .before .before .before .before .before .before .args .«record» .now)
+    → c .before .before .before .before .before .before .before .before .before .before .before .before .before .before .before .loop .place .node + c .extent .result ≤ length (c .before .before .before .before .before .before .before .before .before .before .before .before .before .before .before .before .before .before .before .before .before .before .before .args .«record» .now)
 level-grows t c =
     let loop = c .before .before .before .before .before .before .before .before .before .before .before .before .before .before .before .loop in
     omega (
       arith,
       loop .inv .within,
       c .extent .ensures .1,
-      rest-length (loop .place .node) (c .before .before .before .before .before .before .before .before .before .before .before .before .before .before .before .before .before .before .before .before .before .args .«record» .now),
+      rest-length (loop .place .node) (c .before .before .before .before .before .before .before .before .before .before .before .before .before .before .before .before .before .before .before .before .before .before .before .args .«record» .now),
     )
 
+level-of-requires : (t : ℕ) → level-lts.Need-of-requires (level-claims t) (level-at t) level.Post level-Inv-loop level-μ-loop
+level-of-requires t c κs = search needs
+
+level-of-requires-2 : (t : ℕ) → level-lts.Need-of-requires-2 (level-claims t) (level-at t) level.Post level-Inv-loop level-μ-loop
+level-of-requires-2 t c κs = search needs
+
 level-also-requires : (t : ℕ) → level-lts.Need-also-requires (level-claims t) (level-at t) level.Post level-Inv-loop level-μ-loop
-level-also-requires t c κs = c .before .before .before .before .pre .1 .1 .below
+level-also-requires t c κs = c .before .before .before .before .before .before .pre .1 .1 .below
 
 level-loop-holds : (t : ℕ) → level-lts.Need-loop-holds (level-claims t) (level-at t) level.Post level-Inv-loop level-μ-loop
-level-loop-holds t c = try-first _ _ _ _ _ _ _ _ _ _ _ (c .before .before .before .before .before .pre .1 .0 .holds .node)
+level-loop-holds t c =
+    try-first _ _ _ _ _ _ _ _ _ _ (c .before .before .of2 .result) (rw (c .before .before .of2 .ensures) (c .before .before .before .before .before .before .before .pre .1 .0 .holds .node))
 
 level-sub-bound : (t : ℕ) → level-lts.Need-sub-bound (level-claims t) (level-at t) level.Post level-Inv-loop level-μ-loop
 level-sub-bound t c = c .before .loop .inv .further
@@ -395,16 +470,17 @@ level-packed-requires : (t : ℕ) → level-lts.Need-packed-requires (level-clai
 level-packed-requires t c κs = search needs
 
 level-mul-parts : (t : ℕ) → level-lts.Need-mul-parts (level-claims t) (level-at t) level.Post level-Inv-loop level-μ-loop
-level-mul-parts t c = omega (arith, c .before .before .before .before .before .before .before .before .before .pre .1 .1 .below)
+level-mul-parts t c = omega (arith, c .before .before .before .before .before .before .before .before .before .before .before .pre .1 .1 .below)
 
 level-element-write-parts : (t : ℕ) → level-lts.Need-element-write-parts (level-claims t) (level-at t) level.Post level-Inv-loop level-μ-loop
-level-element-write-parts t c = omega (arith, c .before .before .before .before .before .before .before .before .before .pre .1 .1 .below)
+level-element-write-parts t c = omega (arith, c .before .before .before .before .before .before .before .before .before .before .before .pre .1 .1 .below)
 
 level-rest-requires : (t : ℕ) → level-lts.Need-rest-requires (level-claims t) (level-at t) level.Post level-Inv-loop level-μ-loop
 level-rest-requires t c κs =
-    let pre = c .before .before .before .before .before .before .before .before .before .before .before .before .before .pre in
+    let pre = c .before .before .before .before .before .before .before .before .before .before .before .before .before .before .before .pre in
     let inv = c .before .before .before .before .before .before .before .loop .inv in
-    (omega (arith, pre .0, inv .at), (written-holding _ _ _ _ _ _ _ _ _ _ _ inv (level-written t (c .before .before .before .before)), pre .1 .3))
+    let at = ap (λ (x : Place). x .at) (c .before .before .before .before .before .before .before .before .before .before .of2 .ensures) in
+    (omega (arith, pre .0, inv .at, at), (written-holding _ _ _ _ _ _ _ _ _ _ _ inv (level-written t (c .before .before .before .before)), pre .1 .3))
 
 level-is-failed-requires : (t : ℕ) → level-lts.Need-is-failed-requires (level-claims t) (level-at t) level.Post level-Inv-loop level-μ-loop
 level-is-failed-requires t c κs = search needs
@@ -428,18 +504,19 @@ level-extent-requires t c κs = search needs
 
 level-add-place : (t : ℕ) → level-lts.Need-add-place (level-claims t) (level-at t) level.Post level-Inv-loop level-μ-loop
 level-add-place t c =
-    let pre = c .before .before .before .before .before .before .before .before .before .before .before .before .before .before .before .before .before .before .before .before .before .pre in
+    let pre = c .before .before .before .before .before .before .before .before .before .before .before .before .before .before .before .before .before .before .before .before .before .before .before .pre in
     omega (arith, level-grows t c, pre .1 .3 .of-record)
 
 level-sub-place : (t : ℕ) → level-lts.Need-sub-place (level-claims t) (level-at t) level.Post level-Inv-loop level-μ-loop
 level-sub-place t c =
-    let pre = c .before .before .before .before .before .before .before .before .before .before .before .before .before .before .before .before .before .before .before .before .before .before .pre in
+    let pre = c .before .before .before .before .before .before .before .before .before .before .before .before .before .before .before .before .before .before .before .before .before .before .before .before .pre in
     let inv = c .before .before .before .before .before .before .before .before .before .before .before .before .before .before .before .before .loop .inv in
-    omega (arith, inv .elements, c .before .before .before .before .before .if2 .left, pre .1 .2)
+    let elements = ap (λ (x : Place). x .elements) (c .before .before .before .before .before .before .before .before .before .before .before .before .before .before .before .before .before .before .before .of2 .ensures) in
+    omega (arith, inv .elements, c .before .before .before .before .before .if2 .left, pre .1 .2, elements)
 
 level-add-n : (t : ℕ) → level-lts.Need-add-n (level-claims t) (level-at t) level.Post level-Inv-loop level-μ-loop
 level-add-n t c =
-    let fits = c .before .before .before .before .before .before .before .before .before .before .before .before .before .before .before .before .before .before .before .before .before .before .fits in
+    let fits = c .before .before .before .before .before .before .before .before .before .before .before .before .before .before .before .before .before .before .before .before .before .before .before .before .fits in
     omega (arith, c .before .before .before .before .before .if2 .left, fits .most)
 
 level-loop-less : (t : ℕ) → level-lts.Need-loop-less (level-claims t) (level-at t) level.Post level-Inv-loop level-μ-loop
@@ -456,23 +533,29 @@ level-loop-again t c =
 
 level-returns : (t : ℕ) → level-lts.Need-returns (level-claims t) (level-at t) level.Post level-Inv-loop level-μ-loop
 level-returns t c =
-    try-hit _ _ _ _ _ _ _ _ _ _ _ (c .before .before .before .before .before .before .before .before .before .before .loop .inv)
+    level-from (c .before .before .before .before .before .before .before .before .before .before .before .before .before .before .of .ensures)
+    (c .before .before .before .before .before .before .before .before .before .before .before .before .before .of2 .ensures)
+    (try-hit _ _ _ _ _ _ _ _ _ _ _ (c .before .before .before .before .before .before .before .before .before .before .loop .inv)
     (level-written t (c .before .before .before .before .before .before .before)) (c .before .before .rest .ensures)
-    (sym (c .before .is-failed .ensures) ∙ not-true _ (c .if1 .taken))
+    (sym (c .before .is-failed .ensures) ∙ not-true _ (c .if1 .taken)))
 
 level-returns-2 : (t : ℕ) → level-lts.Need-returns-2 (level-claims t) (level-at t) level.Post level-Inv-loop level-μ-loop
 level-returns-2 t c =
-    try-last _ _ _ _ _ _ _ _ _ _ _ (c .before .before .before .before .before .before .before .before .before .before .before .loop .inv)
+    level-from (c .before .before .before .before .before .before .before .before .before .before .before .before .before .before .before .of .ensures)
+    (c .before .before .before .before .before .before .before .before .before .before .before .before .before .before .of2 .ensures)
+    (try-last _ _ _ _ _ _ _ _ _ _ _ (c .before .before .before .before .before .before .before .before .before .before .before .loop .inv)
     (level-written t (c .before .before .before .before .before .before .before .before)) (c .before .before .before .rest .ensures)
-    (c .if2 .taken)
+    (c .if2 .taken))
 
 level-returns-3 : (t : ℕ) → level-lts.Need-returns-3 (level-claims t) (level-at t) level.Post level-Inv-loop level-μ-loop
 level-returns-3 t c =
-    try-spent _ _ _ _ _ _ _ _ _ _ _
+    level-from (c .before .before .before .before .before .before .before .before .before .before .before .before .before .before .before .before .before .of .ensures)
+    (c .before .before .before .before .before .before .before .before .before .before .before .before .before .before .before .before .of2 .ensures)
+    (try-spent _ _ _ _ _ _ _ _ _ _ _
     (c .before .before .before .before .before .before .before .before .before .before .before .before .before .loop .inv)
     (level-written t (c .before .before .before .before .before .before .before .before .before .before))
     (c .before .before .before .before .before .rest .ensures)
-    (sym (c .before .before .before .before .is-failed .ensures) ∙ not-false _ (c .before .before .before .if1 .left)) (omega (arith, c .before .before .if2 .left)) (c .if3 .taken)
+    (sym (c .before .before .before .before .is-failed .ensures) ∙ not-false _ (c .before .before .before .if1 .left)) (omega (arith, c .before .before .if2 .left)) (c .if3 .taken))
 
 abbrev rest-claims : ℕ → rest-lts.Claims
 rest-claims t = (
@@ -529,6 +612,10 @@ pub +complement+complements+follow+level+rest-spec : {M : Type 1} → statement 
     (complement-enum-told t)
     (complement-inside-requires t)
     (complement-start-requires t)
+    (complement-nodes-requires t)
+    (complement-queue-requires t)
+    (complement-remaining-requires t)
+    (complement-next-requires t)
     (complement-level-requires t)
     (complement-opposite-requires-2 t)
     (complement-returns-2 t))
@@ -560,8 +647,12 @@ pub +complement+complements+follow+level+rest-spec : {M : Type 1} → statement 
     (follow-enum-known-stop t)
     (follow-returns t)
     (follow-sub-left t)
-    (follow-wide-requires t)
     (follow-passed-requires t)
+    (follow-wide-requires t)
+    (follow-nodes-requires t)
+    (follow-queue-requires t)
+    (follow-remaining-requires t)
+    (follow-next-requires t)
     (follow-level-requires t)
     (follow-returns-2 t)
     (follow-returns-3 t)
@@ -573,6 +664,8 @@ pub +complement+complements+follow+level+rest-spec : {M : Type 1} → statement 
     level.Post
     level-Inv-loop
     level-μ-loop
+    (level-of-requires t)
+    (level-of-requires-2 t)
     (level-also-requires t)
     (level-loop-holds t)
     (level-sub-bound t)

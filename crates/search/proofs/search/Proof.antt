@@ -32,9 +32,15 @@ start-requires c κs = search needs
 sized : Sized (replicate 49 0) (replicate 256 0)
 sized = record { of-parts = refl; of-stack = refl }
 
+remaining-requires : tie.Need-remaining-requires
+remaining-requires c κs = search needs
+
+next-requires : tie.Need-next-requires
+next-requires c κs = search needs
+
 level-requires : tie.Need-level-requires
 level-requires c κs =
-    rw (c .start .ensures) (
+    rw (c .next .ensures, c .before .remaining .ensures, c .before .before .before .before .before .before .start .ensures) (
       record { state = startOf (replicate 48 absent) 0; holds = first-holds _ _ _ _ (omega arith) sized },
       none-free,
       omega arith,
@@ -51,10 +57,12 @@ same-length c = search needs
 returns-3 : tie.Need-returns-3
 returns-3 c =
     let entered = c .before .before .before .before .before in
+    let started = entered .before .before .before .before .before .before .before in
     within-shows _ _ _ _ _ _ _ _ _ _ (c .before .before .show .ensures)
-    (search-within _ _ _ _ _ _ (omega arith) (omega arith) sized (entered .before .start .ensures) (entered .level .ensures))
+    (search-within _ _ _ _ _ _ (omega (arith, started .before .before .if1 .left)) (omega (arith, started .before .if2 .left)) sized
+    (rw (entered .before .next .ensures, entered .before .before .remaining .ensures) (started .start .ensures)) (entered .level .ensures))
 
 pub search-spec : {M : Type 1} → statement M
 search-spec =
     tie.close
-    (tie.spec returns returns-2 start-requires level-requires show-requires same-length returns-3)
+    (tie.spec returns returns-2 start-requires remaining-requires next-requires level-requires show-requires same-length returns-3)
