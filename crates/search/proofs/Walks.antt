@@ -12,12 +12,11 @@ use lib.ListN.{length, getD, set}
 use borrow.Author.Tests.{eqb-false}
 use Rattle.term.specs.Part.{isAbsent, boundPart}
 use Rattle.term.specs.declared.Part.{Part}
-use Rattle.search.specs.Bounds.{Short, StopsAt, Unassigned, WalkIs}
+use Rattle.search.specs.Bounds.{Short, StopsAt, Unassigned, reached, WalkIs}
 use Rattle.search.specs.Memory.{bit, packed, partIn, frameIn, outer, openedMarks, closedMarks, Linked, putByIn, putByMarks, Holds, Kept}
 use Rattle.search.specs.State.{Frame, PutBy, State, frame, putBy, state, partAt, passed, entered, reopened, alone, closedBy, variableAt, stepOf, walked, nextOf, walkOf}
 use Rattle.search.specs.declared.Marks.{Marks}
 use Rattle.search.specs.declared.Place.{Place}
-use Rattle.search.specs.declared.Reached.{Reached}
 use Rattle.search.specs.declared.Step.the-variants.{Stops, Fails, Closes, Opens, Passes, Binds, PutsBy}
 use Rattle.search.specs.declared.Step.{Step}
 use Rattle.search.specs.declared.Stop.the-variants.{Failure, NoAllowance, NoPair, RunName}
@@ -37,9 +36,6 @@ record Popped (stack : List ℕ) (inner : ℕ) (fs : List Frame) : Type 0 where
 popped : (stack : List ℕ) (inner : ℕ) (fs : List Frame) → (inner ≡ 0 → ⊥) → Linked stack inner fs → Popped stack inner fs
 popped stack inner [] n h = absurd (n h)
 popped stack inner (f ∷ fs) n h = record { rest = fs; is = ap (λ (g : Frame). g ∷ fs) (sym (h .1)); less = h .2; linked = h .3 }
-
-abbrev pub reached : Stop → ℕ → ℕ → Marks → Place → Reached
-reached stop left assigned m p = record { stop = stop; left = left; assigned = assigned; marks = m; place = p }
 
 module _ (table pattern bytes : List ℕ) where
   pub walk-suc : (n : ℕ) (s : State) (left : ℕ) → 0 < n

@@ -17,6 +17,10 @@ pub record Short (pattern bytes : List ℕ) : Type 0 where
   pub of-pattern : length pattern ≤ 256
   pub of-record : length bytes ≤ 4096
 
+-- where a walk stopped
+abbrev pub reached : Stop → ℕ → ℕ → Marks → Place → Reached
+reached stop left assigned m p = record { stop = stop; left = left; assigned = assigned; marks = m; place = p }
+
 -- a run name
 pub record Ready (codes v : ℕ) (p : Place) : Type 0 where
   pub variable : v < 48

@@ -4,7 +4,7 @@ use Prim.Native.Nat.{ℕ, suc, _+_, _-_, _*_, _/_, _%_, _^_, _<_, _≤_}
 use mathlib.Core.Path.{_≡_}
 use mathlib.Core.List.{List, [], _∷_}
 use mathlib.Core.Bool.{Bool, true, false, cond}
-use lib.ListN.{length, getD}
+use lib.ListN.{length, getD, set}
 use lib.Dec.{eqb}
 use Rattle.term.specs.Part.{part, absent, isAbsent}
 use Rattle.term.specs.declared.Part.{Part}
@@ -55,6 +55,14 @@ outer x = x / 65536
 abbrev pub openedMarks : Marks → Marks
 openedMarks m = marks (m .frames + 1) (m .frames + 1) (m .first) (m .waiting)
 
+-- what is left of the node open here, once a child of it is entered, goes on the stack
+pub record FramePushed (m : Marks) (p : Place) (stack stack′ : List ℕ) (r : Marks) : Type 0 where
+  pub number : ℕ
+  pub is : frameIn number ≡ frame (p .children - 1) (p .elements - 1)
+  pub link : outer number ≡ m .inner
+  pub written : stack′ ≡ set stack (m .frames) number
+  pub marks : r ≡ openedMarks m
+
 -- the innermost one, of this number, is closed
 abbrev pub closedMarks : Marks → ℕ → Marks
 closedMarks m x = marks (outer x) (m .frames) (m .first) (m .waiting)
@@ -73,6 +81,13 @@ putByIn x = putBy (x % 256) (x / 256 % 256) (x / 65536)
 -- one more is put by
 abbrev pub putByMarks : Marks → Marks
 putByMarks m = marks (m .inner) (m .frames) (m .first) (m .waiting + 1)
+
+-- the complement here, of so many bytes, goes on the stack
+pub record ComplementPushed (m : Marks) (p : Place) (codes : ℕ) (stack stack′ : List ℕ) (r : Marks) : Type 0 where
+  pub number : ℕ
+  pub is : putByIn number ≡ putBy (p .at) (codes - 1) (p .node)
+  pub written : stack′ ≡ set stack (255 - m .waiting) number
+  pub marks : r ≡ putByMarks m
 
 -- those from the one at first up to the end
 abbrev pub Queued : List ℕ → ℕ → ℕ → List PutBy → Type 0

@@ -10,15 +10,15 @@ ghost use mathlib.Core.Path.{_≡_};
 ghost use mathlib.Core.List.{_++_};
 ghost use mathlib.Core.Bool.{_&&_};
 ghost use Prim.Native.Nat.{_+_, _-_, _/_, _%_, _^_, _≤_, _<_};
-ghost use lib.ListN.{length, drop, replicate};
+ghost use lib.ListN.{length, drop, replicate, set};
 ghost use lib.Bits.{bitOr};
 ghost use lib.Dec.{eqb};
 ghost use Rattle.term.specs.Code.{VariableBelow};
-ghost use Rattle.term.specs.Part.{absent};
+ghost use Rattle.term.specs.Part.{absent, boundPart};
 ghost use Rattle.search.specs.State.{place, remainingIn, nextIn, placeOf, frame, putBy, passed, entered, reopened, variableOf, variableAt, standsOf, overStep, symbolStep, assignedStep, nameStep, runStep, complementStep, pairStep, plainStep, stepOf};
 ghost use Rattle.search.specs.Level.{failed, endOf, searchOf};
-ghost use Rattle.search.specs.Memory.{bit, packed, unpacked, partIn, frameIn, outer, putByIn, nodesIn, queueIn, marksOf, openedMarks, closedMarks, putByMarks, Holding};
-ghost use Rattle.search.specs.Bounds.{Short, Walks, StopsAt, Unassigned};
+ghost use Rattle.search.specs.Memory.{bit, packed, unpacked, partIn, frameIn, outer, putByIn, nodesIn, queueIn, marksOf, openedMarks, closedMarks, putByMarks, FramePushed, ComplementPushed, Holding};
+ghost use Rattle.search.specs.Bounds.{Short, Walks, StopsAt, Unassigned, reached};
 ghost use Rattle.search.specs.Shown.{numbers, shownBy, shownIn};
 ghost use Rattle.search.specs.Replies.{failure, found, turned, partsIn, inside, Free, Resting, Testable, Decides, LevelIs, RestIs, FollowIs, ComplementIs, ComplementsAre};
 
@@ -470,6 +470,50 @@ impl Marks {
     }
 }
 
+// The node that is open here goes on the stack; one more node is open.
+fn push_frame(stack: &mut [u32; 256], marks: Marks, place: Place) -> Marks
+    requires { ⌜ (0 < place .children) × (0 < place .elements) × (marks .inner ≤ 256) × (marks .frames < 256) ⌝ }
+    ensures { λ r. ⌜ FramePushed marks place (now (stack .entry)) (now (stack .exit)) r ⌝ }
+{
+    let i = marks.frames;
+    stack[i] = place.frame(marks.inner);
+    marks.opened()
+}
+
+// The complement here, of so many bytes, goes on the stack; one more is put by.
+fn push_complement(stack: &mut [u32; 256], marks: Marks, place: Place, codes: usize) -> Marks
+    requires { ⌜ (0 < codes) × (place .at + codes ≤ 256) × (place .node ≤ 4096) × (marks .waiting < 256) ⌝ }
+    ensures { λ r. ⌜ ComplementPushed marks place codes (now (stack .entry)) (now (stack .exit)) r ⌝ }
+{
+    let i = marks.waiting;
+    stack[255 - i] = place.complement(codes);
+    marks.put_by()
+}
+
+// The variable v takes the node of so many bytes.
+fn bind(parts: &mut [u64; 49], assigned: u64, v: u8, node: usize, size: usize) -> u64
+    requires { ⌜ v < 48 ⌝ }
+    ensures { λ r. ⌜ (r ≡ bitOr assigned (2 ^ v)) × (now (parts .exit) ≡ set (now (parts .entry)) v (packed (boundPart node size 1))) ⌝ }
+{
+    let i = wide(v);
+    parts[i] = packed(Part::bound(node, size, 1));
+    also(assigned, i)
+}
+
+impl Reached {
+    fn of(stop: Stop, left: u32, assigned: u64, marks: Marks, place: Place) -> Reached
+        ensures { λ r. ⌜ r ≡ reached stop left assigned marks place ⌝ }
+    {
+        Reached {
+            stop: stop,
+            left: left,
+            assigned: assigned,
+            marks: marks,
+            place: place,
+        }
+    }
+}
+
 // The pairs of a level that leave no choice.
 fn walk(
     table: &[u8],
@@ -500,10 +544,8 @@ fn walk(
             }
             Step::Opens(children, elements, width) => {
                 left = left - 1;
-                let i = marks.frames;
-                stack[i] = place.frame(marks.inner);
+                marks = push_frame(stack, marks, place);
                 place = place.entered(children, elements, width);
-                marks = marks.opened();
             }
             Step::Passes(elements, size) => {
                 left = left - 1;
@@ -511,27 +553,17 @@ fn walk(
             }
             Step::Binds(v, size) => {
                 left = left - 1;
-                let i = wide(v);
-                parts[i] = packed(Part::bound(place.node, size, 1));
-                assigned = also(assigned, i);
+                assigned = bind(parts, assigned, v, place.node, size);
                 place = place.passed(1, 1, size);
             }
             Step::PutsBy(codes, size) => {
                 left = left - 1;
-                let i = marks.waiting;
-                stack[255 - i] = place.complement(codes);
+                marks = push_complement(stack, marks, place, codes);
                 place = place.passed(1, codes, size);
-                marks = marks.put_by();
             }
         }
     };
-    Reached {
-        stop: stop,
-        left: left,
-        assigned: assigned,
-        marks: marks,
-        place: place,
-    }
+    Reached::of(stop, left, assigned, marks, place)
 }
 
 fn is_failure(stop: Stop) -> bool

@@ -2,11 +2,11 @@
 -- hold here. The measure: each turn takes a byte of the pattern, or closes a node for one further out. Assumes nothing.
 use Prim.Native.Nat.{_+_, _-_, _*_, _<_}
 use native.Mathlib.Omega.{arith}
+use mathlib.Core.Logic.{⊎-elim}
 use mathlib.Core.Path.{_≡_}
 use lib.Dec.{eqb}
 use lib.ListN.{length, getD}
 use borrow.Author.Needs.{needs}
-use Rattle.term.proofs.Part.bound.Reads as bound-reads
 use Rattle.search.specs.Bounds.{Short}
 use Rattle.search.specs.Memory.{partIn, outer, Holds, Holding}
 use Rattle.search.specs.State.{State, variableAt}
@@ -15,21 +15,18 @@ use Rattle.search.specs.declared.Step.{Step}
 use Rattle.search.proofs.Asks.{Asks}
 use Rattle.search.proofs.Walks.{Walking, Turn, asked, closes-inside, walk-starts, walk-stops, walk-fails, walk-closes, walk-opens, walk-passes, walk-binds, walk-puts}
 use Rattle.search.proofs.Marks.closed.Reads as closed-reads
-use Rattle.search.proofs.Marks.opened.Reads as opened-reads
-use Rattle.search.proofs.Marks.put_by.Reads as put-by-reads
-use Rattle.search.proofs.Place.complement.Reads as complement-reads
 use Rattle.search.proofs.Place.entered.Reads as entered-reads
-use Rattle.search.proofs.Place.frame.Reads as frame-reads
 use Rattle.search.proofs.Place.passed.Reads as passed-reads
 use Rattle.search.proofs.Place.reopened.Reads as reopened-reads
-use Rattle.search.proofs.also.Reads as also-reads
-use Rattle.search.proofs.packed.Reads as packed-reads
+use Rattle.search.proofs.Reached.of.Reads as of-reads
+use Rattle.search.proofs.bind.Reads as bind-reads
+use Rattle.search.proofs.push_complement.Reads as push-complement-reads
+use Rattle.search.proofs.push_frame.Reads as push-frame-reads
 use Rattle.search.proofs.step_of.Reads as step-of-reads
 use Rattle.search.proofs.walk.Lts as lts
 use Rattle.search.proofs.walk.Reads as reads
 use Rattle.search.proofs.walk.Statement.{statement}
 use Rattle.search.proofs.walk.Tie as tie
-use Rattle.search.proofs.wide.Reads as wide-reads
 
 abbrev Inv-loop : tie.InvT-loop
 Inv-loop table pattern «record» parts₀ stack₀ assigned₀ left₀ marks₀ place₀ parts stack assigned left marks place =
@@ -48,26 +45,18 @@ claims = (
   reopened-reads.Learnt,
   closed-reads.Asked,
   closed-reads.Learnt,
-  frame-reads.Asked,
-  frame-reads.Learnt,
+  push-frame-reads.Asked,
+  push-frame-reads.Learnt,
   entered-reads.Asked,
   entered-reads.Learnt,
-  opened-reads.Asked,
-  opened-reads.Learnt,
   passed-reads.Asked,
   passed-reads.Learnt,
-  wide-reads.Asked,
-  wide-reads.Learnt,
-  bound-reads.Asked,
-  bound-reads.Learnt,
-  packed-reads.Asked,
-  packed-reads.Learnt,
-  also-reads.Asked,
-  also-reads.Learnt,
-  complement-reads.Asked,
-  complement-reads.Learnt,
-  put-by-reads.Asked,
-  put-by-reads.Learnt,
+  bind-reads.Asked,
+  bind-reads.Learnt,
+  push-complement-reads.Asked,
+  push-complement-reads.Learnt,
+  of-reads.Asked,
+  of-reads.Learnt,
 )
 
 -- once the step is known
@@ -180,47 +169,29 @@ sub-left-2 c =
     let k = asks (c .before .before .before) _ (c .before .step2 .given .1) .allowed in
     omega arith
 
-frame-requires : tie.Need-frame-requires Inv-loop μ-loop
-frame-requires c κs =
-    let k = asks (c .before .before .before) _ (c .before .step2 .given .1) in
-    let h = held (c .before .before .before) in
-    (k .children, k .elements, omega arith)
-
-mul-stack : tie.Need-mul-stack Inv-loop μ-loop
-mul-stack c =
+push-frame-requires : tie.Need-push-frame-requires Inv-loop μ-loop
+push-frame-requires c κs =
     let k = asks (c .before .before .before .before) _ (c .before .before .step2 .given .1) in
     let h = held (c .before .before .before .before) in
-    omega arith
-
-element-write-stack : tie.Need-element-write-stack Inv-loop μ-loop
-element-write-stack c =
-    let k = asks (c .before .before .before .before) _ (c .before .before .step2 .given .1) in
-    let h = held (c .before .before .before .before) in
-    omega arith
+    (k .children, k .elements, omega arith, omega arith)
 
 entered-requires : tie.Need-entered-requires Inv-loop μ-loop
 entered-requires c κs =
-    let k = asks (c .before .before .before .before) _ (c .before .before .step2 .given .1) in
-    let l = short (c .before .before .before .before) in
-    (omega arith, omega arith)
-
-opened-requires : tie.Need-opened-requires Inv-loop μ-loop
-opened-requires c κs =
     let k = asks (c .before .before .before .before .before) _ (c .before .before .before .step2 .given .1) in
-    let h = held (c .before .before .before .before .before) in
-    omega arith
+    let l = short (c .before .before .before .before .before) in
+    (omega arith, omega arith)
 
 loop-less-2 : tie.Need-loop-less-2 Inv-loop μ-loop
 loop-less-2 c =
     let k = asks (c .before .before .before .before .before .before) _ (c .before .before .before .before .step2 .given .1) in
     let h = held (c .before .before .before .before .before .before) in
-    rw (c .opened .ensures, c .before .entered .ensures) (omega arith)
+    rw (c .before .push-frame .ensures .marks, c .entered .ensures) (omega arith)
 
 loop-again-2 : tie.Need-loop-again-2 Inv-loop μ-loop
 loop-again-2 c =
-    rw (c .opened .ensures, c .before .entered .ensures)
-    (λ s₀ h. walk-opens _ _ _ _ _ _ _ _ _ _ (turn (c .before .before .before .before .before .before) s₀ h) _ _ _ _
-    (c .before .before .before .before .step2 .given .1) (c .before .before .frame .ensures))
+    let f = c .before .push-frame .ensures in
+    rw (f .marks, f .written, c .entered .ensures)
+    (λ s₀ h. walk-opens _ _ _ _ _ _ _ _ _ _ (turn (c .before .before .before .before .before .before) s₀ h) _ _ _ _ (c .before .before .before .before .step2 .given .1) (f .is, f .link))
 
 enum-known-step-3 : tie.Need-enum-known-step-3 Inv-loop μ-loop
 enum-known-step-3 c = search needs
@@ -254,54 +225,26 @@ sub-left-4 c =
     let k = asks (c .before .before .before) _ (c .before .step4 .given .1) .1 .allowed in
     omega arith
 
-wide-requires : tie.Need-wide-requires Inv-loop μ-loop
-wide-requires c κs = search needs
-
-bound-requires : tie.Need-bound-requires Inv-loop μ-loop
-bound-requires c κs = search needs
-
-packed-requires : tie.Need-packed-requires Inv-loop μ-loop
-packed-requires c κs = search needs
-
-mul-parts : tie.Need-mul-parts Inv-loop μ-loop
-mul-parts c =
-    let k = asks (c .before .before .before .before .before .before) _ (c .before .before .before .before .step4 .given .1) .0 .below in
-    omega (arith, c .before .before .wide .ensures)
-
-element-write-parts : tie.Need-element-write-parts Inv-loop μ-loop
-element-write-parts c =
-    let k = asks (c .before .before .before .before .before .before) _ (c .before .before .before .before .step4 .given .1) .0 .below in
-    omega (arith, c .before .before .wide .ensures)
-
-also-requires : tie.Need-also-requires Inv-loop μ-loop
-also-requires c κs =
-    let k = asks (c .before .before .before .before .before .before) _ (c .before .before .before .before .step4 .given .1) .0 .below in
-    omega (arith, c .before .before .wide .ensures)
+bind-requires : tie.Need-bind-requires Inv-loop μ-loop
+bind-requires c κs =
+    let k = asks (c .before .before .before .before) _ (c .before .before .step4 .given .1) .0 .below in
+    k
 
 passed-requires-2 : tie.Need-passed-requires-2 Inv-loop μ-loop
 passed-requires-2 c κs =
-    let k = asks (c .before .before .before .before .before .before .before) _ (c .before .before .before .before .before .step4 .given .1) .1 in
-    let l = short (c .before .before .before .before .before .before .before) in
+    let k = asks (c .before .before .before .before .before) _ (c .before .before .before .step4 .given .1) .1 in
+    let l = short (c .before .before .before .before .before) in
     (k .children, k .elements, omega arith, omega arith)
 
 loop-less-4 : tie.Need-loop-less-4 Inv-loop μ-loop
 loop-less-4 c =
-    let k = asks (c .before .before .before .before .before .before .before .before) _
-    (c .before .before .before .before .before .before .step4 .given .1) .1 in
+    let k = asks (c .before .before .before .before .before .before) _ (c .before .before .before .before .step4 .given .1) .1 in
     rw (c .passed2 .ensures) (omega arith)
 
 loop-again-4 : tie.Need-loop-again-4 Inv-loop μ-loop
 loop-again-4 c =
-    rw (
-      c .passed2 .ensures,
-      c .before .also .ensures,
-      c .before .before .packed .ensures,
-      c .before .before .before .bound .ensures,
-      c .before .before .before .before .wide .ensures,
-    )
-    (λ s₀ h. walk-binds _ _ _ _ _ _ _ _ _ _ (turn (c .before .before .before .before .before .before .before .before) s₀ h) _ _
-    (c .before .before .before .before .before .before .step4 .given .1)
-    (short (c .before .before .before .before .before .before .before .before)))
+    rw (c .passed2 .ensures, c .before .bind .ensures .0, c .before .bind .ensures .1)
+    (λ s₀ h. walk-binds _ _ _ _ _ _ _ _ _ _ (turn (c .before .before .before .before .before .before) s₀ h) _ _ (c .before .before .before .before .step4 .given .1) (short (c .before .before .before .before .before .before)))
 
 enum-known-step-5 : tie.Need-enum-known-step-5 Inv-loop μ-loop
 enum-known-step-5 c = search needs
@@ -311,53 +254,41 @@ sub-left-5 c =
     let k = asks (c .before .before .before) _ (c .before .step5 .given .1) .allowed in
     omega arith
 
-complement-requires : tie.Need-complement-requires Inv-loop μ-loop
-complement-requires c κs =
-    let k = asks (c .before .before .before) _ (c .before .step5 .given .1) in
-    let h = held (c .before .before .before) in
-    let l = short (c .before .before .before) in
-    (k .some, omega arith, omega arith)
-
-sub-stack : tie.Need-sub-stack Inv-loop μ-loop
-sub-stack c =
+push-complement-requires : tie.Need-push-complement-requires Inv-loop μ-loop
+push-complement-requires c κs =
     let k = asks (c .before .before .before .before) _ (c .before .before .step5 .given .1) in
     let h = held (c .before .before .before .before) in
-    omega arith
-
-mul-stack-2 : tie.Need-mul-stack-2 Inv-loop μ-loop
-mul-stack-2 c = omega arith
-
-element-write-stack-2 : tie.Need-element-write-stack-2 Inv-loop μ-loop
-element-write-stack-2 c = omega arith
+    let l = short (c .before .before .before .before) in
+    (k .some, omega arith, omega arith, omega arith)
 
 passed-requires-3 : tie.Need-passed-requires-3 Inv-loop μ-loop
 passed-requires-3 c κs =
-    let k = asks (c .before .before .before .before) _ (c .before .before .step5 .given .1) in
-    let l = short (c .before .before .before .before) in
-    (k .children, k .elements, omega arith, omega arith)
-
-put-by-requires : tie.Need-put-by-requires Inv-loop μ-loop
-put-by-requires c κs =
     let k = asks (c .before .before .before .before .before) _ (c .before .before .before .step5 .given .1) in
-    let h = held (c .before .before .before .before .before) in
-    omega arith
+    let l = short (c .before .before .before .before .before) in
+    (k .children, k .elements, omega arith, omega arith)
 
 loop-less-5 : tie.Need-loop-less-5 Inv-loop μ-loop
 loop-less-5 c =
     let k = asks (c .before .before .before .before .before .before) _ (c .before .before .before .before .step5 .given .1) in
-    rw (c .put-by .ensures, c .before .passed3 .ensures) (omega arith)
+    rw (c .before .push-complement .ensures .marks, c .passed3 .ensures) (omega arith)
 
 loop-again-5 : tie.Need-loop-again-5 Inv-loop μ-loop
 loop-again-5 c =
-    rw (c .put-by .ensures, c .before .passed3 .ensures)
-    (λ s₀ h. walk-puts _ _ _ _ _ _ _ _ _ _ (turn (c .before .before .before .before .before .before) s₀ h) _ _ _
-    (c .before .before .before .before .step5 .given .1) (c .before .before .complement .ensures))
+    let f = c .before .push-complement .ensures in
+    rw (f .marks, f .written, c .passed3 .ensures)
+    (λ s₀ h. walk-puts _ _ _ _ _ _ _ _ _ _ (turn (c .before .before .before .before .before .before) s₀ h) _ _ _ (c .before .before .before .before .step5 .given .1) (f .is))
+
+of-requires : tie.Need-of-requires Inv-loop μ-loop
+of-requires c κs = search needs
 
 returns : tie.Need-returns Inv-loop μ-loop
-returns c = λ s₀ h. walk-stops _ _ _ _ _ _ _ _ _ _ (turn (c .before .before .before) s₀ h) _ (c .before .step .given .1)
-
-returns-2 : tie.Need-returns-2 Inv-loop μ-loop
-returns-2 c = λ s₀ h. walk-fails _ _ _ _ _ _ _ _ _ _ (turn (c .before .before) s₀ h) (c .enum-told .given .1)
+returns c =
+    let t = turn (c .before .before) in
+    rw (c .of .ensures)
+    (⊎-elim
+    (λ w. rw (w .3, w .4) (λ s₀ h. walk-stops _ _ _ _ _ _ _ _ _ _ (t s₀ h) _ (w .1 .given .1)))
+    (λ w. rw (w .2, w .3) (λ s₀ h. walk-fails _ _ _ _ _ _ _ _ _ _ (t s₀ h) (w .1 .given .1)))
+    (c .before .match .came))
 
 pub walk-spec : {M : Type 1} → statement M
 walk-spec =
@@ -380,11 +311,8 @@ walk-spec =
     loop-again
     enum-known-step-2
     sub-left-2
-    frame-requires
-    mul-stack
-    element-write-stack
+    push-frame-requires
     entered-requires
-    opened-requires
     loop-less-2
     loop-again-2
     enum-known-step-3
@@ -394,24 +322,15 @@ walk-spec =
     loop-again-3
     enum-known-step-4
     sub-left-4
-    wide-requires
-    bound-requires
-    packed-requires
-    mul-parts
-    element-write-parts
-    also-requires
+    bind-requires
     passed-requires-2
     loop-less-4
     loop-again-4
     enum-known-step-5
     sub-left-5
-    complement-requires
-    sub-stack
-    mul-stack-2
-    element-write-stack-2
+    push-complement-requires
     passed-requires-3
-    put-by-requires
     loop-less-5
     loop-again-5
-    returns
-    returns-2)
+    of-requires
+    returns)
