@@ -19,7 +19,7 @@ use Rattle.term.specs.declared.Read.the-variants.{Ends}
 use Rattle.term.proofs.Steps.{plus, andThen, all-none, all-more, shown-chain, tree-refused, tree-open, node-within, node-below, rest-part}
 
 -- all but the first tree
-abbrev restOf : Frame → Frame
+abbrev pub restOf : Frame → Frame
 restOf f = frame (f .count - 1) (f .left) (f .list)
 
 -- Frames in an array: the first so many, the last of them innermost
@@ -133,6 +133,19 @@ module _ (table : List ℕ) (records : Bool) (s : List ℕ) where
   abbrev pub ToCome : List Frame → ℕ → Type 0
   ToCome fs at = shown (readTree table records 32 false s) ≡ plus at (resume table records fs (drop at s))
 
+  pub whole-to-come : ToCome (frame 1 32 false ∷ []) 0
+  whole-to-come = sym (plus-none (resume table records (frame 1 32 false ∷ []) s) ∙ resume-one table records 32 false s)
+
+  -- an open node's children come next, and then what is left of its frame
+  pub children-to-come : (f : Frame) (fs : List Frame) (at : ℕ) {size k : ℕ} {list : Bool} {low : ℕ} → 0 < f .count
+      → nodeAt table records (f .list) (f .left) (drop at s) ≡ Open size k list low
+      → ToCome (f ∷ fs) at → ToCome (frame k low list ∷ restOf f ∷ fs) (at + size)
+  children-to-come f fs at {size} {k} {list} {low} h e l =
+      let gs = frame k low list ∷ restOf f ∷ fs in
+      l ∙ ap (plus at) (resume-open table records f fs (drop at s) h e)
+      ∙ plus-plus at size (resume table records gs (drop size (drop at s)))
+      ∙ ap (λ (x : List ℕ). plus (at + size) (resume table records gs x)) (drop-drop size at s)
+
   -- `top` is the innermost frame; a single tree takes no place around its children
   pub record Reading (around : List Frame) (depth : ℕ) (top : Frame) (at : ℕ) : Type 0 where
     pub within : at ≤ length s
@@ -149,10 +162,14 @@ module _ (table : List ℕ) (records : Bool) (s : List ℕ) where
     room = rw e (omega arith);
     places = l;
     kept = tt;
-    to-come = rw e (sym (plus-none (resume table records (frame 1 32 false ∷ []) s) ∙ resume-one table records 32 false s));
+    to-come = rw e whole-to-come;
   }
 
-  skip : (f : Frame) (fs : List Frame) (at : ℕ) → f .count ≡ 0 → ToCome (f ∷ fs) at → ToCome fs at
+  pub none-to-come : (at : ℕ) → ToCome [] at → shown (readTree table records 32 false s) ≡ Ends at
+  unfolding resume
+  none-to-come at l = l ∙ ap Ends (omega arith)
+
+  pub skip : (f : Frame) (fs : List Frame) (at : ℕ) → f .count ≡ 0 → ToCome (f ∷ fs) at → ToCome fs at
   skip f fs at z l = l ∙ ap (plus at) (resume-none table records f fs (drop at s) z)
 
   skip-under : (g f : Frame) (fs : List Frame) (at : ℕ) → f .count ≡ 0 → ToCome (g ∷ f ∷ fs) at → ToCome (g ∷ fs) at
@@ -180,11 +197,7 @@ module _ {table : List ℕ} {records : Bool} {s : List ℕ} {around : List Frame
     depth-within = omega (arith, i .room, i .some, below)
 
     opened : ToCome table records s (frame k low list ∷ restOf top ∷ stack depth around) (at + size)
-    opened =
-        let fs = frame k low list ∷ restOf top ∷ stack depth around in
-        i .to-come ∙ ap (plus at) (resume-open table records top (stack depth around) (drop at s) (i .some) opens)
-        ∙ plus-plus at size (resume table records fs (drop size (drop at s)))
-        ∙ ap (λ (l : List ℕ). plus (at + size) (resume table records fs l)) (drop-drop size at s)
+    opened = children-to-come table records s top (stack depth around) at (i .some) opens (i .to-come)
 
     -- a node without children: its frame goes on, or after its last tree the one around it
     next-frames : k ≤ 0 → ToCome table records s (restOf top ∷ stack depth around) (at + size)
@@ -217,8 +230,7 @@ module _ {table : List ℕ} {records : Bool} {s : List ℕ} {around : List Frame
         }
 
     pub no-more : k ≤ 0 → top .count - 1 ≡ 0 → depth ≡ 0 → shown (readTree table records 32 false s) ≡ Ends (at + size)
-    unfolding resume
-    no-more z h d = last-tree z h ∙ rw d (ap Ends (omega arith))
+    no-more z h d = none-to-come table records s (at + size) (rw d at (last-tree z h))
 
     pub place-free : 0 < top .count - 1 → depth < 32
     place-free h = omega (arith, i .room, below)

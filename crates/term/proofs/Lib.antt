@@ -10,4 +10,5 @@ pub mod Inverse
 pub mod Typed
 pub mod Steps
 pub mod Frames
+pub mod Shallow
 pub mod Joins

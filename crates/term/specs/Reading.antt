@@ -1,5 +1,6 @@
 -- Reading a record or a pattern: 6, then each node's checks, root first, left to right, 3 last.
 use Prim.Native.Nat.{ℕ, zero, suc, _+_}
+use mathlib.Core.Path.{_≡_}
 use mathlib.Core.List.{List}
 use mathlib.Core.Bool.{Bool, true, false, cond}
 use lib.ListN.{length, getD, drop}
@@ -75,6 +76,11 @@ whole s (read t n) = cond (eqb n (length s)) (read t n) (refused Spare)
 unfoldable pub readWhole : Bool → List ℕ → List ℕ → Answer Tree
 readWhole records table s =
     cond (leb (length s) (longest records)) (whole s (readTree table records 32 false s)) (refused Long)
+
+-- a record that is known to be one, or not
+abbrev pub Shallow : List ℕ → List ℕ → Bool → Type 0
+Shallow table s true = shown (readWhole true table s) ≡ Ends (length s)
+Shallow table s false = Unit {0}
 
 unfoldable pub mapAnswer : {A B : Type 0} → (A → B) → Answer A → Answer B
 mapAnswer f (refused r) = refused r

@@ -12,7 +12,7 @@ ghost use Rattle.term.specs.Extent.{entryOf, extentOf};
 ghost use Rattle.term.specs.Same.{samePart};
 ghost use Rattle.term.specs.Part.{boundPart, isAbsent, partBytes};
 ghost use Rattle.term.specs.Frame.{frame};
-ghost use Rattle.term.specs.Reading.{shown, readTree, nodeRefusal, readWhole, readRecord, readPattern};
+ghost use Rattle.term.specs.Reading.{shown, readTree, nodeRefusal, readWhole, Shallow, readRecord, readPattern};
 
 // What a byte of a pattern stands for. A name or a run name holds its variable's number.
 pub enum Code {
@@ -117,14 +117,14 @@ pub fn check_table(table: &[u8]) -> bool
     if 200 < table.len() {
         return false;
     }
+    // No early exit, so that many entries are checked at a time.
+    let mut accepted = true;
     let mut i = 0;
     while i < table.len() {
-        if !accepts_entry(table[i]) {
-            return false;
-        }
+        accepted = accepted & accepts_entry(table[i]);
         i += 1;
     }
-    true
+    accepted
 }
 
 fn code_in(records: bool, b: u8) -> Code
@@ -306,10 +306,55 @@ fn read_whole(records: bool, table: &[u8], s: &[u8]) -> Read
     tree
 }
 
+// Whether s is surely a record: a tree with fewer than 32 nodes that have children is not nested deeper than 32, and needs no frames.
+fn is_shallow(table: &[u8], s: &[u8]) -> bool
+    ensures { λ r. ⌜ Shallow (now (table .entry)) (now (s .entry)) r ⌝ }
+{
+    if 4096 < s.len() {
+        return false;
+    }
+    let mut at: usize = 0;
+    // The earliest place at which it can end: each tree still to come takes a byte at least.
+    let mut end: usize = 1;
+    let mut parents: u8 = 0;
+    while at < end {
+        if s.len() < end {
+            return false;
+        }
+        let entry_at = wide(s[at]);
+        if table.len() <= entry_at {
+            return false;
+        }
+        let entry = table[entry_at];
+        if entry == 0 {
+            at = at + 1;
+            continue;
+        }
+        if parents == 31 {
+            return false;
+        }
+        parents = parents + 1;
+        if entry < 255 {
+            at = at + 1;
+            end = end + wide(entry);
+            continue;
+        }
+        if s.len() <= end {
+            return false;
+        }
+        end = end + 1 + wide(s[at + 1]);
+        at = at + 2;
+    }
+    at == s.len()
+}
+
 // Reads a record by an accepted table.
 pub fn read_record(table: &[u8], bytes: &[u8]) -> Read
     ensures { λ r. ⌜ r ≡ shown (readRecord (now (table .entry)) (now (bytes .entry))) ⌝ }
 {
+    if is_shallow(table, bytes) {
+        return Read::Ends(bytes.len());
+    }
     read_whole(true, table, bytes)
 }
 

@@ -1,19 +1,19 @@
--- `term::check_table` meets its contract. The invariant: the entries from `i` on decide.
+-- `term::check_table` meets its contract. The invariant: the entries so far and those from `i` on decide.
 use Prim.Native.Nat.{_≤_, _-_, zero-le}
 use native.Mathlib.Omega.{arith}
 use mathlib.Core.Path.{_≡_, refl, sym, _∙_}
+use mathlib.Core.Bool.{_&&_}
 use lib.ListN.{length, drop}
-use borrow.Author.Tests.{not-true, not-false}
 use Rattle.term.specs.Table.{entriesAccepted}
-use Rattle.term.proofs.Tables.{table-long, table-bad, table-good, entries-next}
 use Rattle.term.proofs.check_table.Statement.{statement}
 use Rattle.term.proofs.check_table.Tie as tie
+use Rattle.term.proofs.Tables.{table-long, table-checked, entries-next}
 
 abbrev Inv-loop : tie.InvT-loop
-Inv-loop table i₀ i = (i ≤ length table) × (entriesAccepted (drop i table) ≡ entriesAccepted table)
+Inv-loop table accepted₀ i₀ accepted i = (i ≤ length table) × (accepted && entriesAccepted (drop i table) ≡ entriesAccepted table)
 
 abbrev μ-loop : tie.MeasureT-loop
-μ-loop table i₀ i = length table - i
+μ-loop table accepted₀ i₀ accepted i = length table - i
 
 returns : tie.Need-returns Inv-loop μ-loop
 returns c = sym (table-long _ (c .if1 .taken))
@@ -27,9 +27,6 @@ shared-slice-read-accepts-entry c = omega arith
 accepts-entry-requires : tie.Need-accepts-entry-requires Inv-loop μ-loop
 accepts-entry-requires c κs = tt
 
-returns-2 : tie.Need-returns-2 Inv-loop μ-loop
-returns-2 c = sym (table-bad _ _ (c .before .before .before .before .before .if1 .left) (c .before .before .before .loop-test .taken) (sym (c .before .accepts-entry .ensures) ∙ not-true _ (c .if2 .taken)) (c .before .before .before .before .loop .inv .1))
-
 add-i : tie.Need-add-i Inv-loop μ-loop
 add-i c = omega arith
 
@@ -37,10 +34,12 @@ loop-less : tie.Need-loop-less Inv-loop μ-loop
 loop-less c = omega arith
 
 loop-again : tie.Need-loop-again Inv-loop μ-loop
-loop-again c = (omega arith, entries-next _ _ (c .before .before .before .loop-test .taken) (sym (c .before .accepts-entry .ensures) ∙ not-false _ (c .if2 .left)) (c .before .before .before .before .loop .inv .1))
+loop-again c =
+    let turn = c .before .before .before .loop in
+    (omega arith, rw (c .accepts-entry .ensures) (entries-next _ _ (turn .accepted) (c .before .before .loop-test .taken) (turn .inv .1)))
 
-returns-3 : tie.Need-returns-3 Inv-loop μ-loop
-returns-3 c = sym (table-good _ _ (c .before .before .if1 .left) (c .loop-test .left) (c .before .loop .inv .1))
+returns-2 : tie.Need-returns-2 Inv-loop μ-loop
+returns-2 c = table-checked _ _ _ (c .before .before .if1 .left) (c .loop-test .left) (c .before .loop .inv .1)
 
 pub check-table-spec : {M : Type 1} → statement M
 check-table-spec =
@@ -52,8 +51,7 @@ check-table-spec =
     loop-holds
     shared-slice-read-accepts-entry
     accepts-entry-requires
-    returns-2
     add-i
     loop-less
     loop-again
-    returns-3)
+    returns-2)
