@@ -16,7 +16,7 @@ use Rattle.term.specs.declared.Code.{Code}
 use Rattle.term.specs.declared.Code.the-variants.{Symbol, Name, Run, Complement}
 use Rattle.term.specs.declared.Node.{Node}
 use Rattle.term.specs.declared.Node.the-variants.{Open}
-use Rattle.term.specs.declared.Refusal.the-variants.{Deep, BadCode, Short}
+use Rattle.term.specs.declared.Refusal.the-variants.{Short}
 use Rattle.term.proofs.Answers.{cond-all, Opened}
 use Rattle.term.proofs.Codes.{code-back}
 use Rattle.term.proofs.Sizes.{own-length as list-length}
@@ -51,17 +51,13 @@ module _ (table : List ℕ) (records inList : Bool) (left : ℕ) (s : List ℕ) 
   node-short h = rw h
 
   module _ (c : Code) (long : length s ≡ 0 → ⊥) (is : c ≡ codeIn records (getD s 0 0)) where
-    pub node-bad : known table c ≡ false → nodeAt table records inList left s ≡ Node.Refused BadCode
-    unfolding nodeAt codeNode
-    node-bad k = rw (ne-eqb (length s) 0 long, ← is, k)
-
-    pub node-deep : known table c ≡ true → left ≡ 0 → nodeAt table records inList left s ≡ Node.Refused Deep
-    unfolding nodeAt codeNode
-    node-deep k z = rw (ne-eqb (length s) 0 long, ← is, k, z)
+    pub node-code : nodeAt table records inList left s ≡ codeNode table inList left s c
+    unfolding nodeAt
+    node-code = rw (ne-eqb (length s) 0 long, ← is)
 
     pub node-open : known table c ≡ true → (left ≡ 0 → ⊥) → nodeAt table records inList left s ≡ openNode table inList (belowOf c left) s c
-    unfolding nodeAt codeNode
-    node-open k d = rw (ne-eqb (length s) 0 long, ← is, k, ne-eqb left 0 d)
+    unfolding codeNode
+    node-open k d = node-code ∙ rw (k, ne-eqb left 0 d)
 
 -- A node's own bytes are read as the node
 

@@ -25,19 +25,27 @@ known table Code.Refused = false
 abbrev pub listNode : ℕ → List ℕ → Node
 listNode low s = cond (ltb (length s) 2) (Node.Refused Short) (Open 2 (getD s 1 0) true low)
 
--- a known code's node, with so much nesting left for its children; a run name elsewhere than in a list is 7
+-- a run name elsewhere than in a list is 7
+abbrev pub runNode : Bool → ℕ → Node
+runNode inList low = cond inList (Open 1 0 false low) (Node.Refused Stray)
+
+-- a known code's node, with so much nesting left for its children
 unfoldable pub openNode : List ℕ → Bool → ℕ → List ℕ → Code → Node
 openNode table inList low s (Symbol b) =
     cond (isList table b) (listNode low s) (Open 1 (getD table b 0) false low)
 openNode table inList low s (Name v) = Open 1 0 false low
-openNode table inList low s (Run v) = cond inList (Open 1 0 false low) (Node.Refused Stray)
+openNode table inList low s (Run v) = runNode inList low
 openNode table inList low s Complement = Open 1 1 false low
 openNode table inList low s Code.Refused = Node.Refused BadCode
+
+-- no nesting left is 5
+abbrev pub unlessDeep : ℕ → Node → Node
+unlessDeep left n = cond (eqb left 0) (Node.Refused Deep) n
 
 unfoldable pub codeNode : List ℕ → Bool → ℕ → List ℕ → Code → Node
 codeNode table inList left s c =
     cond (known table c)
-    (cond (eqb left 0) (Node.Refused Deep) (openNode table inList (belowOf c left) s c))
+    (unlessDeep left (openNode table inList (belowOf c left) s c))
     (Node.Refused BadCode)
 
 -- the node at the start of s, of a record or a pattern, as a list's child or not, with so much nesting left

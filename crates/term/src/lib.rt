@@ -1,13 +1,13 @@
 // Symbol tables, records and patterns: what their bytes stand for, which are accepted, where a term ends, and when two are the same.
 ghost use mathlib.Core.Path.{_≡_};
 ghost use mathlib.Core.Bool.{true, false};
-ghost use Prim.Native.Nat.{_<_, _≤_};
+ghost use Prim.Native.Nat.{_-_, _≤_};
 ghost use lib.ListN.{length};
 ghost use Rattle.term.specs.Table.{entryAccepted, tableAccepted};
 ghost use Rattle.term.specs.Code.{decodeOf, codeIn};
 ghost use Rattle.term.specs.Limits.{longest};
 ghost use Rattle.term.specs.Refusal.{numberOf};
-ghost use Rattle.term.specs.Node.{known, listNode, openNode, nodeAt};
+ghost use Rattle.term.specs.Node.{listNode, runNode, unlessDeep, codeNode, nodeAt};
 ghost use Rattle.term.specs.Extent.{entryOf, extentOf};
 ghost use Rattle.term.specs.Same.{samePart};
 ghost use Rattle.term.specs.Part.{boundPart, isAbsent, partBytes};
@@ -133,34 +133,47 @@ fn code_in(records: bool, b: u8) -> Code
     if records { Code::Symbol(b) } else { decode(b) }
 }
 
-fn is_known(table: &[u8], code: Code) -> bool
-    ensures { λ r. ⌜ r ≡ known (now (table .entry)) code ⌝ }
+fn wide(b: u8) -> usize
+    ensures { λ r. ⌜ r ≡ b ⌝ }
 {
-    match code {
-        Code::Symbol(b) => (b as usize) < table.len(),
-        Code::Name(_) => true,
-        Code::Run(_) => true,
-        Code::Complement => true,
-        Code::Refused => false,
-    }
+    b as usize
 }
 
 // A node of one byte.
-fn plain_node(kids: u8, low: u8) -> Node
-    ensures { λ r. ⌜ r ≡ Node.Open 1 kids false low ⌝ }
+fn plain_node(kids: u8, left: u8) -> Node
+    ensures { λ r. ⌜ r ≡ unlessDeep left (Node.Open 1 kids false (left - 1)) ⌝ }
 {
+    if left == 0 {
+        return Node::Refused(Refusal::Deep);
+    }
     Node::Open {
         size: 1,
         kids: kids,
         list: false,
-        low: low,
+        low: left - 1,
     }
 }
 
-// The node of a list symbol.
-fn list_node(s: &[u8], low: u8) -> Node
-    ensures { λ r. ⌜ r ≡ listNode low (now (s .entry)) ⌝ }
+// The node of a run name.
+fn run_node(in_list: bool, left: u8) -> Node
+    ensures { λ r. ⌜ r ≡ unlessDeep left (runNode «in_list» (left - 1)) ⌝ }
 {
+    if in_list {
+        return plain_node(0, left);
+    }
+    if left == 0 {
+        return Node::Refused(Refusal::Deep);
+    }
+    Node::Refused(Refusal::Stray)
+}
+
+// The node of a list symbol.
+fn list_node(s: &[u8], left: u8) -> Node
+    ensures { λ r. ⌜ r ≡ unlessDeep left (listNode (left - 1) (now (s .entry))) ⌝ }
+{
+    if left == 0 {
+        return Node::Refused(Refusal::Deep);
+    }
     if s.len() < 2 {
         return Node::Refused(Refusal::Short);
     }
@@ -168,34 +181,23 @@ fn list_node(s: &[u8], low: u8) -> Node
         size: 2,
         kids: s[1],
         list: true,
-        low: low,
+        low: left - 1,
     }
 }
 
-// The node of a known code, with so much nesting left for its children.
-fn open_node(table: &[u8], s: &[u8], in_list: bool, low: u8, code: Code) -> Node
-    requires { ⌜ known (now table) code ≡ true ⌝ }
-    ensures { λ r. ⌜ r ≡ openNode (now (table .entry)) «in_list» low (now (s .entry)) code ⌝ }
+// The node of a symbol.
+fn symbol_node(table: &[u8], s: &[u8], left: u8, b: u8) -> Node
+    ensures { λ r. ⌜ r ≡ codeNode (now (table .entry)) false left (now (s .entry)) (Code.Symbol b) ⌝ }
 {
-    match code {
-        Code::Symbol(b) => {
-            let i = b as usize;
-            let entry = table[i];
-            if entry == 255 {
-                return list_node(s, low);
-            }
-            plain_node(entry, low)
-        }
-        Code::Name(_) => plain_node(0, low),
-        Code::Run(_) => {
-            if in_list {
-                return plain_node(0, low);
-            }
-            Node::Refused(Refusal::Stray)
-        }
-        Code::Complement => plain_node(1, low),
-        Code::Refused => Node::Refused(Refusal::BadCode),
+    let i = wide(b);
+    if table.len() <= i {
+        return Node::Refused(Refusal::BadCode);
     }
+    let entry = table[i];
+    if entry == 255 {
+        return list_node(s, left);
+    }
+    plain_node(entry, left)
 }
 
 fn node_at(table: &[u8], s: &[u8], records: bool, in_list: bool, left: u8) -> Node
@@ -205,13 +207,13 @@ fn node_at(table: &[u8], s: &[u8], records: bool, in_list: bool, left: u8) -> No
         return Node::Refused(Refusal::Short);
     }
     let code = code_in(records, s[0]);
-    if !is_known(table, code) {
-        return Node::Refused(Refusal::BadCode);
+    match code {
+        Code::Symbol(b) => symbol_node(table, s, left, b),
+        Code::Name(_) => plain_node(0, left),
+        Code::Run(_) => run_node(in_list, left),
+        Code::Complement => plain_node(1, left),
+        Code::Refused => Node::Refused(Refusal::BadCode),
     }
-    if left == 0 {
-        return Node::Refused(Refusal::Deep);
-    }
-    open_node(table, s, in_list, left - 1, code)
 }
 
 impl Frame {
@@ -363,12 +365,6 @@ pub fn read_pattern(table: &[u8], bytes: &[u8]) -> Read
     ensures { λ r. ⌜ r ≡ shown (readPattern (now (table .entry)) (now (bytes .entry))) ⌝ }
 {
     read_whole(false, table, bytes)
-}
-
-fn wide(b: u8) -> usize
-    ensures { λ r. ⌜ r ≡ b ⌝ }
-{
-    b as usize
 }
 
 // The entry of a code: its number of children, or 255 for a list.

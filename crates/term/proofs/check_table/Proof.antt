@@ -1,7 +1,7 @@
 -- `term::check_table` meets its contract. The invariant: the entries so far and those from `i` on decide.
 use Prim.Native.Nat.{_≤_, _-_, zero-le}
 use native.Mathlib.Omega.{arith}
-use mathlib.Core.Path.{_≡_, refl, sym, _∙_}
+use mathlib.Core.Path.{_≡_, refl, sym}
 use mathlib.Core.Bool.{_&&_}
 use lib.ListN.{length, drop}
 use Rattle.term.specs.Table.{entriesAccepted}

@@ -1,6 +1,6 @@
 -- `term::node_at` meets its contract.
-use Rattle.term.proofs.Nodes.{node-short, node-bad, node-deep, node-open}
-use borrow.Author.Tests.{not-true, not-false}
+use Rattle.term.specs.Node.{openNode, codeNode}
+use Rattle.term.proofs.Nodes.{node-short, node-code}
 use mathlib.Core.Path.{sym, _∙_}
 use borrow.Author.Needs.{needs}
 use Rattle.term.proofs.node_at.Statement.{statement}
@@ -15,23 +15,62 @@ shared-slice-read-code-in c = search needs
 code-in-requires : tie.Need-code-in-requires
 code-in-requires c κs = search needs
 
-is-known-requires : tie.Need-is-known-requires
-is-known-requires c κs = search needs
+enum-known-code : tie.Need-enum-known-code
+enum-known-code c = search needs
+
+symbol-node-requires : tie.Need-symbol-node-requires
+symbol-node-requires c κs = search needs
+
+enum-told : tie.Need-enum-told
+enum-told c = search needs
+
+plain-node-requires : tie.Need-plain-node-requires
+plain-node-requires c κs = search needs
+
+enum-told-2 : tie.Need-enum-told-2
+enum-told-2 c = search needs
+
+run-node-requires : tie.Need-run-node-requires
+run-node-requires c κs = search needs
+
+enum-told-3 : tie.Need-enum-told-3
+enum-told-3 c = search needs
+
+plain-node-requires-2 : tie.Need-plain-node-requires-2
+plain-node-requires-2 c κs = search needs
+
+enum-told-4 : tie.Need-enum-told-4
+enum-told-4 c = search needs
 
 returns-2 : tie.Need-returns-2
-returns-2 c = sym (node-bad _ _ _ _ _ _ (c .before .before .before .before .if1 .left) (c .before .before .code-in .ensures) (sym (c .before .is-known .ensures) ∙ not-true _ (c .if2 .taken)))
+unfolding openNode codeNode
+returns-2 c =
+    let code = c .before .before .before .before in
+    c .symbol-node .ensures ∙ sym (node-code _ _ _ _ _ _ (code .before .before .if1 .left) (sym (c .before .before .code .given .1) ∙ code .code-in .ensures))
 
 returns-3 : tie.Need-returns-3
-returns-3 c = sym (node-deep _ _ _ _ _ _ (c .before .before .before .before .before .if1 .left) (c .before .before .before .code-in .ensures) (sym (c .before .before .is-known .ensures) ∙ not-false _ (c .before .if2 .left)) (c .if3 .taken))
-
-sub-open-node : tie.Need-sub-open-node
-sub-open-node c = search needs
-
-open-node-requires : tie.Need-open-node-requires
-open-node-requires c κs = sym (c .before .before .is-known .ensures) ∙ not-false _ (c .before .if2 .left)
+unfolding openNode codeNode
+returns-3 c =
+    let code = c .before .before .before in
+    c .plain-node .ensures ∙ sym (node-code _ _ _ _ _ _ (code .before .before .if1 .left) (sym (c .before .enum-told .given .1) ∙ code .code-in .ensures))
 
 returns-4 : tie.Need-returns-4
-returns-4 c = c .open-node .ensures ∙ sym (node-open _ _ _ _ _ _ (c .before .before .before .before .before .before .if1 .left) (c .before .before .before .before .code-in .ensures) (sym (c .before .before .before .is-known .ensures) ∙ not-false _ (c .before .before .if2 .left)) (c .before .if3 .left))
+unfolding openNode codeNode
+returns-4 c =
+    let code = c .before .before .before in
+    c .run-node .ensures ∙ sym (node-code _ _ _ _ _ _ (code .before .before .if1 .left) (sym (c .before .enum-told2 .given .1) ∙ code .code-in .ensures))
+
+returns-5 : tie.Need-returns-5
+unfolding openNode codeNode
+returns-5 c =
+    let code = c .before .before .before in
+    c .plain-node2 .ensures ∙ sym (node-code _ _ _ _ _ _ (code .before .before .if1 .left) (sym (c .before .enum-told3 .given .1) ∙ code .code-in .ensures))
+
+returns-6 : tie.Need-returns-6
+unfolding codeNode
+returns-6 c =
+    let code = c .before .before in
+    sym (node-code _ _ _ _ _ _ (code .before .before .if1 .left) (sym (c .enum-told4 .given .1) ∙ code .code-in .ensures))
 
 pub node-at-spec : {M : Type 1} → statement M
 node-at-spec =
@@ -40,9 +79,17 @@ node-at-spec =
     returns
     shared-slice-read-code-in
     code-in-requires
-    is-known-requires
+    enum-known-code
+    symbol-node-requires
+    enum-told
+    plain-node-requires
+    enum-told-2
+    run-node-requires
+    enum-told-3
+    plain-node-requires-2
+    enum-told-4
     returns-2
     returns-3
-    sub-open-node
-    open-node-requires
-    returns-4)
+    returns-4
+    returns-5
+    returns-6)
