@@ -270,14 +270,12 @@ module _ (table pattern bytes : List ℕ) (assigned left : ℕ) (parts stack : L
       → FollowIs table pattern bytes assigned left parts stack stop m p Spent assigned left parts stack
   follow-spent stop e = rw e (record { replies = λ s h n l. refl; kept = kept-all })
 
-  pub follow-none : (stop : Stop) (v : ℕ) → stop ≡ RunName v → left ≡ 0
-      → FollowIs table pattern bytes assigned left parts stack stop m p Spent assigned left parts stack
-  follow-none stop v e z = rw e (
-      record {
-        replies = λ s h n l. sym (lengths-tries (levelOf n table bytes pattern) table bytes v s (s .place .elements) 0 0 left ∙ rw (eq-eqb left 0 z));
-        kept = kept-all;
-      }
-      )
+  pub follow-none : (v : ℕ) → left ≡ 0
+      → FollowIs table pattern bytes assigned left parts stack (RunName v) m p Spent assigned left parts stack
+  follow-none v z = record {
+    replies = λ s h n l. sym (lengths-tries (levelOf n table bytes pattern) table bytes v s (s .place .elements) 0 0 left ∙ rw (eq-eqb left 0 z));
+    kept = kept-all;
+  }
 
   module _ {o : Outcome} {assigned′ left′ : ℕ} {parts′ stack′ : List ℕ} where
     pub follow-tests : (stop : Stop) → stop ≡ NoPair
@@ -286,17 +284,15 @@ module _ (table pattern bytes : List ℕ) (assigned left : ℕ) (parts stack : L
     follow-tests stop e c = rw e (record { replies = λ s h n l. c .replies p s h n (omega arith); kept = c .kept })
 
     -- the level past the run name, with place and variable as the code has them
-    pub follow-tries : (stop : Stop) (v w : ℕ) (q : Place) → stop ≡ RunName v → w ≡ v → q ≡ passed p 0 1 0 → (left ≡ 0 → ⊥) → p .at < length pattern
+    pub follow-tries : (v w : ℕ) (q : Place) → w ≡ v → q ≡ passed p 0 1 0 → (left ≡ 0 → ⊥) → p .at < length pattern
         → LevelIs table pattern bytes assigned (left - 1) parts stack w (p .elements) m q o assigned′ left′ parts′ stack′
-        → FollowIs table pattern bytes assigned left parts stack stop m p o assigned′ left′ parts′ stack′
-    follow-tries stop v w q e is-w is-q z i r = rw e (
-        record {
-          replies = λ s h n l. level-reply .replies (past s) (past-holds i h) n (omega arith)
-              ∙ sym (lengths-tries (levelOf n table bytes pattern) table bytes v s (s .place .elements) 0 0 left
-              ∙ rw (ne-eqb left 0 z, h .place));
-          kept = r .kept;
-        }
-        )
+        → FollowIs table pattern bytes assigned left parts stack (RunName v) m p o assigned′ left′ parts′ stack′
+    follow-tries v w q is-w is-q z i r = record {
+      replies = λ s h n l. level-reply .replies (past s) (past-holds i h) n (omega arith)
+          ∙ sym (lengths-tries (levelOf n table bytes pattern) table bytes v s (s .place .elements) 0 0 left
+          ∙ rw (ne-eqb left 0 z, h .place));
+      kept = r .kept;
+    }
       where
         level-reply : LevelIs table pattern bytes assigned (left - 1) parts stack v (p .elements) m (passed p 0 1 0) o assigned′ left′ parts′ stack′
         level-reply =

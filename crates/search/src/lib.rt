@@ -838,29 +838,57 @@ fn follow(
         Stop::Failure => Outcome::Failed,
         Stop::NoAllowance => Outcome::Spent,
         Stop::NoPair => complements(table, pattern, record, parts, stack, assigned, left, marks),
-        Stop::RunName(v) => {
-            if *left == 0 {
-                return Outcome::Spent;
-            }
-            *left = *left - 1;
-            let past = place.passed(0, 1, 0);
-            level(
-                table,
-                pattern,
-                record,
-                parts,
-                stack,
-                assigned,
-                left,
-                wide(v),
-                place.elements,
-                marks.nodes(),
-                marks.queue(),
-                past.remaining(),
-                past.next(),
-            )
-        }
+        Stop::RunName(v) => lengths(
+            table,
+            pattern,
+            record,
+            parts,
+            stack,
+            assigned,
+            left,
+            v,
+            marks,
+            place,
+        ),
     }
+}
+
+// The lengths of an unassigned run name. (A function of its own, so that slices are stored for the call of `level` on this way only.)
+fn lengths(
+    table: &[u8],
+    pattern: &[u8],
+    record: &[u8],
+    parts: &mut [u64; 49],
+    stack: &mut [u32; 256],
+    assigned: &mut u64,
+    left: &mut u32,
+    v: u8,
+    marks: Marks,
+    place: Place,
+) -> Outcome
+    requires { ⌜ Holding (length (now pattern)) (length (now «record»)) (now assigned) (now parts) (now stack) marks place × StopsAt (length (now pattern)) place (Stop.RunName v) × Unassigned (now assigned) (Stop.RunName v) × Short (now pattern) (now «record») ⌝ }
+    ensures { λ r. ⌜ FollowIs (now (table .entry)) (now (pattern .entry)) (now («record» .entry)) (now (assigned .entry)) (now (left .entry)) (now (parts .entry)) (now (stack .entry)) (Stop.RunName v) marks place r (now (assigned .exit)) (now (left .exit)) (now (parts .exit)) (now (stack .exit)) ⌝ }
+{
+    if *left == 0 {
+        return Outcome::Spent;
+    }
+    *left = *left - 1; // The first length.
+    let past = place.passed(0, 1, 0);
+    level(
+        table,
+        pattern,
+        record,
+        parts,
+        stack,
+        assigned,
+        left,
+        wide(v),
+        place.elements,
+        marks.nodes(),
+        marks.queue(),
+        past.remaining(),
+        past.next(),
+    )
 }
 
 // A level's first pair decides it where the pattern has a symbol that is not the record's, or one without children that is.

@@ -9,7 +9,7 @@ use borrow.Author.Needs.{needs}
 use borrow.Author.Tests.{not-true, not-false}
 use Rattle.search.specs.Level.{levels}
 use Rattle.search.specs.Memory.{packed, putByIn}
-use Rattle.search.specs.Bounds.{Ready, StopsAt, Unassigned}
+use Rattle.search.specs.Bounds.{StopsAt, Unassigned}
 use Rattle.search.specs.Replies.{Decides}
 use Rattle.search.specs.declared.Place.{Place}
 use Rattle.search.proofs.Steps.{rest-length}
@@ -21,19 +21,22 @@ use borrow.Fn.Kinds.{In}
 use borrow.Fn.PlainCycle.{Measures, is, falls, and}
 use Rattle.search.proofs.complement.Reads as complement
 use Rattle.search.proofs.complement.Kinds as complement-kinds
-use Rattle.search.proofs.+complement+complements+follow+level+rest.Lts-complement as complement-lts
+use Rattle.search.proofs.+complement+complements+follow+lengths+level+rest.Lts-complement as complement-lts
 use Rattle.search.proofs.complements.Reads as complements
 use Rattle.search.proofs.complements.Kinds as complements-kinds
-use Rattle.search.proofs.+complement+complements+follow+level+rest.Lts-complements as complements-lts
+use Rattle.search.proofs.+complement+complements+follow+lengths+level+rest.Lts-complements as complements-lts
 use Rattle.search.proofs.follow.Reads as follow
 use Rattle.search.proofs.follow.Kinds as follow-kinds
-use Rattle.search.proofs.+complement+complements+follow+level+rest.Lts-follow as follow-lts
+use Rattle.search.proofs.+complement+complements+follow+lengths+level+rest.Lts-follow as follow-lts
+use Rattle.search.proofs.lengths.Reads as lengths
+use Rattle.search.proofs.lengths.Kinds as lengths-kinds
+use Rattle.search.proofs.+complement+complements+follow+lengths+level+rest.Lts-lengths as lengths-lts
 use Rattle.search.proofs.level.Reads as level
 use Rattle.search.proofs.level.Kinds as level-kinds
-use Rattle.search.proofs.+complement+complements+follow+level+rest.Lts-level as level-lts
+use Rattle.search.proofs.+complement+complements+follow+lengths+level+rest.Lts-level as level-lts
 use Rattle.search.proofs.rest.Reads as rest
 use Rattle.search.proofs.rest.Kinds as rest-kinds
-use Rattle.search.proofs.+complement+complements+follow+level+rest.Lts-rest as rest-lts
+use Rattle.search.proofs.+complement+complements+follow+lengths+level+rest.Lts-rest as rest-lts
 use Rattle.search.proofs.Marks.inside.Reads as inside-reads
 use Rattle.search.proofs.Marks.nodes.Reads as nodes-reads
 use Rattle.search.proofs.Marks.of.Reads as Marks-of-reads
@@ -54,8 +57,8 @@ use Rattle.search.proofs.walk.Reads as walk-reads
 use Rattle.search.proofs.wide.Reads as wide-reads
 use Rattle.term.proofs.Part.bound.Reads as bound-reads
 use Rattle.term.proofs.extent.Reads as extent-reads
-use Rattle.search.proofs.+complement+complements+follow+level+rest.{statement}
-use Rattle.search.proofs.+complement+complements+follow+level+rest.Tie.{close}
+use Rattle.search.proofs.+complement+complements+follow+lengths+level+rest.{statement}
+use Rattle.search.proofs.+complement+complements+follow+lengths+level+rest.Tie.{close}
 
 abbrev μ-complement : Measures 7 complement-kinds.ps ℕ
 μ-complement κs a = 5 * levels (now (a .1 .0)) (length (now (a .1 .0)))
@@ -65,6 +68,9 @@ abbrev μ-complements : Measures 7 complements-kinds.ps ℕ
 
 abbrev μ-follow : Measures 7 follow-kinds.ps ℕ
 μ-follow κs a = 5 * levels (now (a .1 .0)) (a .1 .1 .1 .1 .1 .1 .1 .1 .1 .0 .at) + 2
+
+abbrev μ-lengths : Measures 7 lengths-kinds.ps ℕ
+μ-lengths κs a = 5 * levels (now (a .1 .0)) (a .1 .1 .1 .1 .1 .1 .1 .1 .1 .0 .at) + 1
 
 abbrev μ-level : Measures 7 level-kinds.ps ℕ
 μ-level κs a = 5 * levels (now (a .1 .0)) (a .1 .1 .1 .1 .1 .1 .1 .1 .1 .1 .1 .1 .0 .at) + 4
@@ -93,6 +99,12 @@ follow-at t = and 7 follow-kinds.ps (is 7 follow-kinds.ps μ-follow t) follow.Pr
 
 abbrev follow-below : ℕ → In 7 follow-kinds.ps
 follow-below t = and 7 follow-kinds.ps (falls 7 follow-kinds.ps _<_ μ-follow t) follow.Pre
+
+abbrev lengths-at : ℕ → In 7 lengths-kinds.ps
+lengths-at t = and 7 lengths-kinds.ps (is 7 lengths-kinds.ps μ-lengths t) lengths.Pre
+
+abbrev lengths-below : ℕ → In 7 lengths-kinds.ps
+lengths-below t = and 7 lengths-kinds.ps (falls 7 lengths-kinds.ps _<_ μ-lengths t) lengths.Pre
 
 abbrev level-at : ℕ → In 7 level-kinds.ps
 level-at t = and 7 level-kinds.ps (is 7 level-kinds.ps μ-level t) level.Pre
@@ -287,28 +299,9 @@ abbrev follow-claims : ℕ → follow-lts.Claims
 follow-claims t = (
   complements-below t,
   complements.Post,
-  passed-reads.Asked,
-  passed-reads.Learnt,
-  wide-reads.Asked,
-  wide-reads.Learnt,
-  nodes-reads.Asked,
-  nodes-reads.Learnt,
-  queue-reads.Asked,
-  queue-reads.Learnt,
-  remaining-reads.Asked,
-  remaining-reads.Learnt,
-  next-reads.Asked,
-  next-reads.Learnt,
-  level-below t,
-  level.Post,
+  lengths-below t,
+  lengths.Post,
 )
-
--- the run name
-follow-ready : (t : ℕ) (c : follow-lts.After-stop (follow-claims t) (follow-at t) follow.Post)
-    → Ready (length (c .before .before .before .before .before .args .pattern .now)) (c .stop .given .0 .0) (c .before .before .before .before .before .args .place)
-follow-ready t c =
-    let args = c .before .before .before .before .before .args in
-    subst (StopsAt (length (args .pattern .now)) (args .place)) (c .stop .given .1) (c .before .before .before .before .before .pre .1 .1)
 
 follow-enum-told : (t : ℕ) → follow-lts.Need-enum-told (follow-claims t) (follow-at t) follow.Post
 follow-enum-told t c = search needs
@@ -327,39 +320,73 @@ follow-complements-requires t c κs =
 follow-enum-known-stop : (t : ℕ) → follow-lts.Need-enum-known-stop (follow-claims t) (follow-at t) follow.Post
 follow-enum-known-stop t c = search needs
 
+follow-lengths-requires : (t : ℕ) → follow-lts.Need-lengths-requires (follow-claims t) (follow-at t) follow.Post
+follow-lengths-requires t c κs =
+    let is-run = c .before .before .before .before .before .stop .given .1 in
+    let pre = c .before .before .before .before .before .before .before .before .before .before .pre in
+    (omega (arith, pre .0), (pre .1 .0, subst (StopsAt _ _) is-run (pre .1 .1), subst (Unassigned _) is-run (pre .1 .2), pre .1 .3))
+
 follow-returns : (t : ℕ) → follow-lts.Need-returns (follow-claims t) (follow-at t) follow.Post
-follow-returns t c = follow-none _ _ _ _ _ _ _ _ _ _ _ (c .before .before .before .stop .given .1) (c .if1 .taken)
+follow-returns t c = follow-fails _ _ _ _ _ _ _ _ _ _ (c .enum-told .given .1)
 
-follow-sub-left : (t : ℕ) → follow-lts.Need-sub-left (follow-claims t) (follow-at t) follow.Post
-follow-sub-left t c = omega arith
+follow-returns-2 : (t : ℕ) → follow-lts.Need-returns-2 (follow-claims t) (follow-at t) follow.Post
+follow-returns-2 t c = follow-spent _ _ _ _ _ _ _ _ _ _ (c .enum-told2 .given .1)
 
-follow-passed-requires : (t : ℕ) → follow-lts.Need-passed-requires (follow-claims t) (follow-at t) follow.Post
-follow-passed-requires t c κs =
-    let ready = follow-ready t (c .before .before .before) in
-    let pre = c .before .before .before .before .before .before .before .before .pre in
-    (ready .children, omega arith, omega (arith, ready .at, pre .1 .3 .of-pattern), omega (arith, pre .1 .0 .holds .node, pre .1 .3 .of-record))
+follow-returns-3 : (t : ℕ) → follow-lts.Need-returns-3 (follow-claims t) (follow-at t) follow.Post
+follow-returns-3 t c =
+    follow-tests _ _ _ _ _ _ _ _ _ _ (c .before .before .before .before .before .enum-told3 .given .1) (c .complements .ensures)
 
-follow-wide-requires : (t : ℕ) → follow-lts.Need-wide-requires (follow-claims t) (follow-at t) follow.Post
-follow-wide-requires t c κs = search needs
+follow-returns-4 : (t : ℕ) → follow-lts.Need-returns-4 (follow-claims t) (follow-at t) follow.Post
+follow-returns-4 t c = rw (c .before .before .before .before .before .before .stop .given .1) (c .lengths .ensures)
 
-follow-nodes-requires : (t : ℕ) → follow-lts.Need-nodes-requires (follow-claims t) (follow-at t) follow.Post
-follow-nodes-requires t c κs = search needs
+abbrev lengths-claims : ℕ → lengths-lts.Claims
+lengths-claims t = (
+  passed-reads.Asked,
+  passed-reads.Learnt,
+  wide-reads.Asked,
+  wide-reads.Learnt,
+  nodes-reads.Asked,
+  nodes-reads.Learnt,
+  queue-reads.Asked,
+  queue-reads.Learnt,
+  remaining-reads.Asked,
+  remaining-reads.Learnt,
+  next-reads.Asked,
+  next-reads.Learnt,
+  level-below t,
+  level.Post,
+)
 
-follow-queue-requires : (t : ℕ) → follow-lts.Need-queue-requires (follow-claims t) (follow-at t) follow.Post
-follow-queue-requires t c κs = search needs
+lengths-returns : (t : ℕ) → lengths-lts.Need-returns (lengths-claims t) (lengths-at t) lengths.Post
+lengths-returns t c = follow-none _ _ _ _ _ _ _ _ _ _ (c .if1 .taken)
 
-follow-remaining-requires : (t : ℕ) → follow-lts.Need-remaining-requires (follow-claims t) (follow-at t) follow.Post
-follow-remaining-requires t c κs = search needs
+lengths-sub-left : (t : ℕ) → lengths-lts.Need-sub-left (lengths-claims t) (lengths-at t) lengths.Post
+lengths-sub-left t c = omega arith
 
-follow-next-requires : (t : ℕ) → follow-lts.Need-next-requires (follow-claims t) (follow-at t) follow.Post
-follow-next-requires t c κs = search needs
+lengths-passed-requires : (t : ℕ) → lengths-lts.Need-passed-requires (lengths-claims t) (lengths-at t) lengths.Post
+lengths-passed-requires t c κs =
+    let pre = c .before .before .before .before .before .pre .1 in
+    (pre .1 .children, omega arith, omega (arith, pre .1 .at, pre .3 .of-pattern), omega (arith, pre .0 .holds .node, pre .3 .of-record))
 
-follow-level-requires : (t : ℕ) → follow-lts.Need-level-requires (follow-claims t) (follow-at t) follow.Post
-follow-level-requires t c κs =
+lengths-wide-requires : (t : ℕ) → lengths-lts.Need-wide-requires (lengths-claims t) (lengths-at t) lengths.Post
+lengths-wide-requires t c κs = search needs
+
+lengths-nodes-requires : (t : ℕ) → lengths-lts.Need-nodes-requires (lengths-claims t) (lengths-at t) lengths.Post
+lengths-nodes-requires t c κs = search needs
+
+lengths-queue-requires : (t : ℕ) → lengths-lts.Need-queue-requires (lengths-claims t) (lengths-at t) lengths.Post
+lengths-queue-requires t c κs = search needs
+
+lengths-remaining-requires : (t : ℕ) → lengths-lts.Need-remaining-requires (lengths-claims t) (lengths-at t) lengths.Post
+lengths-remaining-requires t c κs = search needs
+
+lengths-next-requires : (t : ℕ) → lengths-lts.Need-next-requires (lengths-claims t) (lengths-at t) lengths.Post
+lengths-next-requires t c κs = search needs
+
+lengths-level-requires : (t : ℕ) → lengths-lts.Need-level-requires (lengths-claims t) (lengths-at t) lengths.Post
+lengths-level-requires t c κs =
     let passed = c .before .before .before .before .before .before .before .before .before in
-    let ready = follow-ready t (passed .before .before .before .before) in
-    let pre = passed .before .before .before .before .before .before .before .before .before .pre in
-    let unassigned = subst (Unassigned (passed .before .before .before .before .before .before .before .before .before .args .assigned .now)) (passed .before .before .before .before .stop .given .1) (pre .1 .2) in
+    let pre = passed .before .before .before .before .before .before .pre in
     rw (
       c .next .ensures,
       c .before .remaining .ensures,
@@ -368,30 +395,20 @@ follow-level-requires t c κs =
       c .before .before .before .before .wide .ensures,
       passed .passed .ensures,
     ) (
-      omega (arith, pre .0, ready .at),
+      omega (arith, pre .0, pre .1 .1 .at),
       (
-        record { state = past (pre .1 .0 .state); holds = past-holds (ready .at) (pre .1 .0 .holds) },
-        record { below = omega (arith, ready .variable); free = λ l. unassigned },
+        record { state = past (pre .1 .0 .state); holds = past-holds (pre .1 .1 .at) (pre .1 .0 .holds) },
+        record { below = omega (arith, pre .1 .1 .variable); free = λ l. pre .1 .2 },
         omega arith,
         pre .1 .3,
       ),
     )
 
-follow-returns-2 : (t : ℕ) → follow-lts.Need-returns-2 (follow-claims t) (follow-at t) follow.Post
-follow-returns-2 t c = follow-fails _ _ _ _ _ _ _ _ _ _ (c .enum-told .given .1)
-
-follow-returns-3 : (t : ℕ) → follow-lts.Need-returns-3 (follow-claims t) (follow-at t) follow.Post
-follow-returns-3 t c = follow-spent _ _ _ _ _ _ _ _ _ _ (c .enum-told2 .given .1)
-
-follow-returns-4 : (t : ℕ) → follow-lts.Need-returns-4 (follow-claims t) (follow-at t) follow.Post
-follow-returns-4 t c =
-    follow-tests _ _ _ _ _ _ _ _ _ _ (c .before .before .before .before .before .enum-told3 .given .1) (c .complements .ensures)
-
-follow-returns-5 : (t : ℕ) → follow-lts.Need-returns-5 (follow-claims t) (follow-at t) follow.Post
-follow-returns-5 t c =
+lengths-returns-2 : (t : ℕ) → lengths-lts.Need-returns-2 (lengths-claims t) (lengths-at t) lengths.Post
+lengths-returns-2 t c =
     let passed = c .before .before .before .before .before .before .before .before .before .before in
-    follow-tries _ _ _ _ _ _ _ _ _ _ _ _ _ (passed .before .before .before .before .stop .given .1) (c .before .before .before .before .before .wide .ensures) (passed .passed .ensures)
-    (passed .before .if1 .left) (follow-ready t (passed .before .before .before .before) .at)
+    follow-tries _ _ _ _ _ _ _ _ _ _ _ _ (c .before .before .before .before .before .wide .ensures) (passed .passed .ensures) (passed .before .if1 .left)
+    (passed .before .before .before .before .before .before .pre .1 .1 .at)
     (level-from (rw (c .before .before .before .queue .ensures, c .before .before .before .before .nodes .ensures)) (rw (c .before .next .ensures, c .before .before .remaining .ensures))
     (c .level .ensures))
 
@@ -590,9 +607,9 @@ rest-returns-2 t c =
     (c .before .before .before .before .before .before .before .before .before .before .before .before .before .before .before .before .before .pre .1 .0)
     (c .before .before .before .before .before .before .before .before .before .walk .ensures) (c .follow .ensures)
 
-pub +complement+complements+follow+level+rest-spec : {M : Type 1} → statement M
-+complement+complements+follow+level+rest-spec =
-    close μ-complement μ-complements μ-follow μ-level μ-rest (λ t. complement-lts.spec
+pub +complement+complements+follow+lengths+level+rest-spec : {M : Type 1} → statement M
++complement+complements+follow+lengths+level+rest-spec =
+    close μ-complement μ-complements μ-follow μ-lengths μ-level μ-rest (λ t. complement-lts.spec
     (complement-claims t)
     (complement-at t)
     complement.Post
@@ -645,19 +662,25 @@ pub +complement+complements+follow+level+rest-spec : {M : Type 1} → statement 
     (follow-enum-told-3 t)
     (follow-complements-requires t)
     (follow-enum-known-stop t)
+    (follow-lengths-requires t)
     (follow-returns t)
-    (follow-sub-left t)
-    (follow-passed-requires t)
-    (follow-wide-requires t)
-    (follow-nodes-requires t)
-    (follow-queue-requires t)
-    (follow-remaining-requires t)
-    (follow-next-requires t)
-    (follow-level-requires t)
     (follow-returns-2 t)
     (follow-returns-3 t)
-    (follow-returns-4 t)
-    (follow-returns-5 t))
+    (follow-returns-4 t))
+    (λ t. lengths-lts.spec
+    (lengths-claims t)
+    (lengths-at t)
+    lengths.Post
+    (lengths-returns t)
+    (lengths-sub-left t)
+    (lengths-passed-requires t)
+    (lengths-wide-requires t)
+    (lengths-nodes-requires t)
+    (lengths-queue-requires t)
+    (lengths-remaining-requires t)
+    (lengths-next-requires t)
+    (lengths-level-requires t)
+    (lengths-returns-2 t))
     (λ t. level-lts.spec
     (level-claims t)
     (level-at t)
