@@ -77,7 +77,7 @@ unfoldable pub readWhole : Bool → List ℕ → List ℕ → Answer Tree
 readWhole records table s =
     cond (leb (length s) (longest records)) (whole s (readTree table records 32 false s)) (refused Long)
 
--- a record that is known to be one, or not
+-- true where s is known to be a record; false says nothing
 abbrev pub Shallow : List ℕ → List ℕ → Bool → Type 0
 Shallow table s true = shown (readWhole true table s) ≡ Ends (length s)
 Shallow table s false = Unit {0}

@@ -308,7 +308,7 @@ fn read_whole(records: bool, table: &[u8], s: &[u8]) -> Read
     tree
 }
 
-// Whether s is surely a record: a tree with fewer than 32 nodes that have children is not nested deeper than 32, and needs no frames.
+// Whether s is surely a record: with fewer than 32 lists and other nodes that have children, a tree is not nested deeper than 32 and needs no frames.
 fn is_shallow(table: &[u8], s: &[u8]) -> bool
     ensures { λ r. ⌜ Shallow (now (table .entry)) (now (s .entry)) r ⌝ }
 {
