@@ -259,6 +259,24 @@ module _ (table pattern bytes : List ℕ) (assigned allowance : ℕ) (parts₀ s
               ∙ rw (reply-left left₂ assigned₂ parts₂ o, j, g, x, is-e, rest-drop (p .node) bytes);
         }
 
+-- A level's start gives no variable any element
+
+given-none : (s : State) → length (s .parts) ≡ 48 → given s 48 0 0 ≡ s
+given-none s h =
+    let a : s .place .elements - 0 ≡ s .place .elements = omega arith in
+    let b : s .place .node + 0 ≡ s .place .node = omega arith in
+    rw (set-out (s .parts) 48 (boundPart (s .place .node) 0 0) (omega (arith, h)), a, b)
+
+pub rest-starts : {table pattern bytes : List ℕ} {assigned left : ℕ} {parts stack : List ℕ} {m : Marks} {p : Place}
+    {o : Outcome} {assigned′ left′ : ℕ} {parts′ stack′ : List ℕ}
+    → LevelIs table pattern bytes assigned left parts stack 48 0 m p o assigned′ left′ parts′ stack′
+    → RestIs table pattern bytes assigned left parts stack m p o assigned′ left′ parts′ stack′
+unfolding triesOf
+rest-starts {table} {pattern} {bytes} {left = left} r = record {
+  replies = λ s h n l. r .replies s h n l ∙ ap (λ (x : State). levelOf n table bytes pattern x left) (given-none s (h .variables));
+  kept = r .kept;
+}
+
 -- What follows the walk
 
 module _ (table pattern bytes : List ℕ) (assigned left : ℕ) (parts stack : List ℕ) (m : Marks) (p : Place) where
@@ -338,9 +356,9 @@ module _ (pattern : List ℕ) (c : PutBy) (within : c .at + 1 + c .size ≤ leng
 
   module _ (table bytes : List ℕ) (assigned left : ℕ) (parts stack : List ℕ) (m : Marks) (short : length pattern ≤ 256) where
     complement-turned : {o o′ : Outcome} {assigned′ left′ : ℕ} {parts′ stack′ : List ℕ}
-        → LevelIs table taken bytes assigned left parts stack 48 0 (inside m) (place 1 1 0 (c .node)) o assigned′ left′ parts′ stack′
+        → RestIs table taken bytes assigned left parts stack (inside m) (place 1 1 0 (c .node)) o assigned′ left′ parts′ stack′
         → o′ ≡ turned o → ComplementIs table pattern bytes assigned left parts stack c m o′ left′ parts′ stack′
-    unfolding insideOf triesOf
+    unfolding insideOf
     complement-turned {o} {o′} {assigned′} {left′} {parts′} r e = record {
       replies = λ shown h n l. let x = found-at shown h n l in (
         e ∙ ap turned (sym (reply-outcome left′ assigned′ parts′ o) ∙ ap (λ (y : Reply). y .outcome) x),
@@ -353,19 +371,16 @@ module _ (pattern : List ℕ) (c : PutBy) (within : c .at + 1 + c .size ≤ leng
             → (n : ℕ) → levels pattern (length pattern) ≤ suc n
             → replyOf o left′ assigned′ parts′ ≡ levelOf n table bytes (take (c .size) (drop (c .at + 1) pattern)) (startOf shown (c .node)) left
         found-at shown h n l =
-            let a : c .node + 0 ≡ c .node = omega arith in
-            r .replies (startOf shown (c .node)) (rw inside-length h) n (omega (arith, inside-length))
-            ∙ rw (set-out shown 48 (boundPart (c .node) 0 0) (omega (arith, h .variables)), a, inside-is)
+            r .replies (startOf shown (c .node)) (rw inside-length h) n (omega (arith, inside-length)) ∙ rw inside-is
 
-    -- with marks and place as the code has them
-    pub complement-tests : {k : Marks} {q : Place} {o o′ : Outcome} {assigned′ left′ : ℕ} {parts′ stack′ : List ℕ}
-        → k ≡ inside m → q ≡ place 1 1 0 (c .node) → LevelIs table taken bytes assigned left parts stack 48 0 k q o assigned′ left′ parts′ stack′
+    -- with the marks as the code has them
+    pub complement-tests : {k : Marks} {o o′ : Outcome} {assigned′ left′ : ℕ} {parts′ stack′ : List ℕ} → k ≡ inside m
+        → RestIs table taken bytes assigned left parts stack k (place 1 1 0 (c .node)) o assigned′ left′ parts′ stack′
         → o′ ≡ turned o → ComplementIs table pattern bytes assigned left parts stack c m o′ left′ parts′ stack′
-    complement-tests {k} {q} {o} {o′} {assigned′} {left′} {parts′} {stack′} is-k is-q r e =
+    complement-tests {k} {o} {o′} {assigned′} {left′} {parts′} {stack′} is-k r e =
         complement-turned
-        (subst (λ (x : Marks). LevelIs table taken bytes assigned left parts stack 48 0 x (place 1 1 0 (c .node)) o assigned′ left′ parts′ stack′)
-        is-k
-        (subst (λ (x : Place). LevelIs table taken bytes assigned left parts stack 48 0 k x o assigned′ left′ parts′ stack′) is-q r)) e
+        (subst (λ (x : Marks). RestIs table taken bytes assigned left parts stack x (place 1 1 0 (c .node)) o assigned′ left′ parts′ stack′)
+        is-k r) e
 
 module _ (assigned left : ℕ) (parts : List ℕ) (next : ℕ → Reply) where
   refuted-stop : (a o : Outcome) (l : ℕ) → o ≡ turned a → left ≡ l → found o ≡ false → replyOf o left assigned parts ≡ refuted a l next
@@ -509,12 +524,11 @@ module _ (table pattern bytes : List ℕ) (allowance : ℕ) where
   unfolding searchOf
   search-over h = rw h
 
-  pub search-within : (parts stack : List ℕ) {q : Place} {o : Outcome} {assigned left : ℕ} {parts′ stack′ : List ℕ}
-      → length pattern ≤ 256 → length bytes ≤ 4096 → Sized parts stack → q ≡ place 1 1 0 0
-      → LevelIs table pattern bytes 0 allowance parts stack 48 0 (marks 0 0 0 0) q o assigned left parts′ stack′
+  pub search-within : (parts stack : List ℕ) {o : Outcome} {assigned left : ℕ} {parts′ stack′ : List ℕ}
+      → length pattern ≤ 256 → length bytes ≤ 4096 → Sized parts stack
+      → RestIs table pattern bytes 0 allowance parts stack (marks 0 0 0 0) (place 1 1 0 0) o assigned left parts′ stack′
       → replyOf o left assigned parts′ ≡ searchOf table pattern bytes allowance
-  unfolding searchOf triesOf
-  search-within parts stack {q} h k z e r =
+  unfolding searchOf
+  search-within parts stack h k z r =
       rw (le-leb (length pattern) 256 h, le-leb (length bytes) 4096 k)
-      (r .replies (startOf (replicate 48 absent) 0) (rw e (first-holds (length pattern) (length bytes) parts stack h z)) (levels pattern 0)
-      (rw e (omega arith)))
+      (r .replies (startOf (replicate 48 absent) 0) (first-holds (length pattern) (length bytes) parts stack h z) (levels pattern 0) (omega arith))

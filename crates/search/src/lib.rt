@@ -652,23 +652,15 @@ impl Place {
     }
 }
 
-impl Nodes {
-    // No node is open.
-    const NONE: Nodes = Nodes {
+impl Marks {
+    // Nothing is in use.
+    const NONE: Marks = Marks {
         inner: 0,
         frames: 0,
-    };
-}
-
-impl Queue {
-    // No complement is put by.
-    const NONE: Queue = Queue {
         first: 0,
         waiting: 0,
     };
-}
 
-impl Marks {
     // Their halves, and both together.
     fn nodes(self) -> Nodes
         ensures { λ r. ⌜ r ≡ nodesIn self ⌝ }
@@ -768,6 +760,40 @@ fn level(
         n = n + 1;
     };
     outcome
+}
+
+// A level from its start: one pattern node against the record node at a place, with these marks in use. (A function of its own, so that slices
+// are stored for the call of `level` only where it is made.)
+fn start_level(
+    table: &[u8],
+    pattern: &[u8],
+    record: &[u8],
+    parts: &mut [u64; 49],
+    stack: &mut [u32; 256],
+    assigned: &mut u64,
+    left: &mut u32,
+    marks: Marks,
+    node: usize,
+) -> Outcome
+    requires { ⌜ Holding (length (now pattern)) (length (now «record»)) (now assigned) (now parts) (now stack) marks (place 1 1 0 node) × Short (now pattern) (now «record») ⌝ }
+    ensures { λ r. ⌜ RestIs (now (table .entry)) (now (pattern .entry)) (now («record» .entry)) (now (assigned .entry)) (now (left .entry)) (now (parts .entry)) (now (stack .entry)) marks (place 1 1 0 node) r (now (assigned .exit)) (now (left .exit)) (now (parts .exit)) (now (stack .exit)) ⌝ }
+{
+    let start = Place::start(node);
+    level(
+        table,
+        pattern,
+        record,
+        parts,
+        stack,
+        assigned,
+        left,
+        48,
+        0,
+        marks.nodes(),
+        marks.queue(),
+        start.remaining(),
+        start.next(),
+    )
 }
 
 // The rest of a level from a place: the pairs that leave no choice, and what follows them.
@@ -872,7 +898,7 @@ fn lengths(
     if *left == 0 {
         return Outcome::Spent;
     }
-    *left = *left - 1; // The first length.
+    *left -= 1;
     let past = place.passed(0, 1, 0);
     level(
         table,
@@ -941,9 +967,7 @@ fn complement(
         *left = *left - 1;
         return opposite(outcome);
     }
-    let marks = marks.inside();
-    let start = Place::start(node);
-    opposite(level(
+    opposite(start_level(
         table,
         inside,
         record,
@@ -951,12 +975,8 @@ fn complement(
         stack,
         assigned,
         left,
-        48,
-        0,
-        marks.nodes(),
-        marks.queue(),
-        start.remaining(),
-        start.next(),
+        marks.inside(),
+        node,
     ))
 }
 
@@ -1073,8 +1093,7 @@ pub fn search(
     let mut stack = [0u32; 256];
     let mut assigned: u64 = 0;
     let mut left = allowance;
-    let start = Place::start(0);
-    let outcome = level(
+    let outcome = start_level(
         table,
         pattern,
         record,
@@ -1082,12 +1101,8 @@ pub fn search(
         &mut stack,
         &mut assigned,
         &mut left,
-        48,
+        Marks::NONE,
         0,
-        Nodes::NONE,
-        Queue::NONE,
-        start.remaining(),
-        start.next(),
     );
     show(outcome, &parts, assigned, answer);
     Ended {

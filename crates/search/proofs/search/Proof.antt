@@ -7,7 +7,7 @@ use borrow.Author.Tests.{le-leb, lt-leb}
 use Rattle.term.specs.Part.{absent}
 use Rattle.search.specs.Level.{startOf}
 use Rattle.search.specs.Memory.{Sized}
-use Rattle.search.proofs.Kept.{first-holds, none-free}
+use Rattle.search.proofs.Kept.{first-holds}
 use Rattle.search.proofs.Levels.{search-within}
 use Rattle.search.proofs.Shown.{over-shows, within-shows}
 use Rattle.search.proofs.search.Statement.{statement}
@@ -25,28 +25,15 @@ returns-2 c =
     over-shows (args .table .now) (args .pattern .now) (args .«record» .now) (args .answer .now) (args .allowance)
     (rw (le-leb (length (args .pattern .now)) 256 (omega arith), lt-leb (length (args .«record» .now)) 4096 (c .if2 .taken)))
 
-start-requires : tie.Need-start-requires
-start-requires c κs = search needs
-
 -- the buffers as they are made
 sized : Sized (replicate 49 0) (replicate 256 0)
 sized = record { of-parts = refl; of-stack = refl }
 
-remaining-requires : tie.Need-remaining-requires
-remaining-requires c κs = search needs
-
-next-requires : tie.Need-next-requires
-next-requires c κs = search needs
-
-level-requires : tie.Need-level-requires
-level-requires c κs =
-    rw (c .next .ensures, c .before .remaining .ensures, c .before .before .before .before .before .before .start .ensures) (
-      record { state = startOf (replicate 48 absent) 0; holds = first-holds _ _ _ _ (omega arith) sized },
-      none-free,
-      omega arith,
-      record
-          { of-pattern = omega arith; of-record = omega arith },
-    )
+start-level-requires : tie.Need-start-level-requires
+start-level-requires c κs = (
+  record { state = startOf (replicate 48 absent) 0; holds = first-holds _ _ _ _ (omega arith) sized },
+  record { of-pattern = omega arith; of-record = omega arith },
+)
 
 show-requires : tie.Need-show-requires
 show-requires c κs = search needs
@@ -57,12 +44,10 @@ same-length c = search needs
 returns-3 : tie.Need-returns-3
 returns-3 c =
     let entered = c .before .before .before .before .before in
-    let started = entered .before .before .before .before .before .before .before in
+    let tested = entered .before .before .before .before .before in
     within-shows _ _ _ _ _ _ _ _ _ _ (c .before .before .show .ensures)
-    (search-within _ _ _ _ _ _ (omega (arith, started .before .before .if1 .left)) (omega (arith, started .before .if2 .left)) sized
-    (rw (entered .before .next .ensures, entered .before .before .remaining .ensures) (started .start .ensures)) (entered .level .ensures))
+    (search-within _ _ _ _ _ _ (omega (arith, tested .before .if1 .left)) (omega (arith, tested .if2 .left)) sized (entered .start-level .ensures))
 
 pub search-spec : {M : Type 1} → statement M
 search-spec =
-    tie.close
-    (tie.spec returns returns-2 start-requires remaining-requires next-requires level-requires show-requires same-length returns-3)
+    tie.close (tie.spec returns returns-2 start-level-requires show-requires same-length returns-3)

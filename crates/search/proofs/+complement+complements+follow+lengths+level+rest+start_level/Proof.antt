@@ -16,27 +16,30 @@ use Rattle.search.proofs.Steps.{rest-length}
 use Rattle.search.proofs.Kept.{past, past-holds, none-free}
 use Rattle.search.proofs.FirstPairs.{complement-ends}
 use Rattle.search.proofs.Halves.{level-from}
-use Rattle.search.proofs.Levels.{rest-follows, rest-fails, Trying, try-first, Written, written-holding, try-last, try-hit, try-spent, try-more, Testing, test-first, test-end, test-next, test-stop, test-on, inside-length, inside-holding, complement-tests, follow-fails, follow-spent, follow-none, follow-tests, follow-tries}
+use Rattle.search.proofs.Levels.{rest-follows, rest-fails, rest-starts, Trying, try-first, Written, written-holding, try-last, try-hit, try-spent, try-more, Testing, test-first, test-end, test-next, test-stop, test-on, inside-length, inside-holding, complement-tests, follow-fails, follow-spent, follow-none, follow-tests, follow-tries}
 use borrow.Fn.Kinds.{In}
 use borrow.Fn.PlainCycle.{Measures, is, falls, and}
 use Rattle.search.proofs.complement.Reads as complement
 use Rattle.search.proofs.complement.Kinds as complement-kinds
-use Rattle.search.proofs.+complement+complements+follow+lengths+level+rest.Lts-complement as complement-lts
+use Rattle.search.proofs.+complement+complements+follow+lengths+level+rest+start_level.Lts-complement as complement-lts
 use Rattle.search.proofs.complements.Reads as complements
 use Rattle.search.proofs.complements.Kinds as complements-kinds
-use Rattle.search.proofs.+complement+complements+follow+lengths+level+rest.Lts-complements as complements-lts
+use Rattle.search.proofs.+complement+complements+follow+lengths+level+rest+start_level.Lts-complements as complements-lts
 use Rattle.search.proofs.follow.Reads as follow
 use Rattle.search.proofs.follow.Kinds as follow-kinds
-use Rattle.search.proofs.+complement+complements+follow+lengths+level+rest.Lts-follow as follow-lts
+use Rattle.search.proofs.+complement+complements+follow+lengths+level+rest+start_level.Lts-follow as follow-lts
 use Rattle.search.proofs.lengths.Reads as lengths
 use Rattle.search.proofs.lengths.Kinds as lengths-kinds
-use Rattle.search.proofs.+complement+complements+follow+lengths+level+rest.Lts-lengths as lengths-lts
+use Rattle.search.proofs.+complement+complements+follow+lengths+level+rest+start_level.Lts-lengths as lengths-lts
 use Rattle.search.proofs.level.Reads as level
 use Rattle.search.proofs.level.Kinds as level-kinds
-use Rattle.search.proofs.+complement+complements+follow+lengths+level+rest.Lts-level as level-lts
+use Rattle.search.proofs.+complement+complements+follow+lengths+level+rest+start_level.Lts-level as level-lts
 use Rattle.search.proofs.rest.Reads as rest
 use Rattle.search.proofs.rest.Kinds as rest-kinds
-use Rattle.search.proofs.+complement+complements+follow+lengths+level+rest.Lts-rest as rest-lts
+use Rattle.search.proofs.+complement+complements+follow+lengths+level+rest+start_level.Lts-rest as rest-lts
+use Rattle.search.proofs.start_level.Reads as start-level
+use Rattle.search.proofs.start_level.Kinds as start-level-kinds
+use Rattle.search.proofs.+complement+complements+follow+lengths+level+rest+start_level.Lts-start_level as start-level-lts
 use Rattle.search.proofs.Marks.inside.Reads as inside-reads
 use Rattle.search.proofs.Marks.nodes.Reads as nodes-reads
 use Rattle.search.proofs.Marks.of.Reads as Marks-of-reads
@@ -57,8 +60,8 @@ use Rattle.search.proofs.walk.Reads as walk-reads
 use Rattle.search.proofs.wide.Reads as wide-reads
 use Rattle.term.proofs.Part.bound.Reads as bound-reads
 use Rattle.term.proofs.extent.Reads as extent-reads
-use Rattle.search.proofs.+complement+complements+follow+lengths+level+rest.{statement}
-use Rattle.search.proofs.+complement+complements+follow+lengths+level+rest.Tie.{close}
+use Rattle.search.proofs.+complement+complements+follow+lengths+level+rest+start_level.{statement}
+use Rattle.search.proofs.+complement+complements+follow+lengths+level+rest+start_level.Tie.{close}
 
 abbrev μ-complement : Measures 7 complement-kinds.ps ℕ
 μ-complement κs a = 5 * levels (now (a .1 .0)) (length (now (a .1 .0)))
@@ -77,6 +80,9 @@ abbrev μ-level : Measures 7 level-kinds.ps ℕ
 
 abbrev μ-rest : Measures 7 rest-kinds.ps ℕ
 μ-rest κs a = 5 * levels (now (a .1 .0)) (a .1 .1 .1 .1 .1 .1 .1 .1 .0 .at) + 3
+
+abbrev μ-start-level : Measures 7 start-level-kinds.ps ℕ
+μ-start-level κs a = 5 * levels (now (a .1 .0)) 0 + 5
 
 abbrev complement-at : ℕ → In 7 complement-kinds.ps
 complement-at t =
@@ -118,6 +124,14 @@ rest-at t = and 7 rest-kinds.ps (is 7 rest-kinds.ps μ-rest t) rest.Pre
 abbrev rest-below : ℕ → In 7 rest-kinds.ps
 rest-below t = and 7 rest-kinds.ps (falls 7 rest-kinds.ps _<_ μ-rest t) rest.Pre
 
+abbrev start-level-at : ℕ → In 7 start-level-kinds.ps
+start-level-at t =
+    and 7 start-level-kinds.ps (is 7 start-level-kinds.ps μ-start-level t) start-level.Pre
+
+abbrev start-level-below : ℕ → In 7 start-level-kinds.ps
+start-level-below t =
+    and 7 start-level-kinds.ps (falls 7 start-level-kinds.ps _<_ μ-start-level t) start-level.Pre
+
 abbrev complement-claims : ℕ → complement-lts.Claims
 complement-claims t = (
   first-pair-reads.Asked,
@@ -126,18 +140,8 @@ complement-claims t = (
   opposite-reads.Learnt,
   inside-reads.Asked,
   inside-reads.Learnt,
-  start-reads.Asked,
-  start-reads.Learnt,
-  nodes-reads.Asked,
-  nodes-reads.Learnt,
-  queue-reads.Asked,
-  queue-reads.Learnt,
-  remaining-reads.Asked,
-  remaining-reads.Learnt,
-  next-reads.Asked,
-  next-reads.Learnt,
-  level-below t,
-  level.Post,
+  start-level-below t,
+  start-level.Post,
 )
 
 complement-cast-from : (t : ℕ) → complement-lts.Need-cast-from (complement-claims t) (complement-at t) complement.Post
@@ -187,43 +191,15 @@ complement-enum-told t c = search needs
 complement-inside-requires : (t : ℕ) → complement-lts.Need-inside-requires (complement-claims t) (complement-at t) complement.Post
 complement-inside-requires t c κs = search needs
 
-complement-start-requires : (t : ℕ) → complement-lts.Need-start-requires (complement-claims t) (complement-at t) complement.Post
-complement-start-requires t c κs = search needs
-
-complement-nodes-requires : (t : ℕ) → complement-lts.Need-nodes-requires (complement-claims t) (complement-at t) complement.Post
-complement-nodes-requires t c κs = search needs
-
-complement-queue-requires : (t : ℕ) → complement-lts.Need-queue-requires (complement-claims t) (complement-at t) complement.Post
-complement-queue-requires t c κs = search needs
-
-complement-remaining-requires : (t : ℕ) → complement-lts.Need-remaining-requires (complement-claims t) (complement-at t) complement.Post
-complement-remaining-requires t c κs = search needs
-
-complement-next-requires : (t : ℕ) → complement-lts.Need-next-requires (complement-claims t) (complement-at t) complement.Post
-complement-next-requires t c κs = search needs
-
-complement-level-requires : (t : ℕ) → complement-lts.Need-level-requires (complement-claims t) (complement-at t) complement.Post
-complement-level-requires t c κs =
-    let started = c .before .before .before .before .before .before .before .before in
-    let args = started .before .before .before .before .before .before .before .before .before .before .args in
-    let pre = started .before .before .before .before .before .before .before .before .before .before .pre in
+complement-start-level-requires : (t : ℕ) → complement-lts.Need-start-level-requires (complement-claims t) (complement-at t) complement.Post
+complement-start-level-requires t c κs =
+    let entered = c .before .before .before .before .before .before .before .before .before .before .before .before .before in
+    let pre = entered .pre in
     let w = pre .1 .0 .within in
-    let d = inside-length (args .pattern .now) (putByIn (args .c)) w in
-    rw (
-      c .next .ensures,
-      c .before .remaining .ensures,
-      c .before .before .queue .ensures,
-      c .before .before .before .nodes .ensures,
-      started .start .ensures,
-      started .before .inside2 .ensures,
-    ) (
+    let d = inside-length (entered .args .pattern .now) (putByIn (entered .args .c)) w in
+    rw (c .inside2 .ensures) (
       omega (arith, pre .0, w, d, pre .1 .1 .of-pattern),
-      (
-        inside-holding _ _ w (pre .1 .0),
-        none-free {assigned = args .assigned .now},
-        omega arith,
-        record { of-pattern = omega (arith, w, d, pre .1 .1 .of-pattern); of-record = pre .1 .1 .of-record },
-      ),
+      (inside-holding _ _ w (pre .1 .0), record { of-pattern = omega (arith, w, d, pre .1 .1 .of-pattern); of-record = pre .1 .1 .of-record }),
     )
 
 complement-opposite-requires-2 : (t : ℕ) → complement-lts.Need-opposite-requires-2 (complement-claims t) (complement-at t) complement.Post
@@ -231,12 +207,9 @@ complement-opposite-requires-2 t c κs = search needs
 
 complement-returns-2 : (t : ℕ) → complement-lts.Need-returns-2 (complement-claims t) (complement-at t) complement.Post
 complement-returns-2 t c =
-    let started = c .before .before .before .before .before .before .before .before .before .before in
-    let pre = started .before .before .before .before .before .before .before .before .before .before .pre in
-    complement-tests _ _ (pre .1 .0 .within) _ _ _ _ _ _ _ (pre .1 .1 .of-pattern)
-    (rw (c .before .before .before .before .queue .ensures, c .before .before .before .before .before .nodes .ensures) (started .before .inside2 .ensures))
-    (rw (c .before .before .next .ensures, c .before .before .before .remaining .ensures) (started .start .ensures))
-    (c .before .level .ensures) (c .opposite2 .ensures)
+    let pre = c .before .before .before .before .before .before .before .before .before .before .before .before .before .before .before .pre in
+    complement-tests _ _ (pre .1 .0 .within) _ _ _ _ _ _ _ (pre .1 .1 .of-pattern) (c .before .before .inside2 .ensures) (c .before .start-level .ensures)
+    (c .opposite2 .ensures)
 
 abbrev complements-claims : ℕ → complements-lts.Claims
 complements-claims t = (
@@ -607,9 +580,59 @@ rest-returns-2 t c =
     (c .before .before .before .before .before .before .before .before .before .before .before .before .before .before .before .before .before .pre .1 .0)
     (c .before .before .before .before .before .before .before .before .before .walk .ensures) (c .follow .ensures)
 
-pub +complement+complements+follow+lengths+level+rest-spec : {M : Type 1} → statement M
-+complement+complements+follow+lengths+level+rest-spec =
-    close μ-complement μ-complements μ-follow μ-lengths μ-level μ-rest (λ t. complement-lts.spec
+abbrev start-level-claims : ℕ → start-level-lts.Claims
+start-level-claims t = (
+  start-reads.Asked,
+  start-reads.Learnt,
+  nodes-reads.Asked,
+  nodes-reads.Learnt,
+  queue-reads.Asked,
+  queue-reads.Learnt,
+  remaining-reads.Asked,
+  remaining-reads.Learnt,
+  next-reads.Asked,
+  next-reads.Learnt,
+  level-below t,
+  level.Post,
+)
+
+start-level-start-requires : (t : ℕ) → start-level-lts.Need-start-requires (start-level-claims t) (start-level-at t) start-level.Post
+start-level-start-requires t c κs = search needs
+
+start-level-nodes-requires : (t : ℕ) → start-level-lts.Need-nodes-requires (start-level-claims t) (start-level-at t) start-level.Post
+start-level-nodes-requires t c κs = search needs
+
+start-level-queue-requires : (t : ℕ) → start-level-lts.Need-queue-requires (start-level-claims t) (start-level-at t) start-level.Post
+start-level-queue-requires t c κs = search needs
+
+start-level-remaining-requires : (t : ℕ) → start-level-lts.Need-remaining-requires (start-level-claims t) (start-level-at t) start-level.Post
+start-level-remaining-requires t c κs = search needs
+
+start-level-next-requires : (t : ℕ) → start-level-lts.Need-next-requires (start-level-claims t) (start-level-at t) start-level.Post
+start-level-next-requires t c κs = search needs
+
+start-level-level-requires : (t : ℕ) → start-level-lts.Need-level-requires (start-level-claims t) (start-level-at t) start-level.Post
+start-level-level-requires t c κs =
+    let started = c .before .before .before .before .before .before .before .before in
+    let pre = started .before .before .before .before .pre in
+    rw (
+      c .next .ensures,
+      c .before .remaining .ensures,
+      c .before .before .queue .ensures,
+      c .before .before .before .nodes .ensures,
+      started .start .ensures,
+    ) (omega (arith, pre .0), (pre .1 .0, none-free, omega arith, pre .1 .1))
+
+start-level-returns : (t : ℕ) → start-level-lts.Need-returns (start-level-claims t) (start-level-at t) start-level.Post
+start-level-returns t c =
+    let started = c .before .before .before .before .before .before .before .before .before in
+    rest-starts
+    (level-from (rw (c .before .before .before .queue .ensures, c .before .before .before .before .nodes .ensures))
+    (rw (c .before .next .ensures, c .before .before .remaining .ensures) (started .start .ensures)) (c .level .ensures))
+
+pub +complement+complements+follow+lengths+level+rest+start-level-spec : {M : Type 1} → statement M
++complement+complements+follow+lengths+level+rest+start-level-spec =
+    close μ-complement μ-complements μ-follow μ-lengths μ-level μ-rest μ-start-level (λ t. complement-lts.spec
     (complement-claims t)
     (complement-at t)
     complement.Post
@@ -628,12 +651,7 @@ pub +complement+complements+follow+lengths+level+rest-spec : {M : Type 1} → st
     (complement-returns t)
     (complement-enum-told t)
     (complement-inside-requires t)
-    (complement-start-requires t)
-    (complement-nodes-requires t)
-    (complement-queue-requires t)
-    (complement-remaining-requires t)
-    (complement-next-requires t)
-    (complement-level-requires t)
+    (complement-start-level-requires t)
     (complement-opposite-requires-2 t)
     (complement-returns-2 t))
     (λ t. complements-lts.spec
@@ -711,7 +729,7 @@ pub +complement+complements+follow+lengths+level+rest-spec : {M : Type 1} → st
     (level-returns t)
     (level-returns-2 t)
     (level-returns-3 t))
-    λ t. rest-lts.spec
+    (λ t. rest-lts.spec
     (rest-claims t)
     (rest-at t)
     rest.Post
@@ -719,4 +737,15 @@ pub +complement+complements+follow+lengths+level+rest-spec : {M : Type 1} → st
     (rest-is-failure-requires t)
     (rest-returns t)
     (rest-follow-requires t)
-    (rest-returns-2 t)
+    (rest-returns-2 t))
+    λ t. start-level-lts.spec
+    (start-level-claims t)
+    (start-level-at t)
+    start-level.Post
+    (start-level-start-requires t)
+    (start-level-nodes-requires t)
+    (start-level-queue-requires t)
+    (start-level-remaining-requires t)
+    (start-level-next-requires t)
+    (start-level-level-requires t)
+    (start-level-returns t)
