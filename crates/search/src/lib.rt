@@ -762,8 +762,8 @@ fn level(
     outcome
 }
 
-// A level from its start: one pattern node against the record node at a place, with these marks in use. (A function of its own, so that slices
-// are stored for the call of `level` only where it is made.)
+// A level from its start: one pattern node against the record node at a place, with these marks in use. (A function stores the slices that it
+// hands on when it starts; `level` is called from here and from `lengths` only, so that none is stored where no call is made.)
 fn start_level(
     table: &[u8],
     pattern: &[u8],
@@ -879,7 +879,7 @@ fn follow(
     }
 }
 
-// The lengths of an unassigned run name. (A function of its own, so that slices are stored for the call of `level` on this way only.)
+// The lengths of an unassigned run name; the first is counted here.
 fn lengths(
     table: &[u8],
     pattern: &[u8],
