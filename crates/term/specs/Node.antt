@@ -25,16 +25,12 @@ known table Code.Refused = false
 abbrev pub listNode : ℕ → List ℕ → Node
 listNode low s = cond (ltb (length s) 2) (Node.Refused Short) (Open 2 (getD s 1 0) true low)
 
--- a run name elsewhere than in a list is 7
-abbrev pub runNode : Bool → ℕ → Node
-runNode inList low = cond inList (Open 1 0 false low) (Node.Refused Stray)
-
--- a known code's node, with so much nesting left for its children
+-- a known code's node, with so much nesting left for its children; a run name elsewhere than in a list is 7
 unfoldable pub openNode : List ℕ → Bool → ℕ → List ℕ → Code → Node
 openNode table inList low s (Symbol b) =
     cond (isList table b) (listNode low s) (Open 1 (getD table b 0) false low)
 openNode table inList low s (Name v) = Open 1 0 false low
-openNode table inList low s (Run v) = runNode inList low
+openNode table inList low s (Run v) = cond inList (Open 1 0 false low) (Node.Refused Stray)
 openNode table inList low s Complement = Open 1 1 false low
 openNode table inList low s Code.Refused = Node.Refused BadCode
 

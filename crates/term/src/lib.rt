@@ -7,7 +7,7 @@ ghost use Rattle.term.specs.Table.{entryAccepted, tableAccepted};
 ghost use Rattle.term.specs.Code.{decodeOf, codeIn};
 ghost use Rattle.term.specs.Limits.{longest};
 ghost use Rattle.term.specs.Refusal.{numberOf};
-ghost use Rattle.term.specs.Node.{listNode, runNode, unlessDeep, codeNode, nodeAt};
+ghost use Rattle.term.specs.Node.{listNode, unlessDeep, codeNode, nodeAt};
 ghost use Rattle.term.specs.Extent.{entryOf, extentOf};
 ghost use Rattle.term.specs.Same.{samePart};
 ghost use Rattle.term.specs.Part.{boundPart, isAbsent, partBytes};
@@ -154,13 +154,10 @@ fn plain_node(kids: u8, left: u8) -> Node
     }
 }
 
-// The node of a run name.
-fn run_node(in_list: bool, left: u8) -> Node
-    ensures { λ r. ⌜ r ≡ unlessDeep left (runNode «in_list» (left - 1)) ⌝ }
+// A run name that is no child of a list.
+fn stray_node(left: u8) -> Node
+    ensures { λ r. ⌜ r ≡ unlessDeep left (Node.Refused Refusal.Stray) ⌝ }
 {
-    if in_list {
-        return plain_node(0, left);
-    }
     if left == 0 {
         return Node::Refused(Refusal::Deep);
     }
@@ -210,7 +207,12 @@ fn node_at(table: &[u8], s: &[u8], records: bool, in_list: bool, left: u8) -> No
     match code {
         Code::Symbol(b) => symbol_node(table, s, left, b),
         Code::Name(_) => plain_node(0, left),
-        Code::Run(_) => run_node(in_list, left),
+        Code::Run(_) => {
+            if in_list {
+                return plain_node(0, left);
+            }
+            stray_node(left)
+        }
         Code::Complement => plain_node(1, left),
         Code::Refused => Node::Refused(Refusal::BadCode),
     }

@@ -30,45 +30,60 @@ plain-node-requires c κs = search needs
 enum-told-2 : tie.Need-enum-told-2
 enum-told-2 c = search needs
 
-run-node-requires : tie.Need-run-node-requires
-run-node-requires c κs = search needs
-
-enum-told-3 : tie.Need-enum-told-3
-enum-told-3 c = search needs
-
 plain-node-requires-2 : tie.Need-plain-node-requires-2
 plain-node-requires-2 c κs = search needs
-
-enum-told-4 : tie.Need-enum-told-4
-enum-told-4 c = search needs
 
 returns-2 : tie.Need-returns-2
 unfolding openNode codeNode
 returns-2 c =
     let code = c .before .before .before .before in
-    c .symbol-node .ensures ∙ sym (node-code _ _ _ _ _ _ (code .before .before .if1 .left) (sym (c .before .before .code .given .1) ∙ code .code-in .ensures))
+    c .plain-node2 .ensures
+    ∙ sym
+    (node-code _ _ _ _ _ _ (code .before .before .if1 .left) (sym (c .before .before .enum-told2 .given .1) ∙ code .code-in .ensures)
+    ∙ rw (c .before .if2 .taken))
+
+stray-node-requires : tie.Need-stray-node-requires
+stray-node-requires c κs = search needs
+
+enum-told-3 : tie.Need-enum-told-3
+enum-told-3 c = search needs
+
+plain-node-requires-3 : tie.Need-plain-node-requires-3
+plain-node-requires-3 c κs = search needs
+
+enum-told-4 : tie.Need-enum-told-4
+enum-told-4 c = search needs
 
 returns-3 : tie.Need-returns-3
 unfolding openNode codeNode
 returns-3 c =
-    let code = c .before .before .before in
-    c .plain-node .ensures ∙ sym (node-code _ _ _ _ _ _ (code .before .before .if1 .left) (sym (c .before .enum-told .given .1) ∙ code .code-in .ensures))
+    let code = c .before .before .before .before in
+    c .symbol-node .ensures ∙ sym (node-code _ _ _ _ _ _ (code .before .before .if1 .left) (sym (c .before .before .code .given .1) ∙ code .code-in .ensures))
 
 returns-4 : tie.Need-returns-4
 unfolding openNode codeNode
 returns-4 c =
     let code = c .before .before .before in
-    c .run-node .ensures ∙ sym (node-code _ _ _ _ _ _ (code .before .before .if1 .left) (sym (c .before .enum-told2 .given .1) ∙ code .code-in .ensures))
+    c .plain-node .ensures ∙ sym (node-code _ _ _ _ _ _ (code .before .before .if1 .left) (sym (c .before .enum-told .given .1) ∙ code .code-in .ensures))
 
 returns-5 : tie.Need-returns-5
 unfolding openNode codeNode
 returns-5 c =
-    let code = c .before .before .before in
-    c .plain-node2 .ensures ∙ sym (node-code _ _ _ _ _ _ (code .before .before .if1 .left) (sym (c .before .enum-told3 .given .1) ∙ code .code-in .ensures))
+    let code = c .before .before .before .before in
+    c .stray-node .ensures
+    ∙ sym
+    (node-code _ _ _ _ _ _ (code .before .before .if1 .left) (sym (c .before .before .enum-told2 .given .1) ∙ code .code-in .ensures)
+    ∙ rw (c .before .if2 .left))
 
 returns-6 : tie.Need-returns-6
-unfolding codeNode
+unfolding openNode codeNode
 returns-6 c =
+    let code = c .before .before .before in
+    c .plain-node3 .ensures ∙ sym (node-code _ _ _ _ _ _ (code .before .before .if1 .left) (sym (c .before .enum-told3 .given .1) ∙ code .code-in .ensures))
+
+returns-7 : tie.Need-returns-7
+unfolding codeNode
+returns-7 c =
     let code = c .before .before in
     sym (node-code _ _ _ _ _ _ (code .before .before .if1 .left) (sym (c .enum-told4 .given .1) ∙ code .code-in .ensures))
 
@@ -84,12 +99,14 @@ node-at-spec =
     enum-told
     plain-node-requires
     enum-told-2
-    run-node-requires
-    enum-told-3
     plain-node-requires-2
-    enum-told-4
     returns-2
+    stray-node-requires
+    enum-told-3
+    plain-node-requires-3
+    enum-told-4
     returns-3
     returns-4
     returns-5
-    returns-6)
+    returns-6
+    returns-7)
