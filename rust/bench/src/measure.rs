@@ -4,7 +4,7 @@ use crate::workloads::{self, Workload};
 use interface::Library;
 use proved::Proved;
 use reference::Reference;
-use std::time::Instant;
+use std::{hint::black_box, time::Instant};
 
 /// How many rounds, and how long a workload runs in each, in ns.
 #[derive(Clone, Copy)]
@@ -48,14 +48,29 @@ pub struct Measurements {
     pub starts: Vec<Measured>,
 }
 
-/// Measures every workload in each round, so that a busy moment falls on all of them.
+/// Measures every workload in each round, so that a busy moment falls on all of them. Each round has
+/// the stack at another place, so that no figure hangs on where it happens to lie beside the heap.
 pub fn measurements(effort: Effort) -> Measurements {
     let new = |work: Vec<Workload>| work.into_iter().map(Measured::new).collect::<Vec<_>>();
     let (mut all, mut starts) = (new(workloads::all()), new(workloads::starts()));
-    for _ in 0..effort.rounds {
-        all.iter_mut().chain(&mut starts).for_each(|one| one.round(effort.batch));
+    for round in 0..effort.rounds {
+        deeper(round, &mut || {
+            all.iter_mut().chain(&mut starts).for_each(|one| one.round(effort.batch));
+        });
     }
     Measurements { all, starts }
+}
+
+/// Runs that many frames of some 100 bytes further down the stack.
+#[inline(never)]
+fn deeper(frames: usize, run: &mut dyn FnMut()) {
+    let frame = black_box([0u8; 64]);
+    if frames == 0 {
+        run();
+    } else {
+        deeper(frames - 1, run);
+    }
+    black_box(&frame);
 }
 
 /// The sizes of each workload, side by side.
