@@ -1,14 +1,12 @@
 -- What the interface shows of each answer of the library: its number, its index, its count.
 use Prim.Native.Nat.{ℕ}
-use Rattle.term.specs.Refusal.{numberOf}
 use Rattle.matcher.specs.Call.{answerNumber, answerCount}
 use Rattle.matcher.specs.declared.Answer.{Answer}
 use Rattle.rules.specs.Answer.{ruleNumber, ruleIndex, ruleCount}
 use Rattle.rules.specs.declared.RuleAnswer.{RuleAnswer}
-use Rattle.sheet.specs.Answer.{checkedNumber, checkedIndex, writingNumber, writingIndex, writingLength}
+use Rattle.sheet.specs.Answer.{checkedNumber, checkedIndex, writingNumber, writingIndex, writingLength, placeNumber, placeOffset, placeLength}
 use Rattle.sheet.specs.declared.Checked.{Checked}
 use Rattle.sheet.specs.declared.Place.{Place}
-use Rattle.sheet.specs.declared.Place.the-variants.{At}
 use Rattle.sheet.specs.declared.Writing.{Writing}
 use Rattle.qonveshir.specs.declared.Outcome.{Outcome}
 use Rattle.qonveshir.specs.declared.Part.{Part}
@@ -38,7 +36,5 @@ writingShown w = outcome (writingNumber w) (writingIndex w) (writingLength w)
 abbrev pub checkShown : Checked → Outcome
 checkShown c = outcome (checkedNumber c) (checkedIndex c) 0
 
--- an entry that is refused shows offset and length 0
 abbrev pub placeShown : Place → Part
-placeShown (At offset length) = part 0 offset length
-placeShown (Place.Refused r) = part (numberOf r) 0 0
+placeShown p = part (placeNumber p) (placeOffset p) (placeLength p)

@@ -1,6 +1,5 @@
 // The C interface, `include/qonveshir.h`: the library's calls, with their answers as numbers.
 use sheet::Checked;
-use sheet::Place;
 ghost use mathlib.Core.Path.{_≡_};
 ghost use Prim.Native.Nat.{_≤_};
 ghost use lib.ListN.{length};
@@ -12,7 +11,8 @@ ghost use Rattle.sheet.specs.Answer.{checkedIndex};
 ghost use Rattle.sheet.specs.Entry.{placeOf};
 ghost use Rattle.sheet.specs.Contents.{checkRules, checkStates};
 ghost use Rattle.sheet.specs.Writing.{writing, outputAfter};
-ghost use Rattle.qonveshir.specs.Shown.{largest, outcome, answerShown, rulesShown, writingShown, checkShown, placeShown};
+ghost use Rattle.sheet.specs.Demands.{Demanded as SheetDemanded};
+ghost use Rattle.qonveshir.specs.Shown.{largest, outcome, part, answerShown, rulesShown, writingShown, checkShown, placeShown};
 
 // Document 01's number, 0 where nothing is refused; the index of the rule shown or of the entry at fault, else 0; and the count.
 #[repr(C)]
@@ -38,6 +38,16 @@ fn shown(number: u8, index: usize, count: u64) -> Outcome
         number: number as u32,
         index: index as u32,
         count: count,
+    }
+}
+
+fn part_shown(number: u8, offset: u16, length: u16) -> Part
+    ensures { λ r. ⌜ r ≡ part number offset length ⌝ }
+{
+    Part {
+        number: number as u32,
+        offset: offset as u32,
+        length: length as u32,
     }
 }
 
@@ -92,6 +102,7 @@ pub extern "C" fn qonveshir_write_sheet(
 ) -> Outcome
     ensures shown { λ r. ⌜ r ≡ writingShown (writing (now (table .entry)) (now (records .entry)) (now (lengths .entry)) (length (now (output .entry)))) ⌝ }
     ensures contents { λ _. ⌜ now (output .exit) ≡ outputAfter (now (table .entry)) (now (records .entry)) (now (lengths .entry)) (now (output .entry)) ⌝ }
+    ensures demand { λ r. ⌜ SheetDemanded (now (table .entry)) (now (records .entry)) (now (lengths .entry)) (now (output .entry)) (r .number) (r .count) (now (output .exit)) ⌝ }
 {
     let w = sheet::write_sheet(table, records, lengths, output);
     shown(w.number(), w.index(), w.length() as u64)
@@ -103,18 +114,7 @@ pub extern "C" fn qonveshir_entry(sheet: &[u8], index: u32) -> Part
     ensures { λ r. ⌜ r ≡ placeShown (placeOf (now (sheet .entry)) index) ⌝ }
 {
     let place = sheet::place_of(sheet, index as usize);
-    match place {
-        Place::At(offset, length) => Part {
-            number: 0,
-            offset: offset as u32,
-            length: length as u32,
-        },
-        Place::Refused(r) => Part {
-            number: r.number() as u32,
-            offset: 0,
-            length: 0,
-        },
-    }
+    part_shown(place.number(), place.offset(), place.length())
 }
 
 // Checks a sheet of at most 64 patterns.

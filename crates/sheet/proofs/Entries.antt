@@ -1,5 +1,5 @@
 -- The entries of a sheet: where a part lies within it, and that the parts of an accepted sheet are its entries.
-use Prim.Native.Nat.{ℕ, zero, suc, _+_, _*_, _-_, _≤_, _<_}
+use Prim.Native.Nat.{ℕ, zero, suc, _+_, _-_, _≤_, _<_}
 use native.Mathlib.Nat.{add-sub-cancel-left}
 use native.Mathlib.Omega.{arith}
 use mathlib.Core.Path.{_≡_, refl, sym, ap, _∙_}
@@ -8,44 +8,72 @@ use mathlib.Core.Bool.{Bool, true, false}
 use lib.ListN.{length, getD, take, drop}
 use lib.Seq.{getD-drop}
 use lib.Dec.{ltb}
+use denote.Ref.{RefT, ptr, now}
 use borrow.Author.Tests.{le-leb, lt-leb, lt-ltb, le-ltb, ltb-true, ltb-false}
 use Rattle.term.specs.Limits.{Octets}
 use Rattle.term.specs.declared.Refusal.{Refusal}
 use Rattle.term.specs.declared.Refusal.the-variants.{Directory}
 use Rattle.sheet.specs.Sheet.{pastPairs}
 use Rattle.sheet.specs.Check.{entryCount, offsetAt, lengthAt, checkSheet}
-use Rattle.sheet.specs.Entry.{entryAt, entriesFrom, entries, checkEntry, entryOf, partAt, placeOf}
+use Rattle.sheet.specs.Answer.{checkedNumber, checkedCount, placeOffset}
+use Rattle.sheet.specs.Entry.{entryAt, entriesFrom, entries, checkEntry, placeOf, entryOf, pairWithin, partAt, partOffset, pointsInto}
 use Rattle.sheet.specs.declared.Checked.{Checked}
 use Rattle.sheet.specs.declared.Checked.the-variants.{Accepted}
 use Rattle.sheet.specs.declared.Place.{Place}
 use Rattle.sheet.specs.declared.Place.the-variants.{At}
+use Rattle.sheet.proofs.Answers.{accepted-number}
 use Rattle.sheet.proofs.Checks.{Directed, accepted-directed, entry-within}
 
+-- the pair of an index, of any bytes
+
 module _ (s : List ℕ) (i : ℕ) where
-  pub part-no-pair : length s < 6 + 4 * i → partAt s i ≡ []
-  unfolding partAt
-  part-no-pair h = rw (lt-leb (6 + 4 * i) (length s) h)
+  pub no-pair : length s < pastPairs (i + 1) → pairWithin s i ≡ false
+  unfolding pairWithin
+  no-pair h = rw (lt-leb (pastPairs (i + 1)) (length s) h)
 
-  pub part-past : 6 + 4 * i ≤ length s → length s < offsetAt s i + lengthAt s i → partAt s i ≡ []
-  unfolding partAt
-  part-past h k = rw (le-leb (6 + 4 * i) (length s) h, lt-leb (offsetAt s i + lengthAt s i) (length s) k)
+  pub pair-past : pastPairs (i + 1) ≤ length s → length s < offsetAt s i + lengthAt s i → pairWithin s i ≡ false
+  unfolding pairWithin
+  pair-past h k = rw (le-leb (pastPairs (i + 1)) (length s) h, lt-leb (offsetAt s i + lengthAt s i) (length s) k)
 
-  pub part-within : 6 + 4 * i ≤ length s → offsetAt s i + lengthAt s i ≤ length s → partAt s i ≡ entryAt s i
-  unfolding partAt
-  part-within h k = rw (le-leb (6 + 4 * i) (length s) h, le-leb (offsetAt s i + lengthAt s i) (length s) k)
+  pub pair-tells : pastPairs (i + 1) ≤ length s → offsetAt s i + lengthAt s i ≤ length s → pairWithin s i ≡ true
+  unfolding pairWithin
+  pair-tells h k = rw (le-leb (pastPairs (i + 1)) (length s) h, le-leb (offsetAt s i + lengthAt s i) (length s) k)
 
-  pub entry-between : (o n : ℕ) → o ≡ offsetAt s i → n ≡ lengthAt s i → take (o + n - o) (drop o s) ≡ entryAt s i
-  unfolding entryAt
-  entry-between o n e f = rw (add-sub-cancel-left, e, f)
+-- the bytes of a part of a slice, and where it points
+
+module _ (x : RefT (List ℕ)) (i : ℕ) where
+  abbrev pub IsPart : List ℕ → ℕ × ℕ → Type 0
+  IsPart bytes place = (bytes ≡ partAt (now x) i) × (place ≡ pointsInto x (partOffset (now x) i))
+
+  abbrev pub IsEntry : List ℕ → ℕ × ℕ → Type 0
+  IsEntry bytes place = (bytes ≡ entryOf (now x) i) × (place ≡ pointsInto x (placeOffset (placeOf (now x) i)))
+
+  at-start : ptr x ≡ pointsInto x 0
+  at-start = let e : ptr x .1 ≡ ptr x .1 + 0 = omega arith in ap (λ (k : ℕ). (ptr x .0, k)) e
+
+  pub no-part : pairWithin (now x) i ≡ false → IsPart [] (ptr x)
+  unfolding partAt partOffset
+  no-part w = (rw w, rw w at-start)
+
+  pub part-between : (o n : ℕ) → o ≡ offsetAt (now x) i → n ≡ lengthAt (now x) i → pairWithin (now x) i ≡ true
+      → IsPart (take (o + n - o) (drop o (now x))) (ptr x .0, o + ptr x .1)
+  unfolding partAt partOffset entryAt
+  part-between o n e f w =
+      let g : o + ptr x .1 ≡ ptr x .1 + offsetAt (now x) i = omega arith in
+      (rw (w, add-sub-cancel-left, e, f), rw w (ap (λ (k : ℕ). (ptr x .0, k)) g))
 
 -- in an accepted sheet
-pub part-entry : (s : List ℕ) (n i : ℕ) → Directed s n → i < n → partAt s i ≡ entryAt s i
-part-entry s n i d h =
+pair-entry : (s : List ℕ) (n i : ℕ) → Directed s n → i < n → pairWithin s i ≡ true
+pair-entry s n i d h =
     let e : 0 + i ≡ i = omega arith in
-    part-within s i (omega (arith, d .within)) (rw e at (entry-within s n 0 (pastPairs n) i (d .follow) h))
+    pair-tells s i (omega (arith, d .within)) (rw e at (entry-within s n 0 (pastPairs n) i (d .follow) h))
+
+pub part-entry : (s : List ℕ) (n i : ℕ) → Directed s n → i < n → partAt s i ≡ entryAt s i
+unfolding partAt
+part-entry s n i d h = rw (pair-entry s n i d h)
 
 entry-accepted : (s : List ℕ) (n i : ℕ) → checkSheet s ≡ Accepted n → i < n → entryOf s i ≡ entryAt s i
-unfolding entryOf checkEntry
+unfolding entryOf placeOf checkEntry entryAt
 entry-accepted s n i a h = rw (a, lt-ltb i n h)
 
 -- what is read without the checks is the entry
@@ -67,10 +95,6 @@ module _ (s : List ℕ) (i : ℕ) where
   unfolding checkEntry
   index-past n e h = rw (e, le-ltb i n h)
 
-  pub entry-refused : (r : Refusal) (j : ℕ) → checkEntry s i ≡ Checked.Refused r j → entryOf s i ≡ []
-  unfolding entryOf
-  entry-refused r j e = rw e
-
   -- what passes it
   pub index-passed : (n : ℕ) → checkEntry s i ≡ Accepted n → (checkSheet s ≡ Accepted n) × (i < n)
   index-passed n e = go (checkSheet s) refl
@@ -86,11 +110,8 @@ module _ (s : List ℕ) (i : ℕ) where
               let k : m ≡ n = cc (index-below m f h) in
               (f ∙ ap Accepted k, omega arith)
 
-  pub entry-part : (n : ℕ) → checkEntry s i ≡ Accepted n → entryOf s i ≡ partAt s i
-  entry-part n e = let a = index-passed n e in sym (part-is-entry s n i (a .0) (a .1))
-
   -- the pair of an index that passes lies within the sheet
-  pub pair-within : (n : ℕ) → checkEntry s i ≡ Accepted n → 6 + 4 * i ≤ length s
+  pub pair-within : (n : ℕ) → checkEntry s i ≡ Accepted n → pastPairs (i + 1) ≤ length s
   pair-within n e = let a = index-passed n e in omega (arith, accepted-directed s n (a .0) .within, a .1)
 
   -- where the entry lies
@@ -103,16 +124,26 @@ module _ (s : List ℕ) (i : ℕ) where
   unfolding placeOf
   place-refused r j e = rw e
 
-  pub place-is-entry : (offset n : ℕ) → placeOf s i ≡ At offset n → take n (drop offset s) ≡ entryOf s i
-  unfolding placeOf entryOf entryAt
-  place-is-entry offset n e = go (checkEntry s i) refl
-    where
-      go : (x : Checked) → checkEntry s i ≡ x → take n (drop offset s) ≡ entryOf s i
-      go (Checked.Refused r j) f = let z : _≡_ {A = ℕ} 0 1 = cc in absurd (omega arith)
-      go (Accepted m) f =
-          let a : offsetAt s i ≡ offset = cc in
-          let b : lengthAt s i ≡ n = cc in
-          rw (f, a, b)
+  -- the part that the pair tells is the entry, and lies where the entry lies
+  pub part-lies : checkedNumber (checkEntry s i) ≡ 0 → (partAt s i ≡ entryOf s i) × (partOffset s i ≡ placeOffset (placeOf s i))
+  unfolding partOffset
+  part-lies z =
+      let n = checkedCount (checkEntry s i) in
+      let e = accepted-number (checkEntry s i) z in
+      let a = index-passed n e in
+      (part-is-entry s n i (a .0) (a .1), rw (pair-entry s n i (accepted-directed s n (a .0)) (a .1), place-passed n e))
+
+-- reading an entry of a slice
+
+module _ (x : RefT (List ℕ)) (i : ℕ) where
+  pub no-entry : (r : Refusal) (j : ℕ) → checkEntry (now x) i ≡ Checked.Refused r j → IsEntry x i [] (ptr x)
+  unfolding entryOf placeOf
+  no-entry r j e = (rw e, rw e (at-start x i))
+
+  pub entry-of-part : checkedNumber (checkEntry (now x) i) ≡ 0 → (bytes : List ℕ) (place : ℕ × ℕ) → IsPart x i bytes place → IsEntry x i bytes place
+  entry-of-part z bytes place p =
+      let a = part-lies (now x) i z in
+      (p .0 ∙ a .0, p .1 ∙ ap (pointsInto x) (a .1))
 
 -- all entries, by their index
 

@@ -9,9 +9,12 @@ use lib.ListN.{length, getD, take, drop, length-append, length-drop, take-append
 use lib.Seq.{drop-cons, take-all, take-at, drop-at, length-take-le}
 use lib.Dec.{ltb, eqb}
 use borrow.Author.Tests.{lt-ltb, eq-eqb, ne-eqb, ltb-true, eqb-true, eqb-false}
+use Rattle.term.specs.Limits.{Octets}
 use Rattle.sheet.specs.Word.{word}
 use Rattle.sheet.specs.Sheet.{pastPairs, directory, sheetBytes, NoneEmpty}
+use Rattle.sheet.specs.Check.{longestSheet}
 use Rattle.sheet.specs.Writing.{split, sum, noneZero, lengthsAccepted, sheetLength}
+use Rattle.sheet.proofs.Words.{largestWord, word-octets, joined-octets}
 use Rattle.sheet.proofs.Readings.{written-length}
 
 -- what is left from an index on
@@ -100,6 +103,20 @@ split-sheet bs ns h = rw (split-length bs ns, split-lengths bs ns (omega arith),
 
 pub split-size : (bs ns : List ℕ) → length bs ≡ sum ns → length (sheetBytes (split bs ns)) ≡ sheetLength (length ns) (length bs)
 split-size bs ns h = written-length (split bs ns) ∙ rw (split-length bs ns, split-flatten bs ns h)
+
+directory-octets : (at : ℕ) (ns : List ℕ) → at + sum ns ≤ largestWord → Octets (directory at ns)
+unfolding directory sum
+directory-octets at [] h = λ i. omega arith
+directory-octets at (n ∷ ns) h =
+    joined-octets (word at ++ word n) (directory (at + n) ns) (joined-octets (word at) (word n) (word-octets at (omega arith)) (word-octets n (omega arith)))
+    (directory-octets (at + n) ns (omega arith))
+
+pub split-octets : (bs ns : List ℕ) → length bs ≡ sum ns → sheetLength (length ns) (length bs) ≤ longestSheet → Octets bs → Octets (sheetBytes (split bs ns))
+split-octets bs ns h short o =
+    let pairs = directory (pastPairs (length ns)) ns in
+    rw (split-sheet bs ns h)
+    (joined-octets (word (length ns) ++ pairs) bs
+    (joined-octets (word (length ns)) pairs (word-octets (length ns) (omega arith)) (directory-octets (pastPairs (length ns)) ns (omega arith))) o)
 
 -- and back: entries, joined, are split into themselves
 

@@ -1,5 +1,6 @@
 -- The laws that the proofs of this crate, and other crates, cite.
 
+pub mod Answers
 pub mod Checks
 pub mod Entries
 pub mod Words

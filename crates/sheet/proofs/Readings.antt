@@ -8,8 +8,8 @@ use lib.ListN.{length, take, drop, length-append, length-drop, take-append-drop,
 use lib.Seq.{drop-drop, take-at, drop-at, length-take-le}
 use borrow.Author.Tests.{eq-eqb, lt-ltb, eqb-true}
 use Rattle.term.specs.Limits.{Octets}
-use Rattle.sheet.specs.Word.{word, wordAt}
-use Rattle.sheet.specs.Sheet.{pastPairs, directory, sheetBytes, NoneEmpty}
+use Rattle.sheet.specs.Word.{wordBytes, word, wordAt}
+use Rattle.sheet.specs.Sheet.{pairBytes, pastPairs, directory, sheetBytes, NoneEmpty}
 use Rattle.sheet.specs.Check.{longestSheet, entryCount, offsetAt, lengthAt, followed, checkSheet}
 use Rattle.sheet.specs.Entry.{entryAt, entriesFrom, entries}
 use Rattle.sheet.specs.Demands.{Reading}
@@ -47,21 +47,20 @@ module _ (s : List ℕ) where
       ∙ ap₂ _++_ (ap (λ (o : ℕ). take (lengthAt s i) (drop o s)) (sym (a .0)))
       (drop-drop (lengthAt s i) at s ∙ followed-entries k (i + 1) (at + lengthAt s i) (a .2))
 
-  followed-pairs : Octets s → (k i at : ℕ) → 2 + 4 * (i + k) ≤ length s → followed s k i at ≡ true
-      → drop (2 + 4 * i) s ≡ directory at (map length (entriesFrom s k i)) ++ drop (2 + 4 * (i + k)) s
+  followed-pairs : Octets s → (k i at : ℕ) → pastPairs (i + k) ≤ length s → followed s k i at ≡ true
+      → drop (pastPairs i) s ≡ directory at (map length (entriesFrom s k i)) ++ drop (pastPairs (i + k)) s
   unfolding entriesFrom directory word
   followed-pairs o zero i at l h = let e : i + zero ≡ i = omega arith in rw e
   followed-pairs o (suc k) i at l h =
       let a = follow-true s k i at h in
-      let e : 2 + 4 * i + 2 ≡ 4 + 4 * i = omega arith in
-      let f : 4 + 4 * i + 2 ≡ 2 + 4 * (i + 1) = omega arith in
+      let f : pastPairs i + wordBytes + wordBytes ≡ pastPairs (i + 1) = omega arith in
       let g : i + 1 + k ≡ i + suc k = omega arith in
       let n : length (entryAt s i) ≡ lengthAt s i = followed-length k i at h in
-      let first : drop (2 + 4 * i) s ≡ word at ++ drop (4 + 4 * i) s =
-      word-forth s (2 + 4 * i) o (omega arith) ∙ ap₂ (λ (x y : ℕ). word x ++ drop y s) (a .0) e in
-      let second : drop (4 + 4 * i) s ≡ word (length (entryAt s i)) ++ drop (2 + 4 * (i + 1)) s =
-      word-forth s (4 + 4 * i) o (omega arith) ∙ ap₂ (λ (x y : ℕ). word x ++ drop y s) (sym n) f in
-      let rest : drop (2 + 4 * (i + 1)) s ≡ directory (at + length (entryAt s i)) (map length (entriesFrom s k (i + 1))) ++ drop (2 + 4 * (i + suc k)) s =
+      let first : drop (pastPairs i) s ≡ word at ++ drop (pastPairs i + wordBytes) s =
+      word-forth s (pastPairs i) o (omega arith) ∙ ap (λ (x : ℕ). word x ++ drop (pastPairs i + wordBytes) s) (a .0) in
+      let second : drop (pastPairs i + wordBytes) s ≡ word (length (entryAt s i)) ++ drop (pastPairs (i + 1)) s =
+      word-forth s (pastPairs i + wordBytes) o (omega arith) ∙ ap₂ (λ (x y : ℕ). word x ++ drop y s) (sym n) f in
+      let rest : drop (pastPairs (i + 1)) s ≡ directory (at + length (entryAt s i)) (map length (entriesFrom s k (i + 1))) ++ drop (pastPairs (i + suc k)) s =
       rw (n, ← g) (followed-pairs o k (i + 1) (at + lengthAt s i) (omega arith) (a .2)) in
       first ∙ ap (λ (l : List ℕ). word at ++ l) (second ∙ ap (λ (l : List ℕ). word (length (entryAt s i)) ++ l) rest)
 
@@ -79,26 +78,25 @@ module _ (s : List ℕ) where
 
 -- and from the entries to the bytes
 
-pub directory-length : (at : ℕ) (ns : List ℕ) → length (directory at ns) ≡ 4 * length ns
+pub directory-length : (at : ℕ) (ns : List ℕ) → length (directory at ns) ≡ pairBytes * length ns
 unfolding directory word
 directory-length at [] = refl
 directory-length at (n ∷ ns) = omega (arith, directory-length (at + n) ns)
 
 module _ (s : List ℕ) where
-  pair-back : (i at n : ℕ) (ns rest : List ℕ) → drop (2 + 4 * i) s ≡ directory at (n ∷ ns) ++ rest
-      → (offsetAt s i ≡ at) × (lengthAt s i ≡ n) × (drop (2 + 4 * (i + 1)) s ≡ directory (at + n) ns ++ rest)
+  pair-back : (i at n : ℕ) (ns rest : List ℕ) → drop (pastPairs i) s ≡ directory at (n ∷ ns) ++ rest
+      → (offsetAt s i ≡ at) × (lengthAt s i ≡ n) × (drop (pastPairs (i + 1)) s ≡ directory (at + n) ns ++ rest)
   unfolding directory word
   pair-back i at n ns rest p =
       let more = directory (at + n) ns ++ rest in
-      let e : 2 + 4 * i + 2 ≡ 4 + 4 * i = omega arith in
-      let f : 4 + 4 * i + 2 ≡ 2 + 4 * (i + 1) = omega arith in
-      let second : drop (4 + 4 * i) s ≡ word n ++ more = rw e at (word-past s (2 + 4 * i) at (word n ++ more) p) in
-      (word-back s (2 + 4 * i) at (word n ++ more) p, word-back s (4 + 4 * i) n more second, rw f at (word-past s (4 + 4 * i) n more second))
+      let f : pastPairs i + wordBytes + wordBytes ≡ pastPairs (i + 1) = omega arith in
+      let second = word-past s (pastPairs i) at (word n ++ more) p in
+      (word-back s (pastPairs i) at (word n ++ more) p, word-back s (pastPairs i + wordBytes) n more second, rw f at (word-past s (pastPairs i + wordBytes) n more second))
 
   past-entry : (at : ℕ) (e rest : List ℕ) → drop at s ≡ e ++ rest → drop (at + length e) s ≡ rest
   past-entry at e rest q = sym (drop-drop (length e) at s) ∙ ap (drop (length e)) q ∙ drop-at e rest (length e) refl
 
-  written-entries : (es : List (List ℕ)) (i at : ℕ) (rest : List ℕ) → drop (2 + 4 * i) s ≡ directory at (map length es) ++ rest → drop at s ≡ flatten es
+  written-entries : (es : List (List ℕ)) (i at : ℕ) (rest : List ℕ) → drop (pastPairs i) s ≡ directory at (map length es) ++ rest → drop at s ≡ flatten es
       → entriesFrom s (length es) i ≡ es
   unfolding entriesFrom entryAt flatten
   written-entries [] i at rest p q = refl
@@ -109,7 +107,7 @@ module _ (s : List ℕ) where
       (written-entries es (i + 1) (at + length e) rest (a .2) (past-entry at e (flatten es) q))
 
   written-followed : (es : List (List ℕ)) (i at : ℕ) (rest : List ℕ) → NoneEmpty es → at ≤ length s
-      → drop (2 + 4 * i) s ≡ directory at (map length es) ++ rest → drop at s ≡ flatten es → followed s (length es) i at ≡ true
+      → drop (pastPairs i) s ≡ directory at (map length es) ++ rest → drop at s ≡ flatten es → followed s (length es) i at ≡ true
   unfolding followed flatten NoneEmpty
   written-followed [] i at rest m l p q = eq-eqb at (length s) (omega (arith, length-drop at s, ap length q))
   written-followed (e ∷ es) i at rest m l p q =

@@ -1,11 +1,11 @@
 -- Bytes stored one after the other: what is left to store, and the sheet as a whole.
-use Prim.Native.Nat.{ℕ, zero, suc, _+_, _*_, _≤_, _<_}
+use Prim.Native.Nat.{ℕ, zero, suc, _+_, _≤_, _<_}
 use native.Mathlib.Omega.{arith}
 use mathlib.Core.Path.{_≡_, ap, _∙_}
 use mathlib.Core.List.{List, [], _∷_, _++_}
 use lib.ListN.{length, getD, set, drop, drop-of-length-le}
 use lib.Seq.{sets, sets-eq}
-use Rattle.sheet.specs.Word.{word}
+use Rattle.sheet.specs.Word.{wordBytes, word}
 use Rattle.sheet.specs.Sheet.{pastPairs, directory, sheetBytes}
 use Rattle.sheet.specs.Writing.{split, sum}
 use Rattle.sheet.proofs.Readings.{directory-length}
@@ -35,34 +35,32 @@ module _ (l : List ℕ) (i at : ℕ) where
 
   -- the pair at an index
   pub pairs-next : (ns : List ℕ) → i < length ns
-      → sets l (2 + 4 * i) (directory at (drop i ns))
-      ≡ sets (sets (sets l (2 + 4 * i) (word at)) (4 + 4 * i) (word (getD ns i 0))) (2 + 4 * (i + 1)) (directory (at + getD ns i 0) (drop (i + 1) ns))
+      → sets l (pastPairs i) (directory at (drop i ns))
+      ≡ sets (sets (sets l (pastPairs i) (word at)) (pastPairs i + wordBytes) (word (getD ns i 0))) (pastPairs (i + 1)) (directory (at + getD ns i 0) (drop (i + 1) ns))
   unfolding directory word
   pairs-next ns h =
       let n = getD ns i 0 in
       let rest = directory (at + n) (drop (i + 1) ns) in
-      let e : 2 + 4 * i + 2 ≡ 4 + 4 * i = omega arith in
-      let f : 4 + 4 * i + 2 ≡ 2 + 4 * (i + 1) = omega arith in
-      ap (λ (r : List ℕ). sets l (2 + 4 * i) (directory at r)) (drop-next ns i h)
-      ∙ sets-append l (2 + 4 * i) (word at) (word n ++ rest)
-      ∙ ap (λ (k : ℕ). sets (sets l (2 + 4 * i) (word at)) k (word n ++ rest)) e
-      ∙ sets-append (sets l (2 + 4 * i) (word at)) (4 + 4 * i) (word n) rest
-      ∙ ap (λ (k : ℕ). sets (sets (sets l (2 + 4 * i) (word at)) (4 + 4 * i) (word n)) k rest) f
+      let f : pastPairs i + wordBytes + wordBytes ≡ pastPairs (i + 1) = omega arith in
+      ap (λ (r : List ℕ). sets l (pastPairs i) (directory at r)) (drop-next ns i h)
+      ∙ sets-append l (pastPairs i) (word at) (word n ++ rest)
+      ∙ sets-append (sets l (pastPairs i) (word at)) (pastPairs i + wordBytes) (word n) rest
+      ∙ ap (λ (k : ℕ). sets (sets (sets l (pastPairs i) (word at)) (pastPairs i + wordBytes) (word n)) k rest) f
 
-  pub pairs-end : (ns : List ℕ) → length ns ≤ i → sets l (2 + 4 * i) (directory at (drop i ns)) ≡ l
+  pub pairs-end : (ns : List ℕ) → length ns ≤ i → sets l (pastPairs i) (directory at (drop i ns)) ≡ l
   unfolding directory
   pairs-end ns h = rw (drop-of-length-le ns h)
 
 -- count, directory and records
 pub sheet-stored : (l bs ns : List ℕ) → length bs ≡ sum ns
     → sets l 0 (sheetBytes (split bs ns))
-    ≡ sets (sets (sets l 0 (word (length ns))) 2 (directory (pastPairs (length ns)) ns)) (pastPairs (length ns)) bs
+    ≡ sets (sets (sets l 0 (word (length ns))) wordBytes (directory (pastPairs (length ns)) ns)) (pastPairs (length ns)) bs
 unfolding word
 sheet-stored l bs ns h =
     let n = length ns in
     let pairs = directory (pastPairs n) ns in
-    let e : 2 + length pairs ≡ pastPairs n = omega (arith, directory-length (pastPairs n) ns) in
+    let e : wordBytes + length pairs ≡ pastPairs n = omega (arith, directory-length (pastPairs n) ns) in
     ap (sets l 0) (split-sheet bs ns h)
     ∙ sets-append l 0 (word n) (pairs ++ bs)
-    ∙ sets-append (sets l 0 (word n)) 2 pairs bs
-    ∙ ap (λ (k : ℕ). sets (sets (sets l 0 (word n)) 2 pairs) k bs) e
+    ∙ sets-append (sets l 0 (word n)) wordBytes pairs bs
+    ∙ ap (λ (k : ℕ). sets (sets (sets l 0 (word n)) wordBytes pairs) k bs) e

@@ -121,19 +121,25 @@ module _ (table bs ns out : List ℕ) where
   unfolding outputAfter
   output-written n w = rw w
 
-  pub written-passed : (n : ℕ) → writing table bs ns (length out) ≡ Written n
-      → (k : ℕ) × RecordsPassed table bs ns k × (sheetLength (length ns) (length bs) ≡ n)
+  pub output-refused : (r : Refusal) (i : ℕ) → writing table bs ns (length out) ≡ Writing.Refused r i → outputAfter table bs ns out ≡ out
+  unfolding outputAfter
+  output-refused r i w = rw w
+
+  abbrev Passed : ℕ → Type 0
+  Passed n = (k : ℕ) × RecordsPassed table bs ns k × (sheetLength (length ns) (length bs) ≡ n) × (n ≤ length out)
+
+  pub written-passed : (n : ℕ) → writing table bs ns (length out) ≡ Written n → Passed n
   written-passed n w = go (checkRecords table bs ns) refl
     where
-      go : (x : Checked) → checkRecords table bs ns ≡ x → (k : ℕ) × RecordsPassed table bs ns k × (sheetLength (length ns) (length bs) ≡ n)
+      go : (x : Checked) → checkRecords table bs ns ≡ x → Passed n
       go (Checked.Refused r i) e = let z : _≡_ {A = ℕ} 0 1 = cc (writing-refused r i e .0) in absurd (omega arith)
       go (Accepted k) e = fits (leb (sheetLength (length ns) (length bs)) (length out)) refl
         where
-          fits : (b : Bool) → leb (sheetLength (length ns) (length bs)) (length out) ≡ b
-              → (k : ℕ) × RecordsPassed table bs ns k × (sheetLength (length ns) (length bs) ≡ n)
+          fits : (b : Bool) → leb (sheetLength (length ns) (length bs)) (length out) ≡ b → Passed n
           fits false f =
               let z : _≡_ {A = ℕ} 0 1 = cc (writing-full k e (leb-false (sheetLength (length ns) (length bs)) (length out) f) .0) in
               absurd (omega arith)
           fits true f =
-              let w′ = writing-written k e (leb-true (sheetLength (length ns) (length bs)) (length out) f) .0 in
-              (k, records-passed table bs ns k e, cc)
+              let room = leb-true (sheetLength (length ns) (length bs)) (length out) f in
+              let size : sheetLength (length ns) (length bs) ≡ n = cc (writing-written k e room .0) in
+              (k, records-passed table bs ns k e, size, omega arith)

@@ -1,11 +1,11 @@
 -- The check of a sheet: 6 over 32,768 bytes, then 9 where its directory breaks a rule.
-use Prim.Native.Nat.{ℕ, zero, suc, _+_, _*_}
+use Prim.Native.Nat.{ℕ, zero, suc, _+_}
 use mathlib.Core.List.{List}
 use mathlib.Core.Bool.{Bool, cond, _&&_}
 use lib.ListN.{length}
 use lib.Dec.{leb, ltb, eqb}
 use Rattle.term.specs.declared.Refusal.the-variants.{Long, Directory}
-use Rattle.sheet.specs.Word.{wordAt}
+use Rattle.sheet.specs.Word.{wordBytes, wordAt}
 use Rattle.sheet.specs.Sheet.{pastPairs}
 use Rattle.sheet.specs.declared.Checked.{Checked}
 use Rattle.sheet.specs.declared.Checked.the-variants.{Accepted}
@@ -19,10 +19,10 @@ entryCount s = wordAt s 0
 
 -- the directory's pair of an index
 abbrev pub offsetAt : List ℕ → ℕ → ℕ
-offsetAt s i = wordAt s (2 + 4 * i)
+offsetAt s i = wordAt s (pastPairs i)
 
 abbrev pub lengthAt : List ℕ → ℕ → ℕ
-lengthAt s i = wordAt s (4 + 4 * i)
+lengthAt s i = wordAt s (pastPairs i + wordBytes)
 
 -- so many entries from index i on: the first starts at this offset, each where the one before ended, no length is 0, and the last
 -- ends with the sheet

@@ -27,10 +27,13 @@ unfoldable pub checkEach : Bool → List ℕ → ℕ → List (List ℕ) → Che
 checkEach records table i [] = Accepted i
 checkEach records table i (e ∷ es) = stopAt i (readEntry records table e) (checkEach records table (i + 1) es)
 
--- a rule sheet holds at most 64 patterns
+abbrev pub mostRules : ℕ
+mostRules = 64
+
+-- a rule sheet holds at most so many patterns
 abbrev pub few : Bool → ℕ → Bool
 few true n = true
-few false n = leb n 64
+few false n = leb n mostRules
 
 -- 1, 6 of the sheet, 9, 6 of 64 rules, then each entry
 unfoldable pub checkContents : Bool → List ℕ → List ℕ → Checked

@@ -1,11 +1,14 @@
 -- The entries of a sheet: parts of it, at the directory's offset and length.
-use Prim.Native.Nat.{ℕ, zero, suc, _+_, _*_}
+use Prim.Native.Nat.{ℕ, zero, suc, _+_}
 use mathlib.Core.List.{List, [], _∷_}
-use mathlib.Core.Bool.{cond}
+use mathlib.Core.Bool.{Bool, cond, _&&_}
 use lib.ListN.{length, take, drop}
 use lib.Dec.{leb, ltb}
+use denote.Ref.{RefT, ptr}
 use Rattle.term.specs.declared.Refusal.the-variants.{Directory}
+use Rattle.sheet.specs.Sheet.{pastPairs}
 use Rattle.sheet.specs.Check.{entryCount, offsetAt, lengthAt, checkSheet, andThen}
+use Rattle.sheet.specs.Answer.{placeOffset, placeLength}
 use Rattle.sheet.specs.declared.Checked.{Checked}
 use Rattle.sheet.specs.declared.Checked.the-variants.{Accepted}
 use Rattle.sheet.specs.declared.Place.{Place}
@@ -26,19 +29,6 @@ entries s = entriesFrom s (entryCount s) 0
 unfoldable pub checkEntry : List ℕ → ℕ → Checked
 checkEntry s i = andThen (checkSheet s) (λ n. cond (ltb i n) (Accepted n) (Checked.Refused Directory 0))
 
--- a part where the check passes, and an empty part where it gives 6 or 9
-abbrev pub provided : Checked → List ℕ → List ℕ
-provided (Accepted n) e = e
-provided (Checked.Refused r i) e = []
-
--- reading an entry
-unfoldable pub entryOf : List ℕ → ℕ → List ℕ
-entryOf s i = provided (checkEntry s i) (entryAt s i)
-
--- the part that the pair of an index tells, of any bytes: empty where pair or part does not lie within them
-unfoldable pub partAt : List ℕ → ℕ → List ℕ
-partAt s i = cond (leb (6 + 4 * i) (length s)) (cond (leb (offsetAt s i + lengthAt s i) (length s)) (entryAt s i) []) []
-
 -- where an entry lies: the directory's offset and length where the check passes, or why it does not
 abbrev pub placeBy : Checked → ℕ → ℕ → Place
 placeBy (Accepted n) offset length = At offset length
@@ -46,3 +36,22 @@ placeBy (Checked.Refused r i) offset length = Place.Refused r
 
 unfoldable pub placeOf : List ℕ → ℕ → Place
 placeOf s i = placeBy (checkEntry s i) (offsetAt s i) (lengthAt s i)
+
+-- reading an entry: the part at its place, and an empty part where the check gives 6 or 9
+unfoldable pub entryOf : List ℕ → ℕ → List ℕ
+entryOf s i = take (placeLength (placeOf s i)) (drop (placeOffset (placeOf s i)) s)
+
+-- whether the pair of an index, and the part that it tells, lie within any bytes
+unfoldable pub pairWithin : List ℕ → ℕ → Bool
+pairWithin s i = leb (pastPairs (i + 1)) (length s) && leb (offsetAt s i + lengthAt s i) (length s)
+
+-- that part, or an empty one at their start
+unfoldable pub partAt : List ℕ → ℕ → List ℕ
+partAt s i = cond (pairWithin s i) (entryAt s i) []
+
+unfoldable pub partOffset : List ℕ → ℕ → ℕ
+partOffset s i = cond (pairWithin s i) (offsetAt s i) 0
+
+-- where a part of a slice points that starts at this offset: into the slice's own block of memory, so many bytes further on
+abbrev pub pointsInto : RefT (List ℕ) → ℕ → ℕ × ℕ
+pointsInto s offset = (ptr s .0, ptr s .1 + offset)

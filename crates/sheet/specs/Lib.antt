@@ -3,8 +3,8 @@
 pub mod Word
 pub mod Sheet
 pub mod Check
+pub mod Answer
 pub mod Entry
 pub mod Contents
 pub mod Writing
-pub mod Answer
 pub mod Demands

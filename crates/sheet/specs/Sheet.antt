@@ -2,11 +2,15 @@
 use Prim.Native.Nat.{ℕ, _+_, _*_, _<_}
 use mathlib.Core.List.{List, [], _∷_, _++_, map, flatten}
 use lib.ListN.{length}
-use Rattle.sheet.specs.Word.{word}
+use Rattle.sheet.specs.Word.{wordBytes, word}
 
--- the offset of the first entry, which follows the last of so many pairs
+-- how many bytes a pair has: an offset and a length
+abbrev pub pairBytes : ℕ
+pairBytes = 4
+
+-- the offset that follows the count and so many pairs: of the next pair, or of the first entry
 abbrev pub pastPairs : ℕ → ℕ
-pastPairs n = 2 + 4 * n
+pastPairs n = wordBytes + pairBytes * n
 
 -- the pairs of entries of these lengths, each of which starts where the one before ended
 unfoldable pub directory : ℕ → List ℕ → List ℕ

@@ -3,6 +3,10 @@ use Prim.Native.Nat.{ℕ, _+_, _*_, _/_, _%_}
 use mathlib.Core.List.{List, [], _∷_}
 use lib.ListN.{getD}
 
+-- how many bytes it has
+abbrev pub wordBytes : ℕ
+wordBytes = 2
+
 -- the bytes of a number below 65,536
 unfoldable pub word : ℕ → List ℕ
 word n = (n % 256) ∷ (n / 256) ∷ []

@@ -3,17 +3,31 @@ use term::Read;
 use term::Refusal;
 ghost use mathlib.Core.Path.{_≡_};
 ghost use mathlib.Core.Bool.{true};
-ghost use Prim.Native.Nat.{_+_, _*_, _≤_, _<_};
+ghost use Prim.Native.Nat.{_+_, _≤_, _<_};
 ghost use lib.Dec.{leb};
 ghost use lib.ListN.{length};
 ghost use lib.Seq.{sets};
-ghost use Rattle.sheet.specs.Word.{word, wordAt};
+ghost use denote.Ref.{ptr};
+ghost use Rattle.sheet.specs.Word.{wordBytes, word, wordAt};
 ghost use Rattle.sheet.specs.Sheet.{pastPairs, directory, sheetBytes};
 ghost use Rattle.sheet.specs.Check.{longestSheet, entryCount, offsetAt, lengthAt, followed, checkSheet};
-ghost use Rattle.sheet.specs.Entry.{entries, checkEntry, entryOf, partAt, placeOf};
+ghost use Rattle.sheet.specs.Entry.{entries, checkEntry, placeOf, entryOf, partAt, partOffset, pointsInto};
 ghost use Rattle.sheet.specs.Contents.{readEntry, checkEach, few, checkContents, checkStates, checkRules};
 ghost use Rattle.sheet.specs.Writing.{split, sum, lengthsAccepted, sheetLength, checkRecords, writing, outputAfter};
-ghost use Rattle.sheet.specs.Answer.{checkedNumber, checkedIndex, writingNumber, writingIndex, writingLength};
+ghost use Rattle.sheet.specs.Answer.{checkedNumber, checkedIndex, checkedCount, writingNumber, writingIndex, writingLength, placeNumber, placeOffset, placeLength};
+ghost use Rattle.sheet.specs.Demands.{OneReading, Demanded};
+
+// The most bytes of a sheet.
+const LONGEST_SHEET: usize = 32768;
+
+// The most entries of a rule sheet.
+const MOST_RULES: usize = 64;
+
+// The bytes of a 16-bit number.
+const WORD: usize = 2;
+
+// The bytes of a pair in the directory, an offset and a length.
+const PAIR: usize = 4;
 
 // What a check shows: the number of entries, or a refusal with the entry's index, 0 where no entry is meant.
 pub enum Checked {
@@ -53,6 +67,16 @@ impl Checked {
             Checked::Refused(_, i) => i,
         }
     }
+
+    // The number of entries of a sheet that is accepted.
+    pub fn count(self) -> usize
+        ensures { λ r. ⌜ r ≡ checkedCount self ⌝ }
+    {
+        match self {
+            Checked::Accepted(n) => n,
+            Checked::Refused(_, _) => 0,
+        }
+    }
 }
 
 impl Writing {
@@ -85,6 +109,36 @@ impl Writing {
     }
 }
 
+impl Place {
+    pub fn number(self) -> u8
+        ensures { λ r. ⌜ r ≡ placeNumber self ⌝ }
+    {
+        match self {
+            Place::At(_, _) => 0,
+            Place::Refused(r) => r.number(),
+        }
+    }
+
+    // The entry's offset, and 0 where it is refused; so its length.
+    pub fn offset(self) -> u16
+        ensures { λ r. ⌜ r ≡ placeOffset self ⌝ }
+    {
+        match self {
+            Place::At(offset, _) => offset,
+            Place::Refused(_) => 0,
+        }
+    }
+
+    pub fn length(self) -> u16
+        ensures { λ r. ⌜ r ≡ placeLength self ⌝ }
+    {
+        match self {
+            Place::At(_, length) => length,
+            Place::Refused(_) => 0,
+        }
+    }
+}
+
 // The 16-bit number at a place, low byte first.
 fn word_at(s: &[u8], at: usize) -> u16
     requires { ⌜ at + 1 < length (now s) ⌝ }
@@ -108,17 +162,17 @@ pub fn count(sheet: &[u8]) -> u16
 
 // The offset and the length of an index in the directory.
 fn offset_at(sheet: &[u8], index: usize) -> u16
-    requires { ⌜ 6 + 4 * index ≤ length (now sheet) ⌝ }
+    requires { ⌜ pastPairs (index + 1) ≤ length (now sheet) ⌝ }
     ensures { λ r. ⌜ r ≡ offsetAt (now (sheet .entry)) index ⌝ }
 {
-    word_at(sheet, 2 + 4 * index)
+    word_at(sheet, WORD + PAIR * index)
 }
 
 fn length_at(sheet: &[u8], index: usize) -> u16
-    requires { ⌜ 6 + 4 * index ≤ length (now sheet) ⌝ }
+    requires { ⌜ pastPairs (index + 1) ≤ length (now sheet) ⌝ }
     ensures { λ r. ⌜ r ≡ lengthAt (now (sheet .entry)) index ⌝ }
 {
-    word_at(sheet, 4 + 4 * index)
+    word_at(sheet, WORD + PAIR * index + WORD)
 }
 
 // Whether the entries follow the directory of n pairs and each other, and end with the sheet.
@@ -126,7 +180,7 @@ fn entries_follow(sheet: &[u8], n: usize) -> bool
     requires { ⌜ pastPairs n ≤ length (now sheet) ⌝ }
     ensures { λ r. ⌜ r ≡ followed (now (sheet .entry)) n 0 (pastPairs n) ⌝ }
 {
-    let mut at = 2 + 4 * n;
+    let mut at = WORD + PAIR * n;
     let mut i: usize = 0;
     while i < n {
         if offset_at(sheet, i) as usize != at {
@@ -144,16 +198,17 @@ fn entries_follow(sheet: &[u8], n: usize) -> bool
 
 // Checks a sheet of any entries.
 pub fn check_sheet(sheet: &[u8]) -> Checked
-    ensures { λ r. ⌜ r ≡ checkSheet (now (sheet .entry)) ⌝ }
+    ensures is { λ r. ⌜ r ≡ checkSheet (now (sheet .entry)) ⌝ }
+    ensures demand { λ r. ⌜ OneReading (now (sheet .entry)) (checkedNumber r) (checkedCount r) ⌝ }
 {
-    if 32768 < sheet.len() {
+    if LONGEST_SHEET < sheet.len() {
         return Checked::Refused(Refusal::Long, 0);
     }
-    if sheet.len() < 2 {
+    if sheet.len() < WORD {
         return Checked::Refused(Refusal::Directory, 0);
     }
     let n = count(sheet) as usize;
-    if sheet.len() < 2 + 4 * n {
+    if sheet.len() < WORD + PAIR * n {
         return Checked::Refused(Refusal::Directory, 0);
     }
     if entries_follow(sheet, n) {
@@ -164,12 +219,13 @@ pub fn check_sheet(sheet: &[u8]) -> Checked
 
 // The part that the pair of an index tells, without the other checks: for callers that checked the sheet before.
 pub fn part_at(sheet: &[u8], index: usize) -> &[u8]
-    ensures { λ r. ⌜ now r ≡ partAt (now (sheet .entry)) index ⌝ }
+    ensures bytes { λ r. ⌜ now r ≡ partAt (now (sheet .entry)) index ⌝ }
+    ensures place { λ r. ⌜ ptr r ≡ pointsInto (sheet .entry) (partOffset (now (sheet .entry)) index) ⌝ }
 {
-    if sheet.len() < 6 {
+    if sheet.len() < WORD {
         return &sheet[..0];
     }
-    if (sheet.len() - 6) / 4 < index {
+    if (sheet.len() - WORD) / PAIR <= index {
         return &sheet[..0];
     }
     let start = offset_at(sheet, index) as usize;
@@ -196,7 +252,8 @@ pub fn check_entry(sheet: &[u8], index: usize) -> Checked
 
 // An entry as a part of the sheet, or an empty part where the check of sheet and index refuses.
 pub fn entry(sheet: &[u8], index: usize) -> &[u8]
-    ensures { λ r. ⌜ now r ≡ entryOf (now (sheet .entry)) index ⌝ }
+    ensures bytes { λ r. ⌜ now r ≡ entryOf (now (sheet .entry)) index ⌝ }
+    ensures place { λ r. ⌜ ptr r ≡ pointsInto (sheet .entry) (placeOffset (placeOf (now (sheet .entry)) index)) ⌝ }
 {
     let checked = check_entry(sheet, index);
     let Checked::Accepted(_) = checked else {
@@ -248,7 +305,7 @@ fn few(records: bool, n: usize) -> bool
     if records {
         return true;
     }
-    n <= 64
+    n <= MOST_RULES
 }
 
 fn check_contents(records: bool, table: &[u8], sheet: &[u8]) -> Checked
@@ -305,13 +362,13 @@ fn lengths_accepted(lengths: &[u16], total: usize) -> bool
 fn fits_sheet(n: usize, total: usize) -> bool
     ensures { λ r. ⌜ r ≡ leb (sheetLength n total) longestSheet ⌝ }
 {
-    if 32768 < n {
+    if LONGEST_SHEET < n {
         return false;
     }
-    if 32768 < total {
+    if LONGEST_SHEET < total {
         return false;
     }
-    2 + 4 * n + total <= 32768
+    WORD + PAIR * n + total <= LONGEST_SHEET
 }
 
 // Each record, in order.
@@ -350,7 +407,7 @@ fn check_records(table: &[u8], records: &[u8], lengths: &[u16]) -> Checked
 }
 
 fn put_word(output: &mut [u8], at: usize, n: u16)
-    requires { ⌜ at + 2 ≤ length (now output) ⌝ }
+    requires { ⌜ at + wordBytes ≤ length (now output) ⌝ }
     ensures { λ _. ⌜ now (output .exit) ≡ sets (now (output .entry)) at (word n) ⌝ }
 {
     output[at] = (n % 256) as u8;
@@ -361,14 +418,14 @@ fn put_word(output: &mut [u8], at: usize, n: u16)
 fn put_directory(lengths: &[u16], output: &mut [u8])
     requires { ⌜ pastPairs (length (now lengths)) ≤ length (now output) ⌝ }
     requires { ⌜ pastPairs (length (now lengths)) + sum (now lengths) ≤ longestSheet ⌝ }
-    ensures { λ _. ⌜ now (output .exit) ≡ sets (now (output .entry)) 2 (directory (pastPairs (length (now (lengths .entry)))) (now (lengths .entry))) ⌝ }
+    ensures { λ _. ⌜ now (output .exit) ≡ sets (now (output .entry)) wordBytes (directory (pastPairs (length (now (lengths .entry)))) (now (lengths .entry))) ⌝ }
 {
-    let mut at = 2 + 4 * lengths.len();
+    let mut at = WORD + PAIR * lengths.len();
     let mut i: usize = 0;
     while i < lengths.len() {
         let n = lengths[i];
-        put_word(output, 2 + 4 * i, at as u16);
-        put_word(output, 4 + 4 * i, n);
+        put_word(output, WORD + PAIR * i, at as u16);
+        put_word(output, WORD + PAIR * i + WORD, n);
         at = at + n as usize;
         i = i + 1;
     }
@@ -395,19 +452,20 @@ fn put_sheet(records: &[u8], lengths: &[u16], output: &mut [u8])
     let n = lengths.len();
     put_word(output, 0, n as u16);
     put_directory(lengths, output);
-    put_bytes(records, output, 2 + 4 * n);
+    put_bytes(records, output, WORD + PAIR * n);
 }
 
 // Writes the sheet of these records to the front of the output, or leaves the output as it is.
 pub fn write_sheet(table: &[u8], records: &[u8], lengths: &[u16], output: &mut [u8]) -> Writing
     ensures answer { λ r. ⌜ r ≡ writing (now (table .entry)) (now (records .entry)) (now (lengths .entry)) (length (now (output .entry))) ⌝ }
     ensures contents { λ _. ⌜ now (output .exit) ≡ outputAfter (now (table .entry)) (now (records .entry)) (now (lengths .entry)) (now (output .entry)) ⌝ }
+    ensures demand { λ r. ⌜ Demanded (now (table .entry)) (now (records .entry)) (now (lengths .entry)) (now (output .entry)) (writingNumber r) (writingLength r) (now (output .exit)) ⌝ }
 {
     let checked = check_records(table, records, lengths);
     if let Checked::Refused(r, i) = checked {
         return Writing::Refused(r, i);
     }
-    let size = 2 + 4 * lengths.len() + records.len();
+    let size = WORD + PAIR * lengths.len() + records.len();
     if size <= output.len() {
         put_sheet(records, lengths, output);
         return Writing::Written(size);

@@ -26,7 +26,7 @@ fn print_refused(number: u8, index: usize) {
 
 fn print_checked(checked: Checked) {
     match checked {
-        Checked::Accepted(n) => print_number(b": accepted, entries ", n),
+        Checked::Accepted(_) => print_number(b": accepted, entries ", checked.count()),
         Checked::Refused(_, _) => print_refused(checked.number(), checked.index()),
     }
 }
@@ -132,11 +132,11 @@ fn print_part(text: &[u8], part: &[u8]) {
 
 fn print_place(place: Place) {
     match place {
-        Place::At(offset, length) => {
-            print_number(b"; place, offset ", offset as usize);
-            print_number(b", length ", length as usize);
+        Place::At(_, _) => {
+            print_number(b"; place, offset ", place.offset() as usize);
+            print_number(b", length ", place.length() as usize);
         }
-        Place::Refused(r) => print_number(b"; place, refused ", wide(r.number())),
+        Place::Refused(_) => print_number(b"; place, refused ", place.number() as usize),
     }
 }
 

@@ -1,9 +1,10 @@
 -- `qonveshir::qonveshir_write_sheet` meets its contract.
 use native.Mathlib.Omega.{arith}
-use mathlib.Core.Path.{ap, _∙_}
+use mathlib.Core.Path.{_≡_, ap, _∙_}
 use lib.ListN.{length}
 use borrow.Author.Needs.{needs}
 use Rattle.sheet.specs.Answer.{writingIndex}
+use Rattle.qonveshir.specs.Shown.{writingShown}
 use Rattle.qonveshir.proofs.Indices.{writing-index}
 use Rattle.qonveshir.proofs.qonveshir_write_sheet.Statement.{statement}
 use Rattle.qonveshir.proofs.qonveshir_write_sheet.Tie as tie
@@ -30,8 +31,10 @@ same-length c = search needs
 
 returns : tie.Need-returns
 returns c =
-    let called = c .before .before .before .before .before .before .write-sheet .ensures in
-    (c .shown .ensures ∙ rw (c .before .before .before .number .ensures, c .before .before .index .ensures, c .before .length .ensures, called .0), called .1)
+    let called = c .before .before .before .before .before .before .write-sheet in
+    let shown : c .shown .result ≡ writingShown (called .result) =
+    c .shown .ensures ∙ rw (c .before .before .before .number .ensures, c .before .before .index .ensures, c .before .length .ensures) in
+    (shown ∙ ap writingShown (called .ensures .0), (called .ensures .1 .0, rw shown (called .ensures .1 .1)))
 
 pub qonveshir-write-sheet-spec : {M : Type 1} → statement M
 qonveshir-write-sheet-spec =

@@ -19,7 +19,7 @@ returns c =
     let args = c .before .before .before .before .before .before .before .args in
     matched-answers (args .table .now) (args .rules .now) (args .states .now) (args .state)
     (λ i. omega (arith, c .before .before .before .before .before .shared-slice-known2 .given i)) (λ i. omega (arith, c .before .before .before .before .shared-slice-known3 .given i))
-    _ _ (c .before .before .before .part-at .ensures) (omega arith) _ _ (c .before .match-rules-checked .ensures)
+    _ _ (c .before .before .before .part-at .ensures .0) (omega arith) _ _ (c .before .match-rules-checked .ensures)
 
 pub match-state-spec : {M : Type 1} → statement M
 match-state-spec =

@@ -44,7 +44,7 @@ same-length c = search needs
 
 returns-2 : tie.Need-returns-2 Inv-loop μ-loop
 returns-2 c =
-    turn-stops (c .before .before .before .before .before .before .before .before .before .loop .inv) _ (c .before .before .before .before .before .before .before .part-at .ensures) _ _ (c .before .before .before .before .before .match-checked .ensures) (c .before .before .before .before .before .before .before .before .loop-test .taken) _
+    turn-stops (c .before .before .before .before .before .before .before .before .before .loop .inv) _ (c .before .before .before .before .before .before .before .part-at .ensures .0) _ _ (c .before .before .before .before .before .match-checked .ensures) (c .before .before .before .before .before .before .before .before .loop-test .taken) _
     (c .before .own .given .1) tt
 
 enum-known-own-2 : tie.Need-enum-known-own-2 Inv-loop μ-loop
@@ -61,7 +61,7 @@ same-length-2 c = search needs
 
 returns-3 : tie.Need-returns-3 Inv-loop μ-loop
 returns-3 c =
-    turn-stops (c .before .before .before .before .before .before .before .before .before .loop .inv) _ (c .before .before .before .before .before .before .before .part-at .ensures) _ _ (c .before .before .before .before .before .match-checked .ensures) (c .before .before .before .before .before .before .before .before .loop-test .taken) _
+    turn-stops (c .before .before .before .before .before .before .before .before .before .loop .inv) _ (c .before .before .before .before .before .before .before .part-at .ensures .0) _ _ (c .before .before .before .before .before .match-checked .ensures) (c .before .before .before .before .before .before .before .before .loop-test .taken) _
     (c .before .own2 .given .1) tt
 
 enum-known-own-3 : tie.Need-enum-known-own-3 Inv-loop μ-loop
@@ -72,7 +72,7 @@ same-length-3 c = search needs
 
 returns-4 : tie.Need-returns-4 Inv-loop μ-loop
 returns-4 c =
-    turn-stops (c .before .before .before .before .before .before .before .before .before .loop .inv) _ (c .before .before .before .before .before .before .before .part-at .ensures) _ _ (c .before .before .before .before .before .match-checked .ensures) (c .before .before .before .before .before .before .before .before .loop-test .taken) _
+    turn-stops (c .before .before .before .before .before .before .before .before .before .loop .inv) _ (c .before .before .before .before .before .before .before .part-at .ensures .0) _ _ (c .before .before .before .before .before .match-checked .ensures) (c .before .before .before .before .before .before .before .before .loop-test .taken) _
     (c .before .own3 .given .1) tt
 
 enum-known-own-4 : tie.Need-enum-known-own-4 Inv-loop μ-loop
@@ -92,7 +92,7 @@ loop-less c = search needs
 
 loop-again : tie.Need-loop-again Inv-loop μ-loop
 loop-again c =
-    turn-next (c .before .before .before .before .before .before .before .before .before .loop .inv) _ (c .before .before .before .before .before .before .before .part-at .ensures) _ _ (c .before .before .before .before .before .match-checked .ensures) (c .before .before .before .before .before .before .before .before .loop-test .taken) (c .before .own4 .given .0 .0)
+    turn-next (c .before .before .before .before .before .before .before .before .before .loop .inv) _ (c .before .before .before .before .before .before .before .part-at .ensures .0) _ _ (c .before .before .before .before .before .match-checked .ensures) (c .before .before .before .before .before .before .before .before .loop-test .taken) (c .before .own4 .given .0 .0)
     (omega arith) (c .before .own4 .given .1)
 
 same-length-4 : tie.Need-same-length-4 Inv-loop μ-loop

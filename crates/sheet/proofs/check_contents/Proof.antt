@@ -25,7 +25,7 @@ returns-2 : tie.Need-returns-2
 returns-2 c =
     let args = c .before .before .before .before .before .before .before .args in
     let t = sym (c .before .before .before .before .check-table .ensures) ∙ not-false _ (c .before .before .before .if1 .left) in
-    c .enum-told .given .1 ∙ sym (contents-refused (args .records) (args .table .now) (args .sheet .now) t _ _ (sym (c .before .before .check-sheet .ensures) ∙ c .enum-told .given .1))
+    c .enum-told .given .1 ∙ sym (contents-refused (args .records) (args .table .now) (args .sheet .now) t _ _ (sym (c .before .before .check-sheet .ensures .0) ∙ c .enum-told .given .1))
 
 few-requires : tie.Need-few-requires
 few-requires c κs = search needs
@@ -34,16 +34,16 @@ returns-3 : tie.Need-returns-3
 returns-3 c =
     let args = c .before .before .before .before .before .before .before .before .before .before .args in
     let t = sym (c .before .before .before .before .before .before .before .check-table .ensures) ∙ not-false _ (c .before .before .before .before .before .before .if1 .left) in
-    sym (contents-many (args .records) (args .table .now) (args .sheet .now) t _ (sym (c .before .before .before .before .before .check-sheet .ensures) ∙ c .before .before .before .checked .given .1) (sym (c .before .few .ensures) ∙ not-true _ (c .if2 .taken)))
+    sym (contents-many (args .records) (args .table .now) (args .sheet .now) t _ (sym (c .before .before .before .before .before .check-sheet .ensures .0) ∙ c .before .before .before .checked .given .1) (sym (c .before .few .ensures) ∙ not-true _ (c .if2 .taken)))
 
 check-entries-requires : tie.Need-check-entries-requires
-check-entries-requires c κs = sym (c .before .before .before .before .before .check-sheet .ensures) ∙ c .before .before .before .checked .given .1
+check-entries-requires c κs = sym (c .before .before .before .before .before .check-sheet .ensures .0) ∙ c .before .before .before .checked .given .1
 
 returns-4 : tie.Need-returns-4
 returns-4 c =
     let args = c .before .before .before .before .before .before .before .before .before .before .before .args in
     let t = sym (c .before .before .before .before .before .before .before .before .check-table .ensures) ∙ not-false _ (c .before .before .before .before .before .before .before .if1 .left) in
-    c .check-entries .ensures ∙ sym (contents-each (args .records) (args .table .now) (args .sheet .now) t _ (sym (c .before .before .before .before .before .before .check-sheet .ensures) ∙ c .before .before .before .before .checked .given .1) (sym (c .before .before .few .ensures) ∙ not-false _ (c .before .if2 .left)))
+    c .check-entries .ensures ∙ sym (contents-each (args .records) (args .table .now) (args .sheet .now) t _ (sym (c .before .before .before .before .before .before .check-sheet .ensures .0) ∙ c .before .before .before .before .checked .given .1) (sym (c .before .before .few .ensures) ∙ not-false _ (c .before .if2 .left)))
 
 pub check-contents-spec : {M : Type 1} → statement M
 check-contents-spec =

@@ -31,7 +31,7 @@ returns : tie.Need-returns Inv-loop μ-loop
 returns c =
     let args = c .before .before .before .before .before .before .before .before .before .args in
     let table = args .table .now in
-    let e = sym (c .before .before .before .read-entry .ensures ∙ ap (readEntry (args .records) table) (c .before .before .before .before .part-at .ensures)) ∙ c .before .read .given .1 in
+    let e = sym (c .before .before .before .read-entry .ensures ∙ ap (readEntry (args .records) table) (c .before .before .before .before .part-at .ensures .0)) ∙ c .before .read .given .1 in
     sym (c .before .before .before .before .before .before .loop .inv .1 ∙ left-refused (args .records) table (args .sheet .now) (args .n) (c .before .before .before .before .before .before .loop .i) _ (c .before .before .before .before .before .before .before .before .before .pre) (c .before .before .before .before .before .loop-test .taken) e)
 
 enum-told : tie.Need-enum-told Inv-loop μ-loop
@@ -47,7 +47,7 @@ loop-again : tie.Need-loop-again Inv-loop μ-loop
 loop-again c =
     let args = c .before .before .before .before .before .before .before .before .args in
     let table = args .table .now in
-    let e = sym (c .before .before .read-entry .ensures ∙ ap (readEntry (args .records) table) (c .before .before .before .part-at .ensures)) ∙ c .enum-told .given .1 in
+    let e = sym (c .before .before .read-entry .ensures ∙ ap (readEntry (args .records) table) (c .before .before .before .part-at .ensures .0)) ∙ c .enum-told .given .1 in
     (omega arith, c .before .before .before .before .before .loop .inv .1 ∙ left-read (args .records) table (args .sheet .now) (args .n) (c .before .before .before .before .before .loop .i) _ (c .before .before .before .before .before .before .before .before .pre) (c .before .before .before .before .loop-test .taken) e)
 
 returns-2 : tie.Need-returns-2 Inv-loop μ-loop

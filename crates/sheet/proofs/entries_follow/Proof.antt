@@ -1,17 +1,19 @@
 -- `sheet::entries_follow` meets its contract. The invariant: the entries from `i` on decide, the first of which starts at `at`; an offset and
 -- a length past the sheet keep the sum from wrapping. The measure is what is left of the entries.
-use Prim.Native.Nat.{_≤_, _-_, _+_, _*_}
+use Prim.Native.Nat.{_≤_, _-_, _+_}
 use native.Mathlib.Nat.{sub-zero}
 use native.Mathlib.Omega.{arith}
 use mathlib.Core.Path.{_≡_, sym, _∙_}
 use lib.ListN.{length}
+use Rattle.sheet.specs.Sheet.{pastPairs}
 use Rattle.sheet.specs.Check.{followed}
+use Rattle.sheet.proofs.Words.{largestWord}
 use Rattle.sheet.proofs.Checks.{follow-apart, follow-empty, follow-next, follow-end}
 use Rattle.sheet.proofs.entries_follow.Statement.{statement}
 use Rattle.sheet.proofs.entries_follow.Tie as tie
 
 abbrev Inv-loop : tie.InvT-loop
-Inv-loop sheet n at₀ i₀ at i = (i ≤ n) × (at ≤ length sheet + 131070) × (followed sheet n 0 (2 + 4 * n) ≡ followed sheet (n - i) i at)
+Inv-loop sheet n at₀ i₀ at i = (i ≤ n) × (at ≤ length sheet + largestWord + largestWord) × (followed sheet n 0 (pastPairs n) ≡ followed sheet (n - i) i at)
 
 abbrev μ-loop : tie.MeasureT-loop
 μ-loop sheet n at₀ i₀ at i = n - i

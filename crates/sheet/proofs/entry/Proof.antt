@@ -1,7 +1,8 @@
 -- `sheet::entry` meets its contract.
-use mathlib.Core.Path.{sym, _∙_}
+use mathlib.Core.Path.{sym, ap, _∙_}
 use borrow.Author.Needs.{needs}
-use Rattle.sheet.proofs.Entries.{entry-refused, entry-part}
+use Rattle.sheet.specs.Answer.{checkedNumber}
+use Rattle.sheet.proofs.Entries.{no-entry, entry-of-part}
 use Rattle.sheet.proofs.entry.Statement.{statement}
 use Rattle.sheet.proofs.entry.Tie as tie
 
@@ -18,13 +19,17 @@ slice-aggregate-result : tie.Need-slice-aggregate-result
 slice-aggregate-result c = search needs
 
 returns : tie.Need-returns
-returns c = sym (entry-refused (c .before .before .before .before .before .args .sheet .now) (c .before .before .before .before .before .args .index) _ _ (sym (c .before .before .before .check-entry .ensures) ∙ c .before .enum-told2 .given .1))
+returns c =
+    let args = c .before .before .before .before .before .args in
+    no-entry (args .sheet) (args .index) _ _ (sym (c .before .before .before .check-entry .ensures) ∙ c .before .enum-told2 .given .1)
 
 part-at-requires : tie.Need-part-at-requires
 part-at-requires c κs = search needs
 
 returns-2 : tie.Need-returns-2
-returns-2 c = c .part-at .ensures ∙ sym (entry-part (c .before .before .before .before .before .args .sheet .now) (c .before .before .before .before .before .args .index) _ (sym (c .before .before .before .check-entry .ensures) ∙ c .before .enum-told .given .1))
+returns-2 c =
+    let args = c .before .before .before .before .before .args in
+    entry-of-part (args .sheet) (args .index) (ap checkedNumber (sym (c .before .before .before .check-entry .ensures) ∙ c .before .enum-told .given .1)) _ _ (c .part-at .ensures)
 
 pub entry-spec : {M : Type 1} → statement M
 entry-spec =

@@ -1,8 +1,7 @@
 -- `sheet::part_at` meets its contract.
 use native.Mathlib.Omega.{arith}
-use mathlib.Core.Path.{sym, _∙_}
 use borrow.Author.Needs.{needs}
-use Rattle.sheet.proofs.Entries.{part-no-pair, part-past, part-within, entry-between}
+use Rattle.sheet.proofs.Entries.{no-pair, pair-past, pair-tells, no-part, part-between}
 use Rattle.sheet.proofs.part_at.Statement.{statement}
 use Rattle.sheet.proofs.part_at.Tie as tie
 
@@ -10,7 +9,7 @@ slice-aggregate-result : tie.Need-slice-aggregate-result
 slice-aggregate-result c = search needs
 
 returns : tie.Need-returns
-returns c = sym (part-no-pair (c .before .before .before .args .sheet .now) (c .before .before .before .args .index) (omega arith))
+returns c = no-part (c .before .before .before .args .sheet) (c .before .before .before .args .index) (no-pair _ _ (omega arith))
 
 sub-if2 : tie.Need-sub-if2
 sub-if2 c = search needs
@@ -19,7 +18,7 @@ slice-aggregate-result-2 : tie.Need-slice-aggregate-result-2
 slice-aggregate-result-2 c = search needs
 
 returns-2 : tie.Need-returns-2
-returns-2 c = sym (part-no-pair (c .before .before .before .before .args .sheet .now) (c .before .before .before .before .args .index) (omega arith))
+returns-2 c = no-part (c .before .before .before .before .args .sheet) (c .before .before .before .before .args .index) (no-pair _ _ (omega arith))
 
 offset-at-requires : tie.Need-offset-at-requires
 offset-at-requires c κs = search needs
@@ -40,7 +39,9 @@ slice-aggregate-result-3 : tie.Need-slice-aggregate-result-3
 slice-aggregate-result-3 c = search needs
 
 returns-3 : tie.Need-returns-3
-returns-3 c = sym (part-past (c .before .before .before .before .before .before .before .args .sheet .now) (c .before .before .before .before .before .before .before .args .index) (omega arith) (omega arith))
+returns-3 c =
+    let args = c .before .before .before .before .before .before .before .args in
+    no-part (args .sheet) (args .index) (pair-past (args .sheet .now) (args .index) (omega arith) (omega arith))
 
 sub-result : tie.Need-sub-result
 sub-result c = search needs
@@ -53,9 +54,8 @@ part-result-end c = search needs
 
 returns-4 : tie.Need-returns-4
 returns-4 c =
-    let s = c .before .before .before .before .before .before .before .args .sheet .now in
-    let i = c .before .before .before .before .before .before .before .args .index in
-    entry-between s i (c .before .before .before .offset-at .result) (c .before .before .length-at .result) (c .before .before .before .offset-at .ensures) (c .before .before .length-at .ensures) ∙ sym (part-within s i (omega arith) (omega arith))
+    let args = c .before .before .before .before .before .before .before .args in
+    part-between (args .sheet) (args .index) _ _ (c .before .before .before .offset-at .ensures) (c .before .before .length-at .ensures) (pair-tells (args .sheet .now) (args .index) (omega arith) (omega arith))
 
 pub part-at-spec : {M : Type 1} → statement M
 part-at-spec =

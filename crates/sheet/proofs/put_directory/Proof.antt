@@ -1,10 +1,11 @@
 -- `sheet::put_directory` meets its contract. The invariant: the pairs from `i` on are still to be stored, and entries of their lengths end
 -- within the longest sheet. The measure is how many pairs they are.
-use Prim.Native.Nat.{_≤_, _-_, _+_, _*_}
+use Prim.Native.Nat.{_≤_, _-_, _+_}
 use native.Mathlib.Omega.{arith}
 use mathlib.Core.Path.{_≡_, refl, sym, _∙_}
 use lib.Seq.{sets}
 use lib.ListN.{length, drop}
+use Rattle.sheet.specs.Word.{wordBytes}
 use Rattle.sheet.specs.Writing.{sum}
 use Rattle.sheet.specs.Check.{longestSheet}
 use Rattle.sheet.specs.Sheet.{pastPairs, directory}
@@ -14,7 +15,7 @@ use Rattle.sheet.proofs.put_directory.Statement.{statement}
 use Rattle.sheet.proofs.put_directory.Tie as tie
 
 abbrev Inv-loop : tie.InvT-loop
-Inv-loop lengths output₀ at₀ i₀ output at i = (i ≤ length lengths) × (length output ≡ length output₀) × (at + sum (drop i lengths) ≤ longestSheet) × (sets output₀ 2 (directory (pastPairs (length lengths)) lengths) ≡ sets output (2 + 4 * i) (directory at (drop i lengths)))
+Inv-loop lengths output₀ at₀ i₀ output at i = (i ≤ length lengths) × (length output ≡ length output₀) × (at + sum (drop i lengths) ≤ longestSheet) × (sets output₀ wordBytes (directory (pastPairs (length lengths)) lengths) ≡ sets output (pastPairs i) (directory at (drop i lengths)))
 
 abbrev μ-loop : tie.MeasureT-loop
 μ-loop lengths output₀ at₀ i₀ output at i = length lengths - i
@@ -51,6 +52,9 @@ mul-put-word-2 c = omega arith
 
 add-put-word-2 : tie.Need-add-put-word-2 Inv-loop μ-loop
 add-put-word-2 c = omega arith
+
+add-put-word-3 : tie.Need-add-put-word-3 Inv-loop μ-loop
+add-put-word-3 c = omega arith
 
 put-word-requires-2 : tie.Need-put-word-requires-2 Inv-loop μ-loop
 put-word-requires-2 c κs = omega arith
@@ -100,6 +104,7 @@ put-directory-spec =
     put-word-requires
     mul-put-word-2
     add-put-word-2
+    add-put-word-3
     put-word-requires-2
     cast-at
     add-at-2

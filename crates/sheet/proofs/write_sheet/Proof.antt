@@ -4,6 +4,7 @@ use mathlib.Core.Path.{sym, _∙_}
 use borrow.Author.Needs.{needs}
 use Rattle.sheet.proofs.Writings.{records-passed, writing-refused, writing-full, writing-written}
 use Rattle.sheet.proofs.Lengths.{lengths-true}
+use Rattle.sheet.proofs.Demands.{writing-shown}
 use Rattle.sheet.proofs.write_sheet.Statement.{statement}
 use Rattle.sheet.proofs.write_sheet.Tie as tie
 
@@ -16,7 +17,8 @@ enum-known-checked c = search needs
 returns : tie.Need-returns
 returns c =
     let args = c .before .before .before .before .before .before .before .before .args in
-    writing-refused (args .table .now) (args .records .now) (args .lengths .now) (args .output .now) _ _ (sym (c .before .before .before .check-records .ensures) ∙ c .before .checked .given .1)
+    writing-shown (args .table .now) (args .records .now) (args .lengths .now) (args .output .now) (λ i. omega (arith, c .before .before .before .before .before .before .shared-slice-known2 .given i)) _ _
+    (writing-refused (args .table .now) (args .records .now) (args .lengths .now) (args .output .now) _ _ (sym (c .before .before .before .check-records .ensures) ∙ c .before .checked .given .1))
 
 enum-told : tie.Need-enum-told
 enum-told c = search needs
@@ -45,12 +47,13 @@ returns-2 : tie.Need-returns-2
 returns-2 c =
     let args = c .before .before .before .before .before .before .before .before .before .before .before .before .args in
     let w = writing-written (args .table .now) (args .records .now) (args .lengths .now) (args .output .now) _ (sym (c .before .before .before .before .before .before .before .check-records .ensures) ∙ c .before .before .before .before .before .enum-told .given .1) (omega arith) in
-    (w .0, c .before .before .put-sheet .ensures ∙ w .1)
+    writing-shown (args .table .now) (args .records .now) (args .lengths .now) (args .output .now) (λ i. omega (arith, c .before .before .before .before .before .before .before .before .before .before .shared-slice-known2 .given i)) _ _ (w .0, c .before .before .put-sheet .ensures ∙ w .1)
 
 returns-3 : tie.Need-returns-3
 returns-3 c =
     let args = c .before .before .before .before .before .before .before .before .args in
-    writing-full (args .table .now) (args .records .now) (args .lengths .now) (args .output .now) _ (sym (c .before .before .before .check-records .ensures) ∙ c .before .enum-told .given .1) (omega arith)
+    writing-shown (args .table .now) (args .records .now) (args .lengths .now) (args .output .now) (λ i. omega (arith, c .before .before .before .before .before .before .shared-slice-known2 .given i)) _ _
+    (writing-full (args .table .now) (args .records .now) (args .lengths .now) (args .output .now) _ (sym (c .before .before .before .check-records .ensures) ∙ c .before .enum-told .given .1) (omega arith))
 
 pub write-sheet-spec : {M : Type 1} → statement M
 write-sheet-spec =
