@@ -1,21 +1,72 @@
 // The report on three files: opens and reads them, and writes what `report_lines` makes of their bytes. What is read and written no
 // contract can say.
 use libc::STDOUT_FILENO;
-use report_lines::Verdict;
+use report_lines::File;
+ghost use mathlib.Core.Path.{_≡_};
+ghost use Prim.Native.Nat.{_+_, _≤_};
+ghost use lib.ListN.{length, take};
+ghost use Rattle.report_lines.specs.Report.{front};
+ghost use Rattle.report_files.specs.Files.{roomOf, startOf, nameOf, bytesOf, filesRoom};
+ghost use Rattle.report_files.specs.Loading.{Holds, Loads, loadedReport, Reported};
 
-// Whether a file could be read, and how many bytes of it were.
+// One byte more than a table or a sheet may have, so that a longer file is refused by its own check.
+const TABLE_ROOM: usize = 201;
+
+const SHEET_ROOM: usize = 32769;
+
+// The room for all files.
+const FILES_ROOM: usize = TABLE_ROOM + SHEET_ROOM + SHEET_ROOM;
+
+// A file, whether it could be read, and how many bytes lie in its room.
 struct Loaded {
+    file: File,
     read: bool,
     size: usize,
 }
 
+// The bytes that there is room for of each file.
+fn room_of(file: File) -> usize
+    ensures { λ r. ⌜ r ≡ roomOf file ⌝ }
+{
+    match file {
+        File::Table => TABLE_ROOM,
+        File::Rules => SHEET_ROOM,
+        File::States => SHEET_ROOM,
+    }
+}
+
+// Where they start.
+fn start_of(file: File) -> usize
+    ensures { λ r. ⌜ r ≡ startOf file ⌝ }
+{
+    match file {
+        File::Table => 0,
+        File::Rules => TABLE_ROOM,
+        File::States => TABLE_ROOM + SHEET_ROOM,
+    }
+}
+
+// The name of a file, of three.
+fn name_of<'a>(file: File, table: &'a [u8], rules: &'a [u8], states: &'a [u8]) -> &'a [u8]
+    ensures { λ r. ⌜ now r ≡ nameOf file (now (table .entry)) (now (rules .entry)) (now (states .entry)) ⌝ }
+{
+    match file {
+        File::Table => table,
+        File::Rules => rules,
+        File::States => states,
+    }
+}
+
 // Reads until the buffer is full or the file ends.
-fn read_all(fd: i32, buffer: &mut [u8]) -> Loaded {
+fn read_all(file: File, fd: i32, buffer: &mut [u8]) -> Loaded
+    ensures { λ r. ⌜ Holds r file (length (now (buffer .entry))) ⌝ }
+{
     let mut size: usize = 0;
     while size < buffer.len() {
         let got = libc::read(fd, &mut buffer[size..]);
         if got < 0 {
             return Loaded {
+                file: file,
                 read: false,
                 size: 0,
             };
@@ -27,78 +78,104 @@ fn read_all(fd: i32, buffer: &mut [u8]) -> Loaded {
         size = size + more;
     }
     Loaded {
+        file: file,
         read: true,
         size: size,
     }
 }
 
-fn load(name: &[u8], buffer: &mut [u8]) -> Loaded {
-    let fd = os::open_read(name);
+// Reads a file of three names into its room.
+fn load<'a>(
+    file: File,
+    table: &'a [u8],
+    rules: &'a [u8],
+    states: &'a [u8],
+    files: &mut [u8],
+) -> Loaded
+    requires { ⌜ length (now files) ≡ filesRoom ⌝ }
+    ensures { λ r. ⌜ Loads r file (now (files .entry)) (now (files .exit)) ⌝ }
+{
+    let fd = os::open_read(name_of(file, table, rules, states));
     if fd < 0 {
         return Loaded {
+            file: file,
             read: false,
             size: 0,
         };
     }
-    let loaded = read_all(fd, buffer);
+    let start = start_of(file);
+    let end = start + room_of(file);
+    let loaded = read_all(file, fd, &mut files[start..end]);
     libc::close(fd);
     loaded
 }
 
+// The first bytes in the room of a file.
+fn bytes_of(file: File, size: usize, files: &[u8]) -> &[u8]
+    requires { ⌜ size ≤ roomOf file ⌝ }
+    requires { ⌜ length (now files) ≡ filesRoom ⌝ }
+    ensures { λ r. ⌜ now r ≡ bytesOf file size (now (files .entry)) ⌝ }
+{
+    let start = start_of(file);
+    let end = start + size;
+    &files[start..end]
+}
+
+// Puts the report on three files that were loaded, and answers its length.
+fn put_loaded(
+    t: Loaded,
+    r: Loaded,
+    s: Loaded,
+    files: &[u8],
+    out: &mut [u8; report_lines::REPORT_ROOM],
+) -> usize
+    requires { ⌜ Holds t File.Table (roomOf File.Table) ⌝ }
+    requires { ⌜ Holds r File.Rules (roomOf File.Rules) ⌝ }
+    requires { ⌜ Holds s File.States (roomOf File.States) ⌝ }
+    requires { ⌜ length (now files) ≡ filesRoom ⌝ }
+    ensures { λ n. ⌜ n ≡ length (loadedReport t r s (now (files .entry))) ⌝ }
+    ensures { λ _. ⌜ now (out .exit) ≡ front (loadedReport t r s (now (files .entry))) (now (out .entry)) ⌝ }
+{
+    report_lines::put_report(
+        t.read,
+        bytes_of(File::Table, t.size, files),
+        r.read,
+        bytes_of(File::Rules, r.size, files),
+        s.read,
+        bytes_of(File::States, s.size, files),
+        out,
+    )
+}
+
+// Puts the report on the files of these names, and answers its length.
+pub fn read_report<'a>(
+    table: &'a [u8],
+    rules: &'a [u8],
+    states: &'a [u8],
+    out: &mut [u8; report_lines::REPORT_ROOM],
+) -> usize
+    ensures { λ r. ⌜ Reported r (now (out .entry)) (now (out .exit)) ⌝ }
+{
+    let mut files = [0u8; FILES_ROOM];
+    let t = load(File::Table, table, rules, states, &mut files);
+    let r = load(File::Rules, table, rules, states, &mut files);
+    let s = load(File::States, table, rules, states, &mut files);
+    put_loaded(t, r, s, &files, out)
+}
+
 // The first n bytes, or all of them.
-fn first(bytes: &[u8], n: usize) -> &[u8] {
+fn first(bytes: &[u8], n: usize) -> &[u8]
+    ensures { λ r. ⌜ now r ≡ take n (now (bytes .entry)) ⌝ }
+{
     if n < bytes.len() {
         return &bytes[0..n];
     }
     bytes
 }
 
-// Writes the lines of n states, in pieces as large as the buffer, until a piece can't be written.
-fn write_lines(table: &[u8], rules: &[u8], states: &[u8], n: usize) {
-    let mut space = io::large_buffer();
-    let mut next: usize = 0;
-    while next < n {
-        let filled = report_lines::fill(table, rules, states, next, &mut space);
-        let end = filled.next;
-        if end <= next {
-            return;
-        }
-        if !io::write_all(STDOUT_FILENO, first(&space, filled.size)) {
-            return;
-        }
-        next = end;
-    }
-}
-
-fn write_report(verdict: Verdict, table: &[u8], rules: &[u8], states: &[u8]) {
-    let mut line = [0u8; report_lines::LINE_ROOM];
-    let size = report_lines::start(verdict, &mut line);
-    io::write_all(STDOUT_FILENO, first(&line, size));
-    if let Verdict::Lines(n) = verdict {
-        write_lines(table, rules, states, n);
-    }
-}
-
-// The report on the files of these names, to standard output. One byte more than a file may have is read, so that a longer one is refused.
-pub fn report(table_name: &[u8], rules_name: &[u8], states_name: &[u8]) {
-    let mut table = [0u8; 201];
-    let mut rules = [0u8; 32769];
-    let mut states = [0u8; 32769];
-    let t = load(table_name, &mut table);
-    let r = load(rules_name, &mut rules);
-    let s = load(states_name, &mut states);
-    let verdict = report_lines::check_files(
-        t.read,
-        first(&table, t.size),
-        r.read,
-        first(&rules, r.size),
-        s.read,
-        first(&states, s.size),
-    );
-    write_report(
-        verdict,
-        first(&table, t.size),
-        first(&rules, r.size),
-        first(&states, s.size),
-    );
+// The report on the files of these names, to standard output.
+pub fn report<'a>(table: &'a [u8], rules: &'a [u8], states: &'a [u8]) {
+    let mut text = [0u8; report_lines::REPORT_ROOM];
+    let size = read_report(table, rules, states, &mut text);
+    io::write_all(STDOUT_FILENO, first(&text, size));
 }

@@ -8,6 +8,7 @@ use mathlib.Core.Bool.{Bool, true, false, cond}
 use lib.Dec.{leb, ltb}
 use lib.ListN.{length, take, length-append}
 use borrow.Author.Tests.{lt-ltb, le-ltb, leb-true, leb-false}
+use Rattle.io.specs.Counts.{Counts}
 use Rattle.io.specs.Digits.{glyph, digits, Fewest}
 use Rattle.report_lines.specs.Decimal.{digit, decimalOf, decimal}
 
@@ -51,7 +52,7 @@ fewest-decimal n (suc (suc k)) (suc room) f h =
     (ap₂ _++_ (fewest-decimal (n / 10) (suc k) room (fewer n k f) (omega arith)) (ap (λ (d : ℕ). d ∷ []) (last-digit n)))
 
 -- 64 bits hold at most 20 digits
-pub few-digits : (n k : ℕ) → Fewest 10 1 n k → n < 18446744073709551616 → k ≤ 20
+few-digits : (n k : ℕ) → Fewest 10 1 n k → n < 18446744073709551616 → k ≤ 20
 few-digits n k f h = go (leb k 20) refl
   where
     go : (b : Bool) → leb k 20 ≡ b → k ≤ 20
@@ -62,8 +63,25 @@ few-digits n k f h = go (leb k 20) refl
         let p : 10 ^ 20 ≤ 10 ^ (k - 1) = pow-le-pow-right {n = 10} (omega arith) more in
         absurd (omega (arith, p, f .2 (omega arith)))
 
-pub digits-decimal : (n k : ℕ) (text : List ℕ) → Fewest 10 1 n k → n < 18446744073709551616 → take k text ≡ digits 10 k n → take k text ≡ decimal n
-digits-decimal n k text f h e = e ∙ fewest-decimal n k 20 f (few-digits n k f h)
+-- what is spelled out is the decimal
+pub spelled : (n k : ℕ) (text : List ℕ) → n < 18446744073709551616 → Counts k text × (Fewest 10 1 n k × (take k text ≡ digits 10 k n))
+    → take k text ≡ decimal n
+spelled n k text h s = s .1 .1 ∙ fewest-decimal n k 20 (s .1 .0) (few-digits n k (s .1 .0) h)
+
+-- the digits that numbers below a power of ten need at most
+pub few-length : (d room n : ℕ) → n < 10 ^ suc d → length (decimalOf room n) ≤ suc d
+unfolding decimalOf
+few-length d zero n h = omega arith
+few-length zero (suc k) n h = let l : n < 10 = h in rw (lt-ltb n 10 l) (omega arith)
+few-length (suc d) (suc k) n h =
+    let below : n < 10 ^ suc d * 10 = rw (← pow-suc 10 (suc d)) h in
+    let rest = few-length d k (n / 10) (div-lt-iff-lt-mul {k = 10} (omega arith) .1 below) in
+    go (ltb n 10) rest
+  where
+    go : (b : Bool) → length (decimalOf k (n / 10)) ≤ suc d
+        → length (cond b (digit n ∷ []) (decimalOf k (n / 10) ++ (digit (n % 10) ∷ []))) ≤ suc (suc d)
+    go true l = omega arith
+    go false l = simp length-append (omega arith)
 
 length-within : (room n : ℕ) → length (decimalOf room n) ≤ room
 unfolding decimalOf

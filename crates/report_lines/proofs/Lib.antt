@@ -1,8 +1,10 @@
 -- The laws of the report's text.
 pub mod Stores
 pub mod Decimals
+pub mod Fields
 pub mod Verdicts
 pub mod States
-pub mod Openings
-pub mod Pieces
+pub mod Rooms
+pub mod Turns
+pub mod Cuts
 pub mod Demands

@@ -8,6 +8,7 @@ use lib.ListN.{length, getD}
 use Rattle.term.specs.Term.{Term}
 use Rattle.term.specs.Limits.{Octets}
 use Rattle.term.specs.Reading.{Answer as Reading, refused, read, shown, readRecord}
+use Rattle.sheet.specs.Check.{checkSheet}
 use Rattle.sheet.specs.Entry.{entries, entryOf, partAt}
 use Rattle.sheet.specs.Contents.{readEntry, checkEach, checkRules}
 use Rattle.sheet.specs.declared.Checked.the-variants.{Accepted}
@@ -18,9 +19,8 @@ use Rattle.rules.specs.Trial.{tryRules}
 use Rattle.rules.specs.Demands.{Matched}
 use Rattle.rules.specs.declared.RuleAnswer.{RuleAnswer}
 use Rattle.rules.proofs.Checks.{checked-input}
-use Rattle.report_lines.specs.Verdict.{verdict}
-use Rattle.report_lines.specs.Report.{allowance, Answers}
-use Rattle.report_lines.specs.declared.Verdict.the-variants.{Lines}
+use Rattle.report_lines.specs.Verdict.{AllAccepted}
+use Rattle.report_lines.specs.Report.{allowance}
 use Rattle.report_lines.proofs.Verdicts.{lines-accepted}
 
 -- each entry of accepted states is read as a record
@@ -46,36 +46,36 @@ checked-trees table rules bytes m p t k e = rw (p, e)
 
 -- the record of a state, with the rules, is accepted input
 
-module _ (table rules states : List ℕ) (n k : ℕ) (v : verdict true table true rules true states ≡ Lines n) (h : k < n) where
+pub states-sheet : (table rules states : List ℕ) (n : ℕ) → AllAccepted table rules states n → checkSheet states ≡ Accepted n
+states-sheet table rules states n v = contents-passed true table states n (lines-accepted true table true rules true states n v .1) .sheet
+
+module _ (table rules states : List ℕ) (n k : ℕ) (v : AllAccepted table rules states n) (h : k < n) where
   pub record-entry : entryOf states k ≡ getD (entries states) k []
-  record-entry = entry-of-entries states n (contents-passed true table states n (lines-accepted table rules states n v .1) .sheet) k h
+  record-entry = entry-of-entries states n (states-sheet table rules states n v) k h
 
-  record-part : partAt states k ≡ getD (entries states) k []
-  record-part = part-is-entry states n k (contents-passed true table states n (lines-accepted table rules states n v .1) .sheet) h ∙ record-entry
-
-  state-checked : (t : Term) × (checked table rules (getD (entries states) k []) 96 ≡ trees (rulesOf table (entries rules)) t)
+  state-checked : (t : Term) × (checked table rules (entryOf states k) 96 ≡ trees (rulesOf table (entries rules)) t)
   state-checked =
-      let both = lines-accepted table rules states n v in
+      let both = lines-accepted true table true rules true states n v in
       let c = contents-passed true table states n (both .1) in
-      let x = each-read table (entries states) 0 n k (c .each) (omega (arith, entries-count states n (c .sheet))) in
-      (x .0, checked-trees table rules (getD (entries states) k []) (both .0 .0) (both .0 .1) (x .0) (x .1) (x .2))
+      let x = each-read table (entries states) 0 n k (c .each) (omega (arith, entries-count states n (states-sheet table rules states n v))) in
+      (x .0, checked-trees table rules (entryOf states k) (both .0 .0) (both .0 .1) (x .0) (x .1) (rw record-entry (x .2)))
 
   pub state-input : Octets rules → Octets states
-      → (t : Term) × Input table rules (getD (entries states) k []) (rulesOf table (entries rules)) t
-      × (answerOf table rules (getD (entries states) k []) allowance 96 ≡ told (tryRules table (rulesOf table (entries rules)) t allowance))
+      → (t : Term) × Input table rules (entryOf states k) (rulesOf table (entries rules)) t
+      × (answerOf table rules (entryOf states k) allowance 96 ≡ told (tryRules table (rulesOf table (entries rules)) t allowance))
   unfolding answerOf
   state-input ro so =
-      let c = state-checked in (
+      let c = state-checked in
+      let octets : Octets (entryOf states k) = rw record-entry (entries-octets states so k) in (
         c .0,
-        checked-input table rules (getD (entries states) k []) 96 ro (entries-octets states so k) (rulesOf table (entries rules)) (c .0) (c .1) .1,
+        checked-input table rules (entryOf states k) 96 ro octets (rulesOf table (entries rules)) (c .0) (c .1) .1,
         ap (λ (y : Inputs). answerBy y table allowance) (c .1),
       )
 
--- matching without the checks answers as with them
-pub matched-answers : (table rules states : List ℕ) (k : ℕ) → Octets rules → Octets states → (part before : List ℕ) → part ≡ partAt states k → 96 ≤ length before
-    → (a : RuleAnswer) (after : List ℕ) → Matched table rules part before allowance a after → Answers table rules states k a
-unfolding Answers
-matched-answers table rules states k ro so part before is-part wide a after matched n v h =
-    let x = state-input table rules states n k v h ro so in
-    let there : Matched table rules (getD (entries states) k []) before allowance a after = rw (← record-part table rules states n k v h, ← is-part) matched in
-    there .answered wide (rulesOf table (entries rules)) (x .0) (x .1) .0 ∙ sym (x .2)
+  -- matching without the checks answers as with them
+  pub matched-answer : Octets rules → Octets states → (part before : List ℕ) → part ≡ partAt states k → 96 ≤ length before → (a : RuleAnswer) (after : List ℕ)
+      → Matched table rules part before allowance a after → a ≡ answerOf table rules (entryOf states k) allowance 96
+  matched-answer ro so part before is-part wide a after matched =
+      let x = state-input ro so in
+      let there : Matched table rules (entryOf states k) before allowance a after = rw (← part-is-entry states n k (states-sheet table rules states n v) h, ← is-part) matched in
+      there .answered wide (rulesOf table (entries rules)) (x .0) (x .1) .0 ∙ sym (x .2)

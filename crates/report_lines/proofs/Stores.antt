@@ -1,5 +1,5 @@
 -- Fields stored one after the other.
-use Prim.Native.Nat.{ℕ, _+_, _≤_}
+use Prim.Native.Nat.{ℕ, _+_}
 use native.Mathlib.Omega.{arith}
 use mathlib.Core.Path.{_≡_, sym}
 use mathlib.Core.List.{List, [], _∷_, _++_}
@@ -15,7 +15,7 @@ field-stored l at text end i e = rw e (sym (sets-append l at text (end ∷ [])))
 field-length : (text : List ℕ) (end : ℕ) → length (field text end) ≡ length text + 1
 field-length text end = length-append text (end ∷ [])
 
-line-length : (a b c d : List ℕ) → length (line a b c d) ≡ length a + length b + length c + length d + 4
+pub line-length : (a b c d : List ℕ) → length (line a b c d) ≡ length a + length b + length c + length d + 4
 unfolding line
 line-length a b c d = simp length-append (omega arith)
 
@@ -41,6 +41,9 @@ module _ (l o p q r : List ℕ) (at second third fourth end : ℕ) (a b c d : Li
       let e : fourth ≡ at + length (field a 32 ++ field b 32 ++ field c 32) = simp length-append (omega arith) in
       rw (fourth-put, three-put, e) (sym (sets-append l at (field a 32 ++ field b 32 ++ field c 32) (field d 10)))
 
-  pub line-put : (most : ℕ) → length a + length b + length c + length d + 4 ≤ most
-      → (r ≡ sets l at (line a b c d)) × ((end ≡ at + length (line a b c d)) × (end ≤ at + most))
-  line-put most h = (line-stored, (omega (arith, line-length a b c d), omega arith))
+  pub line-put : (r ≡ sets l at (line a b c d)) × (end ≡ at + length (line a b c d))
+  line-put = (line-stored, omega (arith, line-length a b c d))
+
+-- what is put under one name is put under another
+pub put-as : (l o : List ℕ) (at end : ℕ) (x y : List ℕ) → x ≡ y → (o ≡ sets l at x) × (end ≡ at + length x) → (o ≡ sets l at y) × (end ≡ at + length y)
+put-as l o at end x y e p = rw (← e) p

@@ -1,7 +1,7 @@
 -- The checks of the files, one by one.
 use Prim.Native.Nat.{ℕ}
 use native.Mathlib.Omega.{arith}
-use mathlib.Core.Path.{_≡_, refl}
+use mathlib.Core.Path.{_≡_, refl, ap, _∙_}
 use mathlib.Core.List.{List}
 use mathlib.Core.Bool.{Bool, true, false}
 use Rattle.term.specs.Table.{tableAccepted}
@@ -10,7 +10,8 @@ use Rattle.term.specs.declared.Refusal.the-variants.{Unread}
 use Rattle.sheet.specs.Contents.{checkContents, checkRules, checkStates}
 use Rattle.sheet.specs.declared.Checked.{Checked}
 use Rattle.sheet.specs.declared.Checked.the-variants.{Accepted}
-use Rattle.report_lines.specs.Verdict.{readable, verdict}
+use Rattle.report_lines.specs.Verdict.{readable, verdict, AllAccepted}
+use Rattle.report_lines.specs.Report.{reportBy, report}
 use Rattle.report_lines.specs.declared.File.{File}
 use Rattle.report_lines.specs.declared.File.the-variants.{Rules, States}
 use Rattle.report_lines.specs.declared.Verdict.{Verdict}
@@ -56,15 +57,34 @@ module _ (tableRead : Bool) (table : List ℕ) (rulesRead : Bool) (rules : List 
         unfolding verdict
         all-accepted n e = rw (a, t, p, e)
 
--- accepted files pass the checks of both sheets
-pub lines-accepted : (table rules states : List ℕ) (n : ℕ) → verdict true table true rules true states ≡ Lines n
-    → ((m : ℕ) × (checkRules table rules ≡ Accepted m)) × (checkStates table states ≡ Accepted n)
-unfolding verdict readable
-lines-accepted table rules states n v = go (tableAccepted table) refl (checkRules table rules) refl (checkStates table states) refl
+-- files that have lines are accepted and could be read
+
+file-accepted : (read : Bool) (checks : Checked) (n : ℕ) → readable read checks ≡ Accepted n → (read ≡ true) × (checks ≡ Accepted n)
+unfolding readable
+file-accepted true checks n e = (refl, e)
+file-accepted false checks n e = let z : _≡_ {A = ℕ} 0 1 = cc in absurd (omega arith)
+
+pub lines-accepted : (tableRead : Bool) (table : List ℕ) (rulesRead : Bool) (rules : List ℕ) (statesRead : Bool) (states : List ℕ) (n : ℕ)
+    → verdict tableRead table rulesRead rules statesRead states ≡ Lines n
+    → ((m : ℕ) × (checkRules table rules ≡ Accepted m)) × (checkStates table states ≡ Accepted n) × AllAccepted table rules states n
+unfolding verdict
+lines-accepted tableRead table rulesRead rules statesRead states n v =
+    go tableRead refl (tableAccepted table) refl (readable rulesRead (checkRules table rules)) refl (readable statesRead (checkStates table states)) refl
   where
-    go : (t : Bool) → tableAccepted table ≡ t → (x : Checked) → checkRules table rules ≡ x → (y : Checked) → checkStates table states ≡ y
-        → ((m : ℕ) × (checkRules table rules ≡ Accepted m)) × (checkStates table states ≡ Accepted n)
-    go false t x e y f = let z : _≡_ {A = ℕ} 0 1 = cc in absurd (omega arith)
-    go true t (Checked.Refused r i) e y f = let z : _≡_ {A = ℕ} 0 1 = cc in absurd (omega arith)
-    go true t (Accepted m) e (Checked.Refused r i) f = let z : _≡_ {A = ℕ} 0 1 = cc in absurd (omega arith)
-    go true t (Accepted m) e (Accepted k) f = ((m, e), cc)
+    go : (a : Bool) → tableRead ≡ a → (t : Bool) → tableAccepted table ≡ t → (x : Checked) → readable rulesRead (checkRules table rules) ≡ x
+        → (y : Checked) → readable statesRead (checkStates table states) ≡ y
+        → ((m : ℕ) × (checkRules table rules ≡ Accepted m)) × (checkStates table states ≡ Accepted n) × AllAccepted table rules states n
+    go false a t b x e y f = let z : _≡_ {A = ℕ} 0 1 = cc in absurd (omega arith)
+    go true a false b x e y f = let z : _≡_ {A = ℕ} 0 1 = cc in absurd (omega arith)
+    go true a true b (Checked.Refused r i) e y f = let z : _≡_ {A = ℕ} 0 1 = cc in absurd (omega arith)
+    go true a true b (Accepted m) e (Checked.Refused r i) f = let z : _≡_ {A = ℕ} 0 1 = cc in absurd (omega arith)
+    go true a true b (Accepted m) e (Accepted k) f =
+        let p = file-accepted rulesRead (checkRules table rules) m e in
+        let q = file-accepted statesRead (checkStates table states) k f in
+        let s : k ≡ n = cc in
+        ((m, p .1), q .1 ∙ ap Accepted s, rw (a, p .0, q .0) at v)
+
+pub report-by : (tableRead : Bool) (table : List ℕ) (rulesRead : Bool) (rules : List ℕ) (statesRead : Bool) (states : List ℕ) (v : Verdict)
+    → verdict tableRead table rulesRead rules statesRead states ≡ v → reportBy v table rules states ≡ report tableRead table rulesRead rules statesRead states
+unfolding report
+report-by tableRead table rulesRead rules statesRead states v e = rw e

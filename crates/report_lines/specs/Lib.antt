@@ -1,4 +1,4 @@
--- The report's text: numbers, lines, the checks of the files, the whole report and its pieces. In document 01's order.
+-- The report's text: numbers, lines, the checks of the files, and the whole report. In document 01's order.
 pub mod Decimal
 pub mod Line
 pub mod Verdict

@@ -1,7 +1,8 @@
 -- The checks of the three files, in their order, 13 before a file's other checks. `true` says that a file could be read.
 use Prim.Native.Nat.{ℕ}
+use mathlib.Core.Path.{_≡_}
 use mathlib.Core.List.{List}
-use mathlib.Core.Bool.{Bool, cond}
+use mathlib.Core.Bool.{Bool, true, cond}
 use Rattle.term.specs.Table.{tableAccepted}
 use Rattle.term.specs.declared.Refusal.{Refusal}
 use Rattle.term.specs.declared.Refusal.the-variants.{Unread}
@@ -31,3 +32,7 @@ verdict tableRead table rulesRead rules statesRead states =
     sheetOf States (readable statesRead (checkStates table states)) (λ n. Lines n)))
     (Verdict.Refused Refusal.Table File.Table 0))
     (Verdict.Refused Unread File.Table 0)
+
+-- files that pass every check, with n states
+abbrev pub AllAccepted : List ℕ → List ℕ → List ℕ → ℕ → Type 0
+AllAccepted table rules states n = verdict true table true rules true states ≡ Lines n

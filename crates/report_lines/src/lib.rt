@@ -3,20 +3,27 @@ use rules::RuleAnswer;
 use sheet::Checked;
 use term::Refusal;
 ghost use mathlib.Core.Path.{_≡_};
-ghost use Prim.Native.Nat.{_+_, _≤_};
+ghost use Prim.Native.Nat.{_+_, _≤_, _<_};
 ghost use lib.ListN.{length};
 ghost use lib.Seq.{sets};
+ghost use Rattle.sheet.specs.Check.{entryCount};
+ghost use Rattle.sheet.specs.Entry.{entryOf};
 ghost use Rattle.sheet.specs.Contents.{checkContents};
-ghost use Rattle.report_lines.specs.Decimal.{decimal};
-ghost use Rattle.report_lines.specs.Line.{field, line, refusedWord, noneWord, dash, answerLine};
-ghost use Rattle.report_lines.specs.Verdict.{readable, verdict};
-ghost use Rattle.report_lines.specs.Report.{lineRoom, Answers, Opened, Piece};
+ghost use Rattle.rules.specs.Call.{answerOf};
+ghost use Rattle.report_lines.specs.Line.{field, line, answerLine, refusalLine};
+ghost use Rattle.report_lines.specs.Verdict.{readable, verdict, AllAccepted};
+ghost use Rattle.report_lines.specs.Report.{allowance, lines, report, reportRoom, front};
 
 // What the rules are allowed on each state.
 const ALLOWANCE: u32 = 100000;
 
-// The room that is kept for a line; the longest has 69 bytes.
-pub const LINE_ROOM: usize = 80;
+// The lines of the longest report, its header among them, and the bytes of the longest line.
+const MOST_LINES: usize = 6554;
+
+const LINE_ROOM: usize = 22;
+
+// The room that every report has its place in.
+pub const REPORT_ROOM: usize = MOST_LINES * LINE_ROOM;
 
 // The files of a report.
 pub enum File {
@@ -27,15 +34,9 @@ pub enum File {
 
 // What the files' checks decide: the number of states, each of which has a line, or a refusal with its file and the index of the entry,
 // 0 where no entry is at fault.
-pub enum Verdict {
+enum Verdict {
     Lines(usize),
     Refused(Refusal, File, usize),
-}
-
-// How far a piece of the report came: the state to go on with, and the bytes that it takes.
-pub struct Filled {
-    pub next: usize,
-    pub size: usize,
 }
 
 // Checks a sheet of records or of patterns: whether its file could be read, then what it holds.
@@ -52,7 +53,7 @@ fn check_file(records: bool, read: bool, table: &[u8], sheet: &[u8]) -> Checked
 }
 
 // Checks the files in order, each with whether it could be read.
-pub fn check_files(
+fn check_files(
     table_read: bool,
     table: &[u8],
     rules_read: bool,
@@ -94,63 +95,53 @@ fn put_field(out: &mut [u8], at: usize, text: &[u8], end: u8) -> usize
     at + i + 1
 }
 
-// Puts a number in decimal and the byte after it, and answers where they end.
-fn put_number(out: &mut [u8], at: usize, n: u64, end: u8) -> usize
-    requires { ⌜ at + 21 ≤ length (now out) ⌝ }
-    ensures { λ _. ⌜ now (out .exit) ≡ sets (now (out .entry)) at (field (decimal n) end) ⌝ }
-    ensures { λ r. ⌜ r ≡ at + length (decimal n) + 1 ⌝ }
-    ensures { λ r. ⌜ r ≤ at + 21 ⌝ }
+// Puts a line of four fields, and answers where it ends.
+fn put_line(
+    out: &mut [u8],
+    at: usize,
+    first: &[u8],
+    second: &[u8],
+    third: &[u8],
+    fourth: &[u8],
+) -> usize
+    requires { ⌜ at + length (line (now first) (now second) (now third) (now fourth)) ≤ length (now out) ⌝ }
+    ensures { λ _. ⌜ now (out .exit) ≡ sets (now (out .entry)) at (line (now (first .entry)) (now (second .entry)) (now (third .entry)) (now (fourth .entry))) ⌝ }
+    ensures { λ r. ⌜ r ≡ at + length (line (now (first .entry)) (now (second .entry)) (now (third .entry)) (now (fourth .entry))) ⌝ }
 {
-    let mut digits = [0u8; 20];
-    let size = io::decimal(n, &mut digits);
-    put_field(out, at, &digits[..size], end)
-}
-
-// Puts the line of a state and rule of these indices, and answers where it ends.
-fn put_rule(out: &mut [u8], at: usize, state: usize, rule: usize, word: &[u8], sum: u64) -> usize
-    requires { ⌜ at + lineRoom ≤ length (now out) ⌝ }
-    requires { ⌜ length (now word) ≤ 5 ⌝ }
-    ensures { λ _. ⌜ now (out .exit) ≡ sets (now (out .entry)) at (line (decimal state) (decimal rule) (now (word .entry)) (decimal sum)) ⌝ }
-    ensures { λ r. ⌜ r ≡ at + length (line (decimal state) (decimal rule) (now (word .entry)) (decimal sum)) ⌝ }
-    ensures { λ r. ⌜ r ≤ at + lineRoom ⌝ }
-{
-    let second = put_number(out, at, state as u64, b' ');
-    let third = put_number(out, second, rule as u64, b' ');
-    let fourth = put_field(out, third, word, b' ');
-    put_number(out, fourth, sum, b'\n')
-}
-
-// Puts the line of a state that no rule matches, and answers where it ends.
-fn put_none(out: &mut [u8], at: usize, state: usize, sum: u64) -> usize
-    requires { ⌜ at + lineRoom ≤ length (now out) ⌝ }
-    ensures { λ _. ⌜ now (out .exit) ≡ sets (now (out .entry)) at (line (decimal state) dash noneWord (decimal sum)) ⌝ }
-    ensures { λ r. ⌜ r ≡ at + length (line (decimal state) dash noneWord (decimal sum)) ⌝ }
-    ensures { λ r. ⌜ r ≤ at + lineRoom ⌝ }
-{
-    let second = put_number(out, at, state as u64, b' ');
-    let third = put_field(out, second, b"-", b' ');
-    let fourth = put_field(out, third, b"none", b' ');
-    put_number(out, fourth, sum, b'\n')
+    let mut end = put_field(out, at, first, b' ');
+    end = put_field(out, end, second, b' ');
+    end = put_field(out, end, third, b' ');
+    put_field(out, end, fourth, b'\n')
 }
 
 // Puts the line of a state by what the rules answer on it, and answers where it ends.
 fn put_answer(out: &mut [u8], at: usize, state: usize, answer: RuleAnswer) -> usize
-    requires { ⌜ at + lineRoom ≤ length (now out) ⌝ }
+    requires { ⌜ at + length (answerLine state answer) ≤ length (now out) ⌝ }
     ensures { λ _. ⌜ now (out .exit) ≡ sets (now (out .entry)) at (answerLine state answer) ⌝ }
     ensures { λ r. ⌜ r ≡ at + length (answerLine state answer) ⌝ }
-    ensures { λ r. ⌜ r ≤ at + lineRoom ⌝ }
 {
+    let mut a = [0u8; 20];
+    let mut b = [0u8; 20];
+    let mut c = [0u8; 20];
+    let a_size = io::decimal(state as u64, &mut a);
+    let b_size = io::decimal(answer.index() as u64, &mut b);
+    let c_size = io::decimal(answer.count(), &mut c);
+    let index = &a[..a_size];
+    let rule = &b[..b_size];
+    let sum = &c[..c_size];
     match answer {
-        RuleAnswer::Bound(rule, sum) => put_rule(out, at, state, rule, b"bound", sum),
-        RuleAnswer::None(sum) => put_none(out, at, state, sum),
-        RuleAnswer::Spent(rule, sum) => put_rule(out, at, state, rule, b"spent", sum),
+        RuleAnswer::Bound(_, _) => put_line(out, at, index, rule, b"bound", sum),
+        RuleAnswer::None(_) => put_line(out, at, index, b"-", b"none", sum),
+        RuleAnswer::Spent(_, _) => put_line(out, at, index, rule, b"spent", sum),
         RuleAnswer::Refused(_, _) => at,
     }
 }
 
-// What the rules answer on the state of an index, in sheets that were checked before.
+// What the rules answer on the state of an index, in files that were checked before.
 fn match_state(table: &[u8], rules: &[u8], states: &[u8], state: usize) -> RuleAnswer
-    ensures { λ r. ⌜ Answers (now (table .entry)) (now (rules .entry)) (now (states .entry)) state r ⌝ }
+    requires { ⌜ AllAccepted (now table) (now rules) (now states) (entryCount (now states)) ⌝ }
+    requires { ⌜ state < entryCount (now states) ⌝ }
+    ensures { λ r. ⌜ r ≡ answerOf (now (table .entry)) (now (rules .entry)) (entryOf (now (states .entry)) state) allowance 96 ⌝ }
 {
     let mut answer = [0u16; 96];
     rules::match_rules_checked(
@@ -162,58 +153,58 @@ fn match_state(table: &[u8], rules: &[u8], states: &[u8], state: usize) -> RuleA
     )
 }
 
-// Puts the lines of the states from an index on to the front of the output, as long as there is room for a further line. The files are
-// not checked again.
-pub fn fill(table: &[u8], rules: &[u8], states: &[u8], first: usize, out: &mut [u8]) -> Filled
-    ensures { λ r. ⌜ Piece (now (table .entry)) (now (rules .entry)) (now (states .entry)) (now (out .entry)) first (r .next) (r .size) (now (out .exit)) ⌝ }
+// Puts the report on n states, of files that were checked before, and answers its length.
+fn put_lines(table: &[u8], rules: &[u8], states: &[u8], n: usize, out: &mut [u8]) -> usize
+    requires { ⌜ AllAccepted (now table) (now rules) (now states) n ⌝ }
+    requires { ⌜ reportRoom ≤ length (now out) ⌝ }
+    ensures { λ _. ⌜ now (out .exit) ≡ sets (now (out .entry)) 0 (lines (now (table .entry)) (now (rules .entry)) (now (states .entry))) ⌝ }
+    ensures { λ r. ⌜ r ≡ length (lines (now (table .entry)) (now (rules .entry)) (now (states .entry))) ⌝ }
 {
-    let n = sheet::count(states) as usize;
-    let mut state = first;
-    let mut at: usize = 0;
+    let mut at = put_field(out, 0, b"state rule word count", b'\n');
+    let mut state: usize = 0;
     while state < n {
-        if out.len() - at < LINE_ROOM {
-            return Filled {
-                next: state,
-                size: at,
-            };
-        }
         let answer = match_state(table, rules, states, state);
         at = put_answer(out, at, state, answer);
         state = state + 1;
     }
-    Filled {
-        next: state,
-        size: at,
+    at
+}
+
+// Puts the line of a refusal, and answers its length.
+fn put_refusal(out: &mut [u8], refusal: Refusal, file: File, index: usize) -> usize
+    requires { ⌜ length (refusalLine refusal file index) ≤ length (now out) ⌝ }
+    ensures { λ _. ⌜ now (out .exit) ≡ sets (now (out .entry)) 0 (refusalLine refusal file index) ⌝ }
+    ensures { λ r. ⌜ r ≡ length (refusalLine refusal file index) ⌝ }
+{
+    let mut a = [0u8; 20];
+    let mut b = [0u8; 20];
+    let a_size = io::decimal(refusal.number() as u64, &mut a);
+    let b_size = io::decimal(index as u64, &mut b);
+    let number = &a[..a_size];
+    let entry = &b[..b_size];
+    match file {
+        File::Table => put_line(out, 0, b"refused", number, b"table", entry),
+        File::Rules => put_line(out, 0, b"refused", number, b"rules", entry),
+        File::States => put_line(out, 0, b"refused", number, b"states", entry),
     }
 }
 
-// Puts the line of a refusal to the front of the output, and answers where it ends.
-fn put_refusal(out: &mut [u8], number: u8, file: &[u8], index: usize) -> usize
-    requires { ⌜ lineRoom ≤ length (now out) ⌝ }
-    requires { ⌜ length (now file) ≤ 6 ⌝ }
-    ensures { λ _. ⌜ now (out .exit) ≡ sets (now (out .entry)) 0 (line refusedWord (decimal number) (now (file .entry)) (decimal index)) ⌝ }
-    ensures { λ r. ⌜ r ≡ length (line refusedWord (decimal number) (now (file .entry)) (decimal index)) ⌝ }
-    ensures { λ r. ⌜ r ≤ lineRoom ⌝ }
+// Puts the report on the bytes of three files, each with whether it could be read, to the front of the output, and answers its length.
+pub fn put_report(
+    table_read: bool,
+    table: &[u8],
+    rules_read: bool,
+    rules: &[u8],
+    states_read: bool,
+    states: &[u8],
+    out: &mut [u8; REPORT_ROOM],
+) -> usize
+    ensures size { λ r. ⌜ r ≡ length (report «table_read» (now (table .entry)) «rules_read» (now (rules .entry)) «states_read» (now (states .entry))) ⌝ }
+    ensures contents { λ _. ⌜ now (out .exit) ≡ front (report «table_read» (now (table .entry)) «rules_read» (now (rules .entry)) «states_read» (now (states .entry))) (now (out .entry)) ⌝ }
 {
-    let second = put_field(out, 0, b"refused", b' ');
-    let third = put_number(out, second, number as u64, b' ');
-    let fourth = put_field(out, third, file, b' ');
-    put_number(out, fourth, index as u64, b'\n')
-}
-
-// Puts the first line of the report to the front of the output, and answers its length: the header, or a refusal, which is then all.
-pub fn start(verdict: Verdict, out: &mut [u8]) -> usize
-    ensures { λ r. ⌜ Opened verdict (now (out .entry)) r (now (out .exit)) ⌝ }
-{
-    if out.len() < LINE_ROOM {
-        return 0;
-    }
+    let verdict = check_files(table_read, table, rules_read, rules, states_read, states);
     match verdict {
-        Verdict::Lines(_) => put_field(out, 0, b"state rule word count", b'\n'),
-        Verdict::Refused(r, file, i) => match file {
-            File::Table => put_refusal(out, r.number(), b"table", i),
-            File::Rules => put_refusal(out, r.number(), b"rules", i),
-            File::States => put_refusal(out, r.number(), b"states", i),
-        },
+        Verdict::Lines(n) => put_lines(table, rules, states, n, out),
+        Verdict::Refused(r, file, i) => put_refusal(out, r, file, i),
     }
 }

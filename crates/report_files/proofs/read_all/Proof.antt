@@ -1,4 +1,4 @@
--- `report_files::read_all` is safe and ends: each turn reads at least one byte of the room that is left.
+-- `report_files::read_all` meets its contract. The invariant: what was read has room. Each turn reads at least one byte of the room that is left.
 use Prim.Native.Nat.{_≤_, _-_}
 use mathlib.Core.Path.{_≡_}
 use lib.ListN.{length}
@@ -7,10 +7,10 @@ use Rattle.report_files.proofs.read_all.Statement.{statement}
 use Rattle.report_files.proofs.read_all.Tie as tie
 
 abbrev Inv-loop : tie.InvT-loop
-Inv-loop fd buffer₀ size₀ buffer size = (size ≤ length buffer) × (length buffer ≡ length buffer₀)
+Inv-loop file fd buffer₀ size₀ buffer size = (size ≤ length buffer) × (length buffer ≡ length buffer₀)
 
 abbrev μ-loop : tie.MeasureT-loop
-μ-loop fd buffer₀ size₀ buffer size = length buffer₀ - size
+μ-loop file fd buffer₀ size₀ buffer size = length buffer₀ - size
 
 loop-holds : tie.Need-loop-holds Inv-loop μ-loop
 loop-holds c = search needs

@@ -1,6 +1,6 @@
 -- `report_lines::check_file` meets its contract.
-use Rattle.report_lines.proofs.Verdicts.{file-unread, file-read}
 use borrow.Author.Tests.{not-true, not-false}
+use Rattle.report_lines.proofs.Verdicts.{file-unread, file-read}
 use borrow.Author.Needs.{needs}
 use Rattle.report_lines.proofs.check_file.Statement.{statement}
 use Rattle.report_lines.proofs.check_file.Tie as tie

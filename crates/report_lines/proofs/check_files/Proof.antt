@@ -1,7 +1,7 @@
 -- `report_lines::check_files` meets its contract.
 use mathlib.Core.Path.{sym, _∙_}
-use Rattle.report_lines.proofs.Verdicts.{table-unread, table-refused, rules-refused, states-refused, all-accepted}
 use borrow.Author.Tests.{not-true, not-false}
+use Rattle.report_lines.proofs.Verdicts.{table-unread, table-refused, rules-refused, states-refused, all-accepted}
 use borrow.Author.Needs.{needs}
 use Rattle.report_lines.proofs.check_files.Statement.{statement}
 use Rattle.report_lines.proofs.check_files.Tie as tie

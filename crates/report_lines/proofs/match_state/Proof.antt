@@ -1,6 +1,6 @@
 -- `report_lines::match_state` meets its contract.
 use native.Mathlib.Omega.{arith}
-use Rattle.report_lines.proofs.States.{matched-answers}
+use Rattle.report_lines.proofs.States.{matched-answer}
 use borrow.Author.Needs.{needs}
 use Rattle.report_lines.proofs.match_state.Statement.{statement}
 use Rattle.report_lines.proofs.match_state.Tie as tie
@@ -15,9 +15,8 @@ match-rules-checked-requires : tie.Need-match-rules-checked-requires
 match-rules-checked-requires c κs = search needs
 
 returns : tie.Need-returns
-returns c =
-    let args = c .before .before .before .before .before .before .before .args in
-    matched-answers (args .table .now) (args .rules .now) (args .states .now) (args .state)
+returns c = let args = c .before .before .before .before .before .before .before .args in
+    matched-answer (args .table .now) (args .rules .now) (args .states .now) _ (args .state) (c .before .before .before .before .before .before .before .pre .0) (c .before .before .before .before .before .before .before .pre .1)
     (λ i. omega (arith, c .before .before .before .before .before .shared-slice-known2 .given i)) (λ i. omega (arith, c .before .before .before .before .shared-slice-known3 .given i))
     _ _ (c .before .before .before .part-at .ensures .0) (omega arith) _ _ (c .before .match-rules-checked .ensures)
 

@@ -1,0 +1,2 @@
+-- The laws of the files of a report.
+pub mod Rooms
