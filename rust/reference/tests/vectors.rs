@@ -1,49 +1,86 @@
-//! Runs the vectors of `crates/matches` and compares each line of outcome.
-//! `QONVESHIR_VECTORS` names another folder with `data/matches.txt` and `stdout`.
+//! Runs the vectors of `crates/vectors` that are one of the library's six calls, and compares what
+//! is answered with the outcome that the line states. `QONVESHIR_VECTORS` names another folder.
 
-use interface::{Library, Word, NAMES, RUNS};
+use interface::{Library, Outcome, Word, ANSWER, NAMES, RUNS};
 use reference::Reference;
-use std::{env, fs, path::PathBuf};
+use std::{collections::BTreeMap, env, fs, path::PathBuf};
+
+const FILES: [&str; 3] = ["matches.txt", "rules.txt", "sheets.txt"];
 
 #[test]
 fn every_vector_has_its_outcome() {
     let folder = env::var_os("QONVESHIR_VECTORS").map_or_else(
-        || PathBuf::from(env!("CARGO_MANIFEST_DIR")).join("../../crates/matches"),
+        || PathBuf::from(env!("CARGO_MANIFEST_DIR")).join("../../crates/vectors/data"),
         PathBuf::from,
     );
-    let read = |name: &str| {
+    let mut run = BTreeMap::new();
+    for name in FILES {
         let path = folder.join(name);
-        fs::read_to_string(&path).unwrap_or_else(|error| panic!("{}: {error}", path.display()))
-    };
-    let (vectors, stdout) = (read("data/matches.txt"), read("stdout"));
-    let vectors = vectors.lines().filter(|line| !line.is_empty() && !line.starts_with('#'));
-    let shown: Vec<String> = vectors.map(outcome).collect();
-    let expected: Vec<&str> = stdout.lines().collect();
-    assert!(shown.len() >= 800, "only {} vectors", shown.len());
-    assert_eq!(shown, expected);
+        let text = fs::read_to_string(&path).unwrap_or_else(|e| panic!("{}: {e}", path.display()));
+        for line in text.lines().filter(|line| !line.is_empty() && !line.starts_with('#')) {
+            let (call, stated) = line.split_once(" = ").expect(line);
+            let words: Vec<&str> = call.split(' ').collect();
+            if let Some(answered) = outcome(words[1], &words[2..], stated) {
+                assert_eq!(answered, stated, "{line}");
+                *run.entry(words[1].to_string()).or_insert(0) += 1;
+            }
+        }
+    }
+    let calls =
+        ["check_rules", "check_states", "match_one", "match_rules", "place_of", "write_sheet"];
+    assert!(run.keys().eq(calls), "calls that were run: {run:?}");
+    assert!(run["match_one"] >= 800, "only {} matches", run["match_one"]);
 }
 
-/// The line of outcome that belongs to a vector.
-fn outcome(vector: &str) -> String {
-    let fields: Vec<&str> = vector.split(' ').collect();
-    let &[label, width, table, pattern, record, allowance] = &fields[..] else {
-        panic!("{vector}: six fields are expected");
-    };
-    let before: Vec<u16> = (0..width.parse().unwrap()).map(|i| 1_000 + i).collect();
+/// What is answered, as a line states it, or nothing where it is none of the six calls.
+fn outcome(call: &str, fields: &[&str], stated: &str) -> Option<String> {
+    Some(match (call, fields) {
+        ("match_one", [table, pattern, record, allowance, width]) => {
+            let [table, pattern, record] = [table, pattern, record].map(|text| bytes(text));
+            let find = |answer: &mut [u16]| {
+                Reference.match_one(&table, &pattern, &record, number(allowance), answer)
+            };
+            matched(number(width), false, find)
+        }
+        ("match_rules", [table, rules, record, allowance, width]) => {
+            let [table, rules, record] = [table, rules, record].map(|text| bytes(text));
+            let find = |answer: &mut [u16]| {
+                Reference.match_rules(&table, &rules, &record, number(allowance), answer)
+            };
+            matched(number(width), true, find)
+        }
+        ("check_rules", [table, sheet]) => {
+            checked(&bytes(sheet), |sheet| Reference.check_rules(&bytes(table), sheet))
+        }
+        ("check_states", [table, sheet]) => {
+            checked(&bytes(sheet), |sheet| Reference.check_states(&bytes(table), sheet))
+        }
+        ("place_of", [sheet, index]) => {
+            let part = Reference.entry(&bytes(sheet), number(index));
+            match part.number {
+                0 => format!("at {} {}", part.offset, part.length),
+                number => format!("refused {number}"),
+            }
+        }
+        ("write_sheet", [table, records, lengths, room]) => {
+            written(&bytes(table), &bytes(records), &list(lengths), number(room), stated)
+        }
+        _ => return None,
+    })
+}
+
+/// The outcome of a match with a buffer of so many numbers; that of a rule sheet shows an index.
+fn matched(width: u32, rules: bool, find: impl Fn(&mut [u16]) -> Outcome) -> String {
+    let before: Vec<u16> = (0..width as u16).map(|i| 1_000 + i).collect();
     let mut answer = before.clone();
-    let outcome = Reference.match_one(
-        &bytes(table),
-        &bytes(pattern),
-        &bytes(record),
-        allowance.parse().unwrap(),
-        &mut answer,
-    );
-    let written = if outcome.number == 0 { 96 } else { 0 };
-    assert_eq!(answer[written..], before[written..], "{label}: numbers that must stay");
+    let outcome = find(&mut answer);
+    let written = if outcome.number == 0 { ANSWER } else { 0 };
+    assert_eq!(answer[written..], before[written..], "numbers that must stay");
+    let index = if rules { format!(" {}", outcome.index) } else { String::new() };
     match outcome.word().unwrap() {
-        Word::Bound => format!("{label} bound {}{}", outcome.count, parts(&answer)),
-        word @ (Word::None | Word::Spent) => format!("{label} {} {}", word.text(), outcome.count),
-        word => format!("{label} refused {}", word.number()),
+        Word::Bound => format!("bound{index} {}{}", outcome.count, parts(&answer)),
+        word @ (Word::None | Word::Spent) => format!("{}{index} {}", word.text(), outcome.count),
+        word => format!("refused {}{index}", word.number()),
     }
 }
 
@@ -54,18 +91,69 @@ fn parts(answer: &[u16]) -> String {
     pairs.map(|(pair, mark)| format!(" {mark}={}+{}", pair[0], pair[1])).collect()
 }
 
-/// Bytes in hexadecimal, `-` for none, `00(237)` for 237 bytes of 00.
+/// The outcome of a check. The number of entries, which the call doesn't show, is the sheet's own.
+fn checked(sheet: &[u8], check: impl Fn(&[u8]) -> Outcome) -> String {
+    let outcome = check(sheet);
+    match outcome.number {
+        0 => format!("accepted {}", u16::from_le_bytes([sheet[0], sheet[1]])),
+        number => format!("refused {number} {}", outcome.index),
+    }
+}
+
+/// The outcome of a writing. The sheet is shown as stated where that stands for it.
+fn written(table: &[u8], records: &[u8], lengths: &[u16], room: u32, stated: &str) -> String {
+    let before = vec![250; room as usize];
+    let mut output = before.clone();
+    let outcome = Reference.write_sheet(table, records, lengths, &mut output);
+    let size = outcome.count as usize;
+    assert_eq!(output[size..], before[size..], "bytes that must stay");
+    if outcome.number != 0 {
+        return format!("refused {} {}", outcome.number, outcome.index);
+    }
+    let sheet = stated.rsplit(' ').next().unwrap();
+    let same = stated.starts_with("written") && bytes(sheet) == output[..size];
+    format!("written {size} {}", if same { sheet } else { "another sheet" })
+}
+
+fn number(text: &str) -> u32 {
+    text.parse().expect(text)
+}
+
+/// Bytes in hexadecimal, `-` for none; `00(237)` is 237 bytes of 00, and `[258,1,64]` the pairs of
+/// 64 entries of one byte, the first at offset 258.
 fn bytes(text: &str) -> Vec<u8> {
     let mut bytes = Vec::new();
     let mut rest = if text == "-" { "" } else { text };
     while !rest.is_empty() {
-        bytes.push(u8::from_str_radix(&rest[..2], 16).unwrap());
-        rest = &rest[2..];
-        if let Some((times, later)) = rest.strip_prefix('(').and_then(|r| r.split_once(')')) {
-            let last = bytes[bytes.len() - 1];
-            bytes.extend((1..times.parse().unwrap()).map(|_| last));
+        if let Some((pairs, later)) = rest.strip_prefix('[').and_then(|r| r.split_once(']')) {
+            let [offset, length, times] = list(pairs)[..] else { panic!("{text}") };
+            for i in 0..times {
+                bytes.extend((offset + i * length).to_le_bytes());
+                bytes.extend(length.to_le_bytes());
+            }
             rest = later;
+            continue;
         }
+        let byte = u8::from_str_radix(&rest[..2], 16).expect(text);
+        let (times, later) = repeated(&rest[2..]);
+        bytes.extend((0..times).map(|_| byte));
+        rest = later;
     }
     bytes
+}
+
+/// A list of numbers, `-` for none; `1(63),2` is 63 times 1, then 2.
+fn list(text: &str) -> Vec<u16> {
+    let items = text.split(',').filter(|item| *item != "-");
+    let times = |item: &str| repeated(&item[item.find('(').unwrap_or(item.len())..]).0;
+    let value = |item: &str| item.split('(').next().unwrap().parse().expect(text);
+    items.flat_map(|item| (0..times(item)).map(move |_| value(item))).collect()
+}
+
+/// The number in brackets at the start of a text, or 1, and what comes after it.
+fn repeated(text: &str) -> (usize, &str) {
+    match text.strip_prefix('(').and_then(|rest| rest.split_once(')')) {
+        Some((times, later)) => (times.parse().expect(text), later),
+        None => (1, text),
+    }
 }
