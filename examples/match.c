@@ -1,28 +1,52 @@
-/* Matches one rule against one state from C.
+/* Matches one rule against one state from C, and another up to class.
 
    cc -Iinclude examples/match.c target/staticlib/libqonveshir.a -o target/match && target/match */
 
 #include "qonveshir.h"
 #include <stdio.h>
 
-int main(void) {
-  /* open, shut, held, gate (1 child), row (2 children), gates (a list) */
-  static const uint8_t table[] = {0, 0, 0, 1, 2, 255};
-  static const uint8_t rule[] = {5, 3, 232, 248, 0, 233};  /* gates(@0, !open, @1) */
-  static const uint8_t state[] = {5, 2, 0, 1};             /* gates(open, shut) */
-  uint16_t answer[QONVESHIR_ANSWER];
+/* open, shut, held, gate (1 child), row (2 children), gates (a list), stopped */
+static const uint8_t table[] = {0, 0, 0, 1, 2, 255, 0};
+/* stopped means held; every other symbol is its own class */
+static const uint8_t classes[] = {0, 1, 2, 3, 4, 5, 2};
 
-  qonveshir_outcome found =
-      qonveshir_match(table, sizeof table, rule, sizeof rule, state, sizeof state, 100000,
-                      answer, QONVESHIR_ANSWER);
-  printf("number %u, count %llu\n", found.number, (unsigned long long)found.count);
-  if (found.number != QONVESHIR_DONE) return 1;
-
+/* Prints the outcome and, if it is bound, what the names and run names stand for. */
+static void show(const char *what, qonveshir_outcome found, const uint16_t *answer) {
+  printf("%s: number %u, count %llu\n", what, found.number, (unsigned long long)found.count);
+  if (found.number != QONVESHIR_DONE) return;
   /* The pairs of @0 to @15 follow those of ?0 to ?31. */
-  for (int i = 0; i < 48; i++) {
+  for (int i = 0; i < QONVESHIR_ANSWER / 2; i++) {
     if (answer[2 * i] == QONVESHIR_ABSENT) continue;
     printf("%c%d: offset %u, length %u\n", i < 32 ? '?' : '@', i < 32 ? i : i - 32,
            answer[2 * i], answer[2 * i + 1]);
   }
-  return found.count == 10 && answer[64] == 2 && answer[65] == 1 && answer[66] == 4 ? 0 : 1;
+}
+
+int main(void) {
+  uint16_t answer[QONVESHIR_ANSWER];
+
+  static const uint8_t gates_rule[] = {5, 3, 232, 248, 0, 233};  /* gates(@0, !open, @1) */
+  static const uint8_t gates[] = {5, 2, 0, 1};                   /* gates(open, shut) */
+  show("gates",
+       qonveshir_match(table, sizeof table, gates_rule, sizeof gates_rule, gates, sizeof gates,
+                       100000, answer, QONVESHIR_ANSWER),
+       answer);
+
+  static const uint8_t row_rule[] = {4, 200, 200};  /* row(?0, ?0) */
+  static const uint8_t row[] = {4, 6, 2};           /* row(stopped, held) */
+  show("row",
+       qonveshir_match(table, sizeof table, row_rule, sizeof row_rule, row, sizeof row, 100000,
+                       answer, QONVESHIR_ANSWER),
+       answer);
+  show("row up to class",
+       qonveshir_match_with_classes(table, sizeof table, classes, sizeof classes, row_rule,
+                                    sizeof row_rule, row, sizeof row, 100000, answer,
+                                    QONVESHIR_ANSWER),
+       answer);
+  show("row with a class list that is too short",
+       qonveshir_match_with_classes(table, sizeof table, classes, sizeof classes - 1, row_rule,
+                                    sizeof row_rule, row, sizeof row, 100000, answer,
+                                    QONVESHIR_ANSWER),
+       answer);
+  return 0;
 }

@@ -1,6 +1,6 @@
 /* qonveshir: matches rules (patterns with names, run names and complements)
    against states (records of one term), and reads and writes sheets of either.
-   Formats, meaning and numbers are those of document 01.
+   Formats, meaning and numbers are those of documents 01 and 02.
 
    Link with target/staticlib/libqonveshir.a (x86-64 Linux), which
    `rt staticlib qonveshir` builds. The calls keep no state, take no memory
@@ -9,10 +9,8 @@
    Every buffer is a pointer and its length in elements (not in bytes). A
    pointer must not be null, even where its length is 0, and the buffer that a
    call writes must not overlap one that it reads. Any contents are allowed:
-   what breaks a rule is refused by its number.
-
-   Limits: table 200 bytes, pattern 256 bytes, record 4,096 bytes, sheet 32,768
-   bytes, rule sheet 64 patterns, nesting 32. */
+   what breaks a rule is refused by its number. Where a call has several checks,
+   the first that fails gives the number; they are listed in their order. */
 #ifndef QONVESHIR_H
 #define QONVESHIR_H
 
@@ -23,7 +21,7 @@
 extern "C" {
 #endif
 
-/* The numbers of document 01. 13, unread, belongs to the report program. */
+/* The numbers. 13, unread, belongs to the report program. */
 enum {
   QONVESHIR_DONE = 0,       /* bound, written or accepted */
   QONVESHIR_TABLE = 1,      /* over 200 bytes, or a byte neither 0 to 8 nor 255 */
@@ -37,8 +35,18 @@ enum {
   QONVESHIR_DIRECTORY = 9,  /* a sheet breaks its rules, or no such entry */
   QONVESHIR_NONE = 10,      /* no assignment satisfies the pattern */
   QONVESHIR_SPENT = 11,     /* the count is over the allowance */
-  QONVESHIR_FULL = 12       /* output too short for the sheet */
+  QONVESHIR_FULL = 12,      /* output too short for the sheet */
+  QONVESHIR_CLASS = 14      /* a class list breaks its rules, see below */
 };
+
+/* Limits, in bytes; of a rule sheet in patterns, of nesting in nodes from the
+   root to a node, both counted. */
+#define QONVESHIR_TABLE_LIMIT 200
+#define QONVESHIR_PATTERN_LIMIT 256
+#define QONVESHIR_RECORD_LIMIT 4096
+#define QONVESHIR_SHEET_LIMIT 32768
+#define QONVESHIR_RULES_LIMIT 64
+#define QONVESHIR_NESTING_LIMIT 32
 
 /* Numbers that an answer holds: offset and length of ?0 to ?31, then of @0 to
    @15, in the record's bytes. */
@@ -46,7 +54,7 @@ enum {
 /* Offset of a name that is not free in the pattern; its length is 0. */
 #define QONVESHIR_ABSENT 65535
 
-/* number: 0 bound, written or accepted; else document 01's number.
+/* number: 0 bound, written or accepted; else another of the numbers above.
    index: the rule shown or the entry at fault, else 0.
    count: bound, none, spent: the count or sum; written: the sheet's length; else 0. */
 typedef struct { uint32_t number; uint32_t index; uint64_t count; } qonveshir_outcome;
@@ -65,6 +73,27 @@ qonveshir_outcome qonveshir_match(const uint8_t *table, size_t table_length,
                                   uint32_t allowance,
                                   uint16_t *answer, size_t answer_length);
 
+/* The same up to class: symbols of one class count as the same wherever a
+   symbol or two parts are compared. A list's number of children is no symbol
+   and is compared as it is. The answer shows what stands at each name's first
+   place.
+
+   The class list is as long as the table. Its entry for a symbol, the symbol's
+   class, is the lowest symbol of the same meaning. Refused with 14: another
+   length (an empty list too, unless the table is empty), an entry above its own
+   index, an entry that is not its own class, or one with another byte in the
+   table than its symbol. With each symbol its own class the call does what
+   qonveshir_match does.
+
+   Checks: 8, 1, 14, the pattern, the record; the last two by the table alone.
+   14 shows index 0 and count 0. */
+qonveshir_outcome qonveshir_match_with_classes(const uint8_t *table, size_t table_length,
+                                               const uint8_t *classes, size_t classes_length,
+                                               const uint8_t *pattern, size_t pattern_length,
+                                               const uint8_t *record, size_t record_length,
+                                               uint32_t allowance,
+                                               uint16_t *answer, size_t answer_length);
+
 /* Tries the rules of a sheet in order, each with the whole allowance, up to the
    first that is bound or spent, whose index is shown. The count is the sum so
    far; a spent rule adds the allowance to it. The answer is written as by
@@ -75,6 +104,16 @@ qonveshir_outcome qonveshir_match_rules(const uint8_t *table, size_t table_lengt
                                         const uint8_t *record, size_t record_length,
                                         uint32_t allowance,
                                         uint16_t *answer, size_t answer_length);
+
+/* The same up to class, with a class list as for qonveshir_match_with_classes.
+   Checks: 8, 1, 14 (index 0), 6 of the sheet, 9, 6 of 64 rules, each pattern
+   (its index is shown), the record (index 0). */
+qonveshir_outcome qonveshir_match_rules_with_classes(const uint8_t *table, size_t table_length,
+                                                     const uint8_t *classes, size_t classes_length,
+                                                     const uint8_t *rules, size_t rules_length,
+                                                     const uint8_t *record, size_t record_length,
+                                                     uint32_t allowance,
+                                                     uint16_t *answer, size_t answer_length);
 
 /* Writes a sheet of joined records, whose lengths are given, and shows the
    sheet's length as the count. Output past that stays; a refusal leaves all of

@@ -19,6 +19,7 @@ fn main() {
     match (fs::read(&library), library.canonicalize()) {
         (Ok(bytes), Ok(path)) => {
             println!("cargo::rustc-env=QONVESHIR_LIBRARY={}", path.display());
+            println!("cargo::metadata=archive={}", path.display());
             println!("cargo::rustc-env=QONVESHIR_SUM={:016x}", sum::sum(&bytes));
             println!("cargo::rustc-link-search=native={}", folder.display());
             println!("cargo::rustc-link-lib=static=qonveshir");

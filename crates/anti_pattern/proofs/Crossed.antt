@@ -2,14 +2,17 @@
 use Prim.Native.Nat.{ℕ}
 use mathlib.Core.Path.{_≡_, refl}
 use mathlib.Core.Logic.{inl, inr}
-use mathlib.Core.Bool.{cond}
+use mathlib.Core.List.{[]}
+use mathlib.Core.Bool.{Bool, true, false, cond}
 use native.Mathlib.Omega.{arith}
 use native.Mathlib.Decide.{ℕ-discrete}
 use lib.Dec.{eqb}
 use Rattle.term.specs.Term.{Term}
-use Rattle.anti_pattern.specs.Rides.{opened, shut, gate, row}
+use Rattle.anti_pattern.specs.Rides.{table, opened, shut, gate, row}
 use Rattle.anti_pattern.specs.AntiTerm.{Anti, var, neg, app, ε, _▸_, Occurs}
-use Rattle.anti_pattern.specs.Ground.{Way, bare, take, ⟦_⟧}
+use Rattle.anti_pattern.specs.Ground.{Way, bare, take, Semantics}
+use Rattle.anti_pattern.specs.Language.{Language, language, TermOf}
+use Rattle.term.proofs.SameParts.{term-equal}
 use Rattle.anti_pattern.proofs.Taken.{outermost?, occurs?}
 
 abbrev gateᵃ : Anti ℕ → Anti ℕ
@@ -66,17 +69,44 @@ right-first =
     (take (inr (inl tt)) 1 (fresh 1 (rowᵃ (gateᵃ (var 0)) (neg (gateᵃ (var 0)))) tt)
     (plainly (rowᵃ (gateᵃ (var 0)) (var 1)) tt) (plainly (rowᵃ (gateᵃ (var 0)) (gateᵃ (var 0))) tt)))
 
+-- the rides' table, and no class list
+abbrev pub rideLanguage : Language
+rideLanguage = language table []
+
+open-of : TermOf rideLanguage opened
+open-of = (omega arith, λ e. refl, tt)
+
+shut-of : TermOf rideLanguage shut
+shut-of = (omega arith, λ e. refl, tt)
+
+gate-of : (t : Term) → TermOf rideLanguage t → TermOf rideLanguage (gate t)
+gate-of t g = (omega arith, λ e. refl, (g, tt))
+
 -- values for the variables 0, 1 and 2
 abbrev values : Term → Term → Term → ℕ → Term
 values a b c x = cond (eqb x 0) a (cond (eqb x 1) b c)
 
-pub left-in : ⟦ left-first ⟧ sides
+values-of : (a b c : Term) → TermOf rideLanguage a → TermOf rideLanguage b → TermOf rideLanguage c → (x : ℕ) → TermOf rideLanguage (values a b c x)
+values-of a b c f g h x = go (eqb x 0) (eqb x 1)
+  where
+    go : (m n : Bool) → TermOf rideLanguage (cond m a (cond n b c))
+    go true n = f
+    go false true = g
+    go false false = h
+
+pub left-in : Semantics rideLanguage left-first sides
 unfolding left-first plainly
 left-in = (
-  ((values opened (gate opened) (gate shut), λ x. tt, refl), λ h. h .1 (values shut (gate opened) (gate shut), λ x. tt, refl)),
-  λ h. h .1 ((values opened (gate opened) (gate shut), λ x. tt, refl), λ r. let e = r .2 in let z : _≡_ {A = ℕ} 0 1 = cc in omega arith),
+  (
+    (values opened (gate opened) (gate shut), values-of opened (gate opened) (gate shut) open-of (gate-of opened open-of) (gate-of shut shut-of), sides, refl, refl),
+    λ h. h .1 (values shut (gate opened) (gate shut), values-of shut (gate opened) (gate shut) shut-of (gate-of opened open-of) (gate-of shut shut-of), sides, refl, refl),
+  ),
+  λ h. h .1 (
+    (values opened (gate opened) (gate shut), values-of opened (gate opened) (gate shut) open-of (gate-of opened open-of) (gate-of shut shut-of), sides, refl, refl),
+    λ r. let e = r .3 in let i = term-equal [] (λ s. refl) (r .2) sides (r .4) in let z : _≡_ {A = ℕ} 0 1 = cc in omega arith,
+  ),
 )
 
-pub right-out : ⟦ right-first ⟧ sides → ⊥
+pub right-out : Semantics rideLanguage right-first sides → ⊥
 unfolding right-first plainly
-right-out h = h .0 .1 (values opened (gate shut) (gate shut), λ x. tt, refl)
+right-out h = h .0 .1 (values opened (gate shut) (gate shut), values-of opened (gate shut) (gate shut) open-of (gate-of shut shut-of) (gate-of shut shut-of), sides, refl, refl)

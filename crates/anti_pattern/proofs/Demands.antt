@@ -1,78 +1,89 @@
--- The theorems: what specs/Demands demands, for every table, pattern, term and allowance, and the rides.
+-- The theorems: what specs/Demands demands, for every pattern, every term of the language and every allowance, where the table bytes within a class
+-- are alike, as they are for every accepted class list and for the empty one; and the rides.
 use Prim.Native.Nat.{ℕ}
-use mathlib.Core.Path.{refl}
-use mathlib.Core.List.{List}
+use mathlib.Core.Path.{_≡_, refl, ap, subst, fun-ext}
+use mathlib.Core.List.{List, []}
+use mathlib.Core.Option.{Option, none, some}
+use Rattle.term.specs.Class.{Alike, classOf}
 use Rattle.term.specs.Pattern.{Pattern}
-use Rattle.term.specs.Term.{Term, size}
-use Rattle.anti_pattern.specs.Rides.{RidesHold}
+use Rattle.term.specs.Term.{Term, Terms, size}
+use Rattle.term.proofs.SameParts.{term-equal, terms-equal}
 use Rattle.anti_pattern.specs.Answer.{answer}
 use Rattle.anti_pattern.specs.AntiTerm.{Anti}
-use Rattle.anti_pattern.specs.Demands.{SearchDecides, OnlySubterms, PartsShown, AnswerExact, PublishedAgrees, PublishedAnswer, ChoicesAgree, ChoiceMatters}
-use Rattle.anti_pattern.specs.Meaning.{Assignment, Holds}
+use Rattle.anti_pattern.specs.Demands.{SearchDecides, PartsShown, AnswerExact, PublishedAgrees, OverTable, ChoicesAgree, ChoiceMatters, SingleClasses}
+use Rattle.anti_pattern.specs.Language.{Language, language, Classed, TermOf, TermsOf}
+use Rattle.anti_pattern.specs.Meaning.{Assignment, OneAt}
 use Rattle.anti_pattern.specs.Published.{NoRuns}
+use Rattle.anti_pattern.specs.Rides.{RidesHold}
 use Rattle.anti_pattern.specs.Search.{finish, behind, search}
+use Rattle.anti_pattern.proofs.Alike.{term-eq, one-refl}
 use Rattle.anti_pattern.proofs.Answers.{spent-exactly, none-exactly, bound-exactly, larger-allowance}
-use Rattle.anti_pattern.proofs.Crossed.{crossed, sides, left-first, right-first, left-in, right-out}
+use Rattle.anti_pattern.proofs.Crossed.{rideLanguage, crossed, sides, left-first, right-first, left-in, right-out}
 use Rattle.anti_pattern.proofs.First.{found-first, failed-none, equal-lengths}
-use Rattle.anti_pattern.proofs.OverTable.{over-table}
+use Rattle.anti_pattern.proofs.OverTable.{satisfies-over}
 use Rattle.anti_pattern.proofs.Placed.{free-placed, others-absent, shown-at-first-place}
-use Rattle.anti_pattern.proofs.Published.{solution-satisfies, satisfying-substitution, at-most-one, found-exactly, failed-exactly, published-bound, published-none}
+use Rattle.anti_pattern.proofs.Published.{published-agrees as published}
 use Rattle.anti_pattern.proofs.Renamed.{any-way, some-way, no-clash}
-use Rattle.anti_pattern.proofs.Subterms.{holds-subterms, holds-over}
 
-pub search-decides : (table : List ℕ) (q : Pattern) (t : Term) → SearchDecides table q t
-search-decides table q t = record {
-  found-first = found-first table q t;
-  failed-none = failed-none table q t;
-  equal-lengths = equal-lengths q t;
-}
+module _ (l : Language) (k : Alike (l .table) (l .classes)) (q : Pattern) (t : Term) (g : TermOf l t) where
+  pub search-decides : SearchDecides l q t
+  search-decides = record {
+    found-first = found-first l q t g;
+    failed-none = failed-none l q t g;
+    equal-lengths = equal-lengths l q t;
+  }
 
-pub only-subterms : (q : Pattern) (t : Term) (a : Assignment) → Holds q a t → OnlySubterms q t a
-only-subterms q t a h = record {
-  subterms = λ v w m e. holds-subterms q t a h v w m e;
-  over-table = λ table o v w m e. holds-over q t a h v w m e table o;
-}
+  pub parts-shown : PartsShown l q t
+  parts-shown = record {
+    shown-at-first-place = shown-at-first-place l q t g;
+    free-placed = free-placed l q t;
+    others-absent = others-absent l q t;
+  }
 
-pub parts-shown : (table : List ℕ) (q : Pattern) (t : Term) → PartsShown table q t
-parts-shown table q t = record {
-  shown-at-first-place = shown-at-first-place table q t;
-  free-placed = free-placed table q t;
-  others-absent = others-absent table q t;
-}
+  pub answer-exact : (allowance : ℕ) → AnswerExact l q t allowance
+  answer-exact allowance = record {
+    spent-exactly = spent-exactly l k q t g allowance;
+    none-exactly = none-exactly l k q t g allowance;
+    bound-exactly = bound-exactly l k q t g allowance;
+    larger-allowance = larger-allowance l k q t g allowance;
+  }
 
-pub answer-exact : (table : List ℕ) (q : Pattern) (t : Term) (allowance : ℕ) → AnswerExact table q t allowance
-answer-exact table q t allowance = record {
-  spent-exactly = spent-exactly table q t allowance;
-  none-exactly = none-exactly table q t allowance;
-  bound-exactly = bound-exactly table q t allowance;
-  larger-allowance = larger-allowance table q t allowance;
-}
+  pub published-agrees : (n : NoRuns q) (allowance : ℕ) → PublishedAgrees l q t n allowance
+  published-agrees n allowance = published l q t g n k allowance
 
-pub published-agrees : (table : List ℕ) (q : Pattern) (n : NoRuns q) (t : Term) → PublishedAgrees table q n t
-published-agrees table q n t = record {
-  solution-satisfies = solution-satisfies q n t;
-  satisfying-substitution = satisfying-substitution q n t;
-  at-most-one = at-most-one q n t;
-  found-exactly = found-exactly q n t table;
-  failed-exactly = failed-exactly q n t table;
-}
+pub over-table : (l : Language) → Classed l → (q : Pattern) (t : Term) → TermOf l t → OverTable l q t
+over-table l c q t g a = (
+  satisfies-over l c (λ w. Unit {0}) (TermsOf l) (λ w h. tt) (λ w h. h) q t a g,
+  satisfies-over l c (TermsOf l) (λ w. Unit {0}) (λ w h. h) (λ w h. tt) q t a g,
+)
 
-pub published-answer : (table : List ℕ) (q : Pattern) (n : NoRuns q) (t : Term) (allowance : ℕ) → PublishedAnswer table q n t allowance
-published-answer table q n t allowance = record {
-  bound-exactly = published-bound q n t table allowance;
-  none-exactly = published-none q n t table allowance;
-}
-
-pub choices-agree : (q : Anti ℕ) (t : Term) → ChoicesAgree q t
-choices-agree q t = record {
+pub choices-agree : (l : Language) (q : Anti ℕ) (t : Term) → TermOf l t → ChoicesAgree l q t
+choices-agree l q t g = record {
   some-way = some-way q;
-  any-way = λ w v. any-way q w v t;
-  over-table = λ table h w. over-table table q w t h;
-  no-clash = λ h w. no-clash q h w t;
+  any-way = any-way l q t g;
+  no-clash = no-clash l q t g;
 }
 
 pub choice-matters : ChoiceMatters
-choice-matters = (crossed, sides, left-first, right-first, left-in, right-out)
+choice-matters = (rideLanguage, crossed, sides, left-first, right-first, left-in, right-out)
+
+pub single-classes : (table classes : List ℕ) → ((s : ℕ) → classOf classes s ≡ s) → SingleClasses table classes
+single-classes table classes single = record {
+  same = λ t u. (term-equal classes single t u, term-eq (language table classes) t u);
+  one = λ a b. (
+    λ h. fun-ext (λ v. go (a v) (b v) (h v)),
+    λ e v. subst (λ (c : Assignment). OneAt (language table classes) (a v) (c v)) e (one-refl (language table classes) (a v)),
+  );
+}
+  where
+    go : (o p : Option Terms) → OneAt (language table classes) o p → o ≡ p
+    go none none h = refl
+    go none (some x) h = absurd h
+    go (some w) none h = absurd h
+    go (some w) (some x) h = ap some (terms-equal classes single w x h)
+
+pub no-classes : (table : List ℕ) → SingleClasses table []
+no-classes table = single-classes table [] (λ s. refl)
 
 pub rides-hold : RidesHold
 unfolding answer search finish behind size

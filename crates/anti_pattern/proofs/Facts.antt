@@ -1,7 +1,8 @@
 -- Laws of equal terms, and of sequences of terms.
 use Prim.Native.Nat.{ℕ, suc, _+_, _≤_}
-use mathlib.Core.Path.{_≡_, refl, sym, _∙_, ap, ap₂, subst}
+use mathlib.Core.Path.{_≡_, refl, sym, _∙_, ap, subst}
 use mathlib.Core.Bool.{Bool, true, false, cond, false≢true, not-eq-not}
+use mathlib.Core.List.{List}
 use mathlib.Core.Option.{none, some}
 use native.Mathlib.Omega.{arith}
 use native.Mathlib.Nat.{zero-add, suc-add}
@@ -9,14 +10,11 @@ use lib.Dec.{eqb}
 use borrow.Author.Tests.{eq-eqb}
 use Rattle.term.specs.Same.{sameTerm, sameTerms}
 use Rattle.term.specs.Term.{Term, Terms, nil, _::_, _⧺_, count, single}
-use Rattle.term.proofs.SameParts.{term-equal, terms-equal, same-term, same-terms}
+use Rattle.term.proofs.SameParts.{and-true, same-counts}
 use Rattle.anti_pattern.specs.Search.{behind}
 
 pub eqb-same : (n : ℕ) → eqb n n ≡ true
 eqb-same n = eq-eqb n n refl
-
-pub sameTerms-differ : (ts us : Terms) → sameTerms ts us ≡ false → ts ≡ us → ⊥
-sameTerms-differ ts us h p = false≢true (sym h ∙ subst (λ (x : Terms). sameTerms ts x ≡ true) p (same-terms ts))
 
 -- sequences
 
@@ -58,32 +56,38 @@ none-some h = let z : _≡_ {A = ℕ} 0 1 = cc in omega arith
 pub some-same : {x y : Terms} → some x ≡ some y → x ≡ y
 some-same h = cc
 
-pub behind-sound : (w ts us : Terms) → behind w ts ≡ some us → ts ≡ w ⧺ us
-unfolding behind
-behind-sound nil ts us h = cc
-behind-sound (x :: w) nil us h = absurd (none-some h)
-behind-sound (x :: w) (t :: ts) us h = go (sameTerm x t) refl h (behind-sound w ts us)
-  where
-    go : (m : Bool) → sameTerm x t ≡ m → cond m (behind w ts) none ≡ some us → (behind w ts ≡ some us → ts ≡ w ⧺ us)
-        → t :: ts ≡ x :: (w ⧺ us)
-    go true e h r = ap₂ _::_ (sym (term-equal x t e)) (r h)
-    go false e h r = absurd (none-some h)
+-- what is left behind a run, up to class
 
-pub behind-complete : (w us : Terms) → behind w (w ⧺ us) ≡ some us
-unfolding behind
-behind-complete nil us = refl
-behind-complete (x :: w) us = rw (same-term x) (behind-complete w us)
+module _ (classes : List ℕ) where
+  pub behind-alike : (w ts us : Terms) → behind classes w ts ≡ some us → (x : Terms) × (ts ≡ x ⧺ us) × (sameTerms classes w x ≡ true)
+  unfolding behind
+  behind-alike nil ts us h = (nil, cc, refl)
+  behind-alike (x :: w) nil us h = absurd (none-some h)
+  behind-alike (x :: w) (t :: ts) us h = go (sameTerm classes x t) refl h (behind-alike w ts us)
+    where
+      go : (m : Bool) → sameTerm classes x t ≡ m → cond m (behind classes w ts) none ≡ some us
+          → (behind classes w ts ≡ some us → (y : Terms) × (ts ≡ y ⧺ us) × (sameTerms classes w y ≡ true))
+          → (y : Terms) × (t :: ts ≡ y ⧺ us) × (sameTerms classes (x :: w) y ≡ true)
+      go true e h r = let s = r h in (t :: s .0, ap (t ::_) (s .1), rw e (s .2))
+      go false e h r = absurd (none-some h)
 
--- one element against the next
+  pub alike-behind : (w x us : Terms) → sameTerms classes w x ≡ true → behind classes w (x ⧺ us) ≡ some us
+  unfolding behind
+  alike-behind nil nil us h = refl
+  alike-behind nil (y :: x) us h = absurd (false≢true h)
+  alike-behind (t :: w) nil us h = absurd (false≢true h)
+  alike-behind (t :: w) (y :: x) us h =
+      let a = and-true (sameTerm classes t y) (sameTerms classes w x) h in rw (a .0) (alike-behind w x us (a .1))
 
-module _ (w : Terms) (t : Term) (ts : Terms) where
-  pub one-behind : (us : Terms) → count w ≡ 1 → behind w (t :: ts) ≡ some us → (w ≡ single t) × (ts ≡ us)
-  one-behind us h b =
-      let o = one-term w h in
-      let z : t :: ts ≡ o .0 :: us = behind-sound w (t :: ts) us b ∙ ap (λ (x : Terms). x ⧺ us) (o .1) in
-      (o .1 ∙ ap single (sym (head-same z)), tail-same z)
+  -- one element against the next
 
-  pub none-behind : behind w (t :: ts) ≡ none → sameTerms w (single t) ≡ false
-  none-behind b =
-      not-eq-not {b = false} .0
-      (λ e. none-some (sym b ∙ ap (λ (x : Terms). behind x (t :: ts)) (terms-equal w (single t) e) ∙ behind-complete (single t) ts))
+  module _ (w : Terms) (t : Term) (ts : Terms) where
+    pub one-behind : (us : Terms) → count w ≡ 1 → behind classes w (t :: ts) ≡ some us → (sameTerms classes w (single t) ≡ true) × (ts ≡ us)
+    one-behind us h b =
+        let s = behind-alike w (t :: ts) us b in
+        let o = one-term (s .0) (sym (same-counts classes w (s .0) (s .2)) ∙ h) in
+        let z : t :: ts ≡ o .0 :: us = s .1 ∙ ap (λ (x : Terms). x ⧺ us) (o .1) in
+        (subst (λ (x : Terms). sameTerms classes w x ≡ true) (o .1 ∙ ap single (sym (head-same z))) (s .2), tail-same z)
+
+    pub none-behind : behind classes w (t :: ts) ≡ none → sameTerms classes w (single t) ≡ false
+    none-behind b = not-eq-not {b = false} .0 (λ e. none-some (sym b ∙ alike-behind w (single t) ts e))

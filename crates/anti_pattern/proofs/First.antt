@@ -1,43 +1,25 @@
 -- What the search finds is the first of the satisfying assignments; run lengths tell satisfying assignments apart.
 use Prim.Native.Nat.{ℕ, zero}
-use mathlib.Core.Path.{_≡_, refl, sym, _∙_, ap, subst, fun-ext}
+use mathlib.Core.Path.{_≡_, refl, sym, _∙_, ap, subst}
 use mathlib.Core.Logic.{_⊎_, inl, inr}
 use mathlib.Core.List.{List, [], _∷_, map}
 use mathlib.Core.Bool.{Bool, true, false, cond}
-use mathlib.Core.Option.{none, some}
+use mathlib.Core.Option.{Option, none}
 use native.Mathlib.Omega.{arith}
 use lib.Dec.{eqb}
 use Rattle.term.specs.Pattern.{Pattern, name, symbol, complement, Children, end, plain, run}
-use Rattle.term.specs.Term.{Term, node, Terms, nil, _::_, _⧺_, count}
+use Rattle.term.specs.Term.{Term, node, Terms, nil, _::_, _⧺_, count, single}
 use Rattle.anti_pattern.specs.Demands.{First, Unsatisfied}
-use Rattle.anti_pattern.specs.Meaning.{Assignment, unassigned, ExtendsAt, Extends, Holds, HoldAll, Satisfies}
+use Rattle.anti_pattern.specs.Language.{Language, TermOf, TermsOf, _⊢_≋_}
+use Rattle.anti_pattern.specs.Meaning.{Assignment, unassigned, ExtendsAt, Extends, Holds, HoldAll, Satisfies, OneAt, CountAsOne}
 use Rattle.anti_pattern.specs.Order.{lengthOf, runLengths, Smaller}
 use Rattle.anti_pattern.specs.Search.{Env, start, found, failed, whole}
 use Rattle.anti_pattern.specs.Variables.{vars, varsAll, free, among, runs, runsAll, without, firsts, freeRuns}
 use Rattle.anti_pattern.proofs.Correct.{Before, Best, least, no-candidate, level-best}
 use borrow.Author.Tests.{eqb-true}
+use Rattle.term.proofs.SameParts.{same-counts}
+use Rattle.anti_pattern.proofs.Alike.{single-same, some-one, term-sym, term-trans, run-sym, run-trans, one-refl, one-sym}
 use Rattle.anti_pattern.proofs.Facts.{head-same, tail-same}
-
--- the comparison at all places is the comparison at the run names' first places
-
-mutual
-  before-runs : (q : Pattern) (a b : Assignment) (t u : Term) (vs ws : List ℕ) → Holds q a t → Holds q b u
-      → (Before vs a b → Before ws a b) → Before (vars q vs) a b → Before (runs q ws) a b
-  before-runs (name v) a b t u vs ws h k f (inl p) =
-      let i : lengthOf (a v) ≡ 1 = ap lengthOf h in let j : lengthOf (b v) ≡ 1 = ap lengthOf k in absurd (omega arith)
-  before-runs (name v) a b t u vs ws h k f (inr p) = f (p .1)
-  before-runs (symbol s qs) a b (node r ts) (node r′ us) vs ws h k f p = before-runs-all qs a b ts us vs ws (h .1) (k .1) f p
-  before-runs (complement q) a b t u vs ws h k f p = f p
-
-  before-runs-all : (qs : Children) (a b : Assignment) (ts us : Terms) (vs ws : List ℕ) → HoldAll qs a ts → HoldAll qs b us
-      → (Before vs a b → Before ws a b) → Before (varsAll qs vs) a b → Before (runsAll qs ws) a b
-  before-runs-all end a b ts us vs ws h k f p = f p
-  before-runs-all (plain q qs) a b nil us vs ws h k f p = absurd h
-  before-runs-all (plain q qs) a b (t :: ts) nil vs ws h k f p = absurd k
-  before-runs-all (plain q qs) a b (t :: ts) (u :: us) vs ws h k f p =
-      before-runs q a b t u (varsAll qs vs) (runsAll qs ws) (h .0) (k .0) (before-runs-all qs a b ts us vs ws (h .1) (k .1) f) p
-  before-runs-all (run v qs) a b ts us vs ws h k f (inl p) = inl p
-  before-runs-all (run v qs) a b ts us vs ws h k f (inr p) = inr (p .0, before-runs-all qs a b (h .1) (k .1) vs ws (h .4) (k .4) f (p .1))
 
 before-without : (v : ℕ) (vs : List ℕ) (a b : Assignment) → lengthOf (a v) ≡ lengthOf (b v) → Before vs a b → Before (without v vs) a b
 before-without v [] a b e p = p
@@ -61,43 +43,9 @@ before-smaller [] a b p = p
 before-smaller (v ∷ vs) a b (inl p) = inl p
 before-smaller (v ∷ vs) a b (inr p) = inr (p .0, before-smaller vs a b (p .1))
 
--- of two assignments under which the pattern holds, what is before at all places has the smaller run lengths
-before-first : (q : Pattern) (t : Term) (a b : Assignment) → Holds q a t → Holds q b t → Before (free q) a b → Smaller (runLengths q a) (runLengths q b)
-before-first q t a b h k p =
-    before-smaller (freeRuns q) a b (before-firsts (runs q []) a b (before-runs q a b t t [] [] h k (λ x. x) p))
-
--- what the search of a whole pattern comes to
-
-best-first : (q : Pattern) (t : Term) {e : Env} → Best unassigned (free q) (λ b. Holds q b t) (found e) → First q t (e .value)
-best-first q t {e} (least s m) = record {
-  satisfies = record { exact = s .extends; holds = s .meets };
-  least = λ b r. go b r (m b (record { extends = r .exact; meets = r .holds }));
-}
-  where
-    go : (b : Assignment) → Satisfies q t b → Before (free q) (e .value) b ⊎ (e .value ≡ b)
-        → Smaller (runLengths q (e .value)) (runLengths q b) ⊎ (e .value ≡ b)
-    go b r (inl p) = inl (before-first q t (e .value) b (s .meets) (r .holds) p)
-    go b r (inr p) = inr p
-
-best-none : (q : Pattern) (t : Term) → Best unassigned (free q) (λ b. Holds q b t) failed → Unsatisfied q t
-best-none q t (no-candidate n) = λ a s. n a (record { extends = s .exact; meets = s .holds })
-
-module _ (table : List ℕ) (q : Pattern) (t : Term) where
-  pub found-first : (e : Env) → whole table q t .out ≡ found e → First q t (e .value)
-  found-first e h = best-first q t (subst (Best unassigned (free q) (λ b. Holds q b t)) h (level-best table q t zero start))
-
-  pub failed-none : whole table q t .out ≡ failed → Unsatisfied q t
-  failed-none h = best-none q t (subst (Best unassigned (free q) (λ b. Holds q b t)) h (level-best table q t zero start))
-
--- equal lists of run lengths mean equal satisfying assignments
-
 abbrev SameLengths : List ℕ → Assignment → Assignment → Type 0
 SameLengths [] a b = Unit {0}
 SameLengths (v ∷ vs) a b = (lengthOf (a v) ≡ lengthOf (b v)) × SameLengths vs a b
-
-abbrev Agree : List ℕ → Assignment → Assignment → Type 0
-Agree [] a b = Unit {0}
-Agree (v ∷ vs) a b = (a v ≡ b v) × Agree vs a b
 
 split-same : (w x us ys : Terms) → count w ≡ count x → w ⧺ us ≡ x ⧺ ys → (w ≡ x) × (us ≡ ys)
 split-same nil nil us ys n e = (refl, e)
@@ -106,26 +54,6 @@ split-same (t :: w) nil us ys n e = absurd (omega arith)
 split-same (t :: w) (u :: x) us ys n e =
     let r = split-same w x us ys (omega arith) (tail-same e) in
     let i : t ≡ u = head-same e in let j : w ≡ x = r .0 in (cc, r .1)
-
-mutual
-  agree : (q : Pattern) (a b : Assignment) (t : Term) (vs ws : List ℕ) → Holds q a t → Holds q b t
-      → (SameLengths ws a b → Agree vs a b) → SameLengths (runs q ws) a b → Agree (vars q vs) a b
-  agree (name v) a b t vs ws h k f s = (h ∙ sym k, f s)
-  agree (symbol r qs) a b (node r′ ts) vs ws h k f s = agree-all qs a b ts vs ws (h .1) (k .1) f s
-  agree (complement q) a b t vs ws h k f s = f s
-
-  agree-all : (qs : Children) (a b : Assignment) (ts : Terms) (vs ws : List ℕ) → HoldAll qs a ts → HoldAll qs b ts
-      → (SameLengths ws a b → Agree vs a b) → SameLengths (runsAll qs ws) a b → Agree (varsAll qs vs) a b
-  agree-all end a b ts vs ws h k f s = f s
-  agree-all (plain q qs) a b nil vs ws h k f s = absurd h
-  agree-all (plain q qs) a b (t :: ts) vs ws h k f s =
-      agree q a b t (varsAll qs vs) (runsAll qs ws) (h .0) (k .0) (agree-all qs a b ts vs ws (h .1) (k .1) f) s
-  agree-all (run v qs) a b ts vs ws h k f s =
-      let e : count (h .0) ≡ count (k .0) = sym (ap lengthOf (h .2)) ∙ s .0 ∙ ap lengthOf (k .2) in
-      let r = split-same (h .0) (k .0) (h .1) (k .1) e (sym (h .3) ∙ k .3) in (
-        h .2 ∙ ap some (r .0) ∙ sym (k .2),
-        agree-all qs a b (k .1) vs ws (subst (λ (y : Terms). HoldAll qs a y) (r .1) (h .4)) (k .4) f (s .1),
-      )
 
 same-without : (v : ℕ) (vs : List ℕ) (a b : Assignment) → lengthOf (a v) ≡ lengthOf (b v) → SameLengths (without v vs) a b → SameLengths vs a b
 same-without v [] a b e s = tt
@@ -144,23 +72,6 @@ same-map : (vs : List ℕ) (a b : Assignment) → map (λ v. lengthOf (a v)) vs 
 same-map [] a b e = tt
 same-map (v ∷ vs) a b e = (cc, same-map vs a b (cc))
 
-agree-at : (vs : List ℕ) (a b : Assignment) (i : ℕ) → Agree vs a b → ExtendsAt none (among i vs) (a i) → ExtendsAt none (among i vs) (b i) → a i ≡ b i
-agree-at [] a b i g x y = x ∙ sym y
-agree-at (v ∷ vs) a b i g x y = go (eqb v i) refl x y (agree-at vs a b i (g .1))
-  where
-    go : (m : Bool) → eqb v i ≡ m → ExtendsAt none (cond m true (among i vs)) (a i) → ExtendsAt none (cond m true (among i vs)) (b i)
-        → (ExtendsAt none (among i vs) (a i) → ExtendsAt none (among i vs) (b i) → a i ≡ b i) → a i ≡ b i
-    go true h x y f = subst (λ (j : ℕ). a j ≡ b j) (eqb-true v i h) (g .0)
-    go false h x y f = f x y
-
-pub equal-lengths : (q : Pattern) (t : Term) (a b : Assignment) → Satisfies q t a → Satisfies q t b → runLengths q a ≡ runLengths q b → a ≡ b
-unfolding Extends
-equal-lengths q t a b h k e =
-    let g : Agree (free q) a b = agree q a b t [] [] (h .holds) (k .holds) (λ s. tt) (same-firsts (runs q []) a b (same-map (freeRuns q) a b e)) in
-    fun-ext (λ i. agree-at (free q) a b i g (h .exact i) (k .exact i))
-
--- there is one first
-
 smaller-once : (xs ys : List ℕ) → Smaller xs ys → Smaller ys xs → ⊥
 smaller-once [] ys h k = h
 smaller-once (x ∷ xs) [] h k = h
@@ -169,10 +80,108 @@ smaller-once (x ∷ xs) (y ∷ ys) (inl h) (inr k) = omega (arith, k .0)
 smaller-once (x ∷ xs) (y ∷ ys) (inr h) (inl k) = omega (arith, h .0)
 smaller-once (x ∷ xs) (y ∷ ys) (inr h) (inr k) = smaller-once xs ys (h .1) (k .1)
 
-pub one-first : (q : Pattern) (t : Term) (a b : Assignment) → First q t a → First q t b → a ≡ b
-one-first q t a b f g = go (f .least b (g .satisfies)) (g .least a (f .satisfies))
-  where
-    go : Smaller (runLengths q a) (runLengths q b) ⊎ (a ≡ b) → Smaller (runLengths q b) (runLengths q a) ⊎ (b ≡ a) → a ≡ b
-    go (inr e) k = e
-    go (inl h) (inr e) = sym e
-    go (inl h) (inl k) = absurd (smaller-once (runLengths q a) (runLengths q b) h k)
+module _ (l : Language) where
+  -- the comparison at all places is the comparison at the run names' first places
+
+  mutual
+    before-runs : (q : Pattern) (a b : Assignment) (t u : Term) (vs ws : List ℕ) → Holds l (TermsOf l) q a t → Holds l (TermsOf l) q b u
+        → (Before vs a b → Before ws a b) → Before (vars q vs) a b → Before (runs q ws) a b
+    before-runs (name v) a b t u vs ws h k f (inl p) =
+        let i : lengthOf (a v) ≡ 1 = ap lengthOf (h .1) in let j : lengthOf (b v) ≡ 1 = ap lengthOf (k .1) in absurd (omega arith)
+    before-runs (name v) a b t u vs ws h k f (inr p) = f (p .1)
+    before-runs (symbol s qs) a b (node r ts) (node r′ us) vs ws h k f p = before-runs-all qs a b ts us vs ws (h .1) (k .1) f p
+    before-runs (complement q) a b t u vs ws h k f p = f p
+
+    before-runs-all : (qs : Children) (a b : Assignment) (ts us : Terms) (vs ws : List ℕ) → HoldAll l (TermsOf l) qs a ts → HoldAll l (TermsOf l) qs b us
+        → (Before vs a b → Before ws a b) → Before (varsAll qs vs) a b → Before (runsAll qs ws) a b
+    before-runs-all end a b ts us vs ws h k f p = f p
+    before-runs-all (plain q qs) a b nil us vs ws h k f p = absurd h
+    before-runs-all (plain q qs) a b (t :: ts) nil vs ws h k f p = absurd k
+    before-runs-all (plain q qs) a b (t :: ts) (u :: us) vs ws h k f p =
+        before-runs q a b t u (varsAll qs vs) (runsAll qs ws) (h .0) (k .0) (before-runs-all qs a b ts us vs ws (h .1) (k .1) f) p
+    before-runs-all (run v qs) a b ts us vs ws h k f (inl p) = inl p
+    before-runs-all (run v qs) a b ts us vs ws h k f (inr p) = inr (p .0, before-runs-all qs a b (h .2) (k .2) vs ws (h .6) (k .6) f (p .1))
+
+  -- of two assignments under which the pattern holds, what is before at all places has the smaller run lengths
+  before-first : (q : Pattern) (t : Term) (a b : Assignment) → Holds l (TermsOf l) q a t → Holds l (TermsOf l) q b t → Before (free q) a b → Smaller (runLengths q a) (runLengths q b)
+  before-first q t a b h k p =
+      before-smaller (freeRuns q) a b (before-firsts (runs q []) a b (before-runs q a b t t [] [] h k (λ x. x) p))
+
+  -- what the search of a whole pattern comes to
+
+  best-first : (q : Pattern) (t : Term) {e : Env} → Best l unassigned (free q) (λ b. Holds l (TermsOf l) q b t) (found e) → First l q t (e .value)
+  best-first q t {e} (least s m) = record {
+    satisfies = record { exact = s .extends; holds = s .meets };
+    least = λ b r. go b r (m b (record { extends = r .exact; meets = r .holds }));
+  }
+    where
+      go : (b : Assignment) → Satisfies l q t b → Before (free q) (e .value) b ⊎ CountAsOne l (e .value) b
+          → Smaller (runLengths q (e .value)) (runLengths q b) ⊎ CountAsOne l (e .value) b
+      go b r (inl p) = inl (before-first q t (e .value) b (s .meets) (r .holds) p)
+      go b r (inr p) = inr p
+
+  best-none : (q : Pattern) (t : Term) → Best l unassigned (free q) (λ b. Holds l (TermsOf l) q b t) failed → Unsatisfied l q t
+  best-none q t (no-candidate n) = λ a s. n a (record { extends = s .exact; meets = s .holds })
+
+  module _ (q : Pattern) (t : Term) (g : TermOf l t) where
+    pub found-first : (e : Env) → whole l q t .out ≡ found e → First l q t (e .value)
+    found-first e h = best-first q t (subst (Best l unassigned (free q) (λ b. Holds l (TermsOf l) q b t)) h (level-best l q t g zero start))
+
+    pub failed-none : whole l q t .out ≡ failed → Unsatisfied l q t
+    failed-none h = best-none q t (subst (Best l unassigned (free q) (λ b. Holds l (TermsOf l) q b t)) h (level-best l q t g zero start))
+
+  -- equal lists of run lengths mean equal satisfying assignments
+
+  abbrev Agree : List ℕ → Assignment → Assignment → Type 0
+  Agree [] a b = Unit {0}
+  Agree (v ∷ vs) a b = OneAt l (a v) (b v) × Agree vs a b
+
+  mutual
+    agree : (q : Pattern) (a b : Assignment) (t : Term) (vs ws : List ℕ) → Holds l (TermsOf l) q a t → Holds l (TermsOf l) q b t
+        → (SameLengths ws a b → Agree vs a b) → SameLengths (runs q ws) a b → Agree (vars q vs) a b
+    agree (name v) a b t vs ws h k f s =
+        let i = term-trans l (h .0) t (k .0) (h .2) (term-sym l (k .0) t (k .2)) in
+        (some-one l (a v) (b v) (single (h .0)) (single (k .0)) (h .1) (k .1) (single-same l (h .0) (k .0) i), f s)
+    agree (symbol r qs) a b (node r′ ts) vs ws h k f s = agree-all qs a b ts vs ws (h .1) (k .1) f s
+    agree (complement q) a b t vs ws h k f s = f s
+
+    agree-all : (qs : Children) (a b : Assignment) (ts : Terms) (vs ws : List ℕ) → HoldAll l (TermsOf l) qs a ts → HoldAll l (TermsOf l) qs b ts
+        → (SameLengths ws a b → Agree vs a b) → SameLengths (runsAll qs ws) a b → Agree (varsAll qs vs) a b
+    agree-all end a b ts vs ws h k f s = f s
+    agree-all (plain q qs) a b nil vs ws h k f s = absurd h
+    agree-all (plain q qs) a b (t :: ts) vs ws h k f s =
+        agree q a b t (varsAll qs vs) (runsAll qs ws) (h .0) (k .0) (agree-all qs a b ts vs ws (h .1) (k .1) f) s
+    agree-all (run v qs) a b ts vs ws h k f s =
+        let e : count (h .1) ≡ count (k .1) =
+        sym (ap lengthOf (h .3) ∙ same-counts (l .classes) (h .0) (h .1) (h .4)) ∙ s .0
+        ∙ ap lengthOf (k .3) ∙ same-counts (l .classes) (k .0) (k .1) (k .4) in
+        let r = split-same (h .1) (k .1) (h .2) (k .2) e (sym (h .5) ∙ k .5) in
+        let i = run-trans l (h .0) (k .1) (k .0) (subst (λ (x : Terms). l ⊢ h .0 ≋ x) (r .0) (h .4)) (run-sym l (k .0) (k .1) (k .4)) in (
+          some-one l (a v) (b v) (h .0) (k .0) (h .3) (k .3) i,
+          agree-all qs a b (k .2) vs ws (subst (λ (y : Terms). HoldAll l (TermsOf l) qs a y) (r .1) (h .6)) (k .6) f (s .1),
+        )
+
+  agree-at : (vs : List ℕ) (a b : Assignment) (i : ℕ) → Agree vs a b → ExtendsAt (TermsOf l) none (among i vs) (a i) → ExtendsAt (TermsOf l) none (among i vs) (b i) → OneAt l (a i) (b i)
+  agree-at [] a b i g x y = subst (λ (o : Option Terms). OneAt l (a i) o) (x ∙ sym y) (one-refl l (a i))
+  agree-at (v ∷ vs) a b i g x y = go (eqb v i) refl x y (agree-at vs a b i (g .1))
+    where
+      go : (m : Bool) → eqb v i ≡ m → ExtendsAt (TermsOf l) none (cond m true (among i vs)) (a i) → ExtendsAt (TermsOf l) none (cond m true (among i vs)) (b i)
+          → (ExtendsAt (TermsOf l) none (among i vs) (a i) → ExtendsAt (TermsOf l) none (among i vs) (b i) → OneAt l (a i) (b i)) → OneAt l (a i) (b i)
+      go true h x y f = subst (λ (j : ℕ). OneAt l (a j) (b j)) (eqb-true v i h) (g .0)
+      go false h x y f = f x y
+
+  pub equal-lengths : (q : Pattern) (t : Term) (a b : Assignment) → Satisfies l q t a → Satisfies l q t b → runLengths q a ≡ runLengths q b → CountAsOne l a b
+  unfolding Extends
+  equal-lengths q t a b h k e =
+      let g : Agree (free q) a b = agree q a b t [] [] (h .holds) (k .holds) (λ s. tt) (same-firsts (runs q []) a b (same-map (freeRuns q) a b e)) in
+      λ i. agree-at (free q) a b i g (h .exact i) (k .exact i)
+
+  -- there is one first
+
+  pub one-first : (q : Pattern) (t : Term) (a b : Assignment) → First l q t a → First l q t b → CountAsOne l a b
+  one-first q t a b f g = go (f .least b (g .satisfies)) (g .least a (f .satisfies))
+    where
+      go : Smaller (runLengths q a) (runLengths q b) ⊎ CountAsOne l a b → Smaller (runLengths q b) (runLengths q a) ⊎ CountAsOne l b a → CountAsOne l a b
+      go (inr e) k = e
+      go (inl h) (inr e) = λ v. one-sym l (b v) (a v) (e v)
+      go (inl h) (inl k) = absurd (smaller-once (runLengths q a) (runLengths q b) h k)

@@ -1,11 +1,13 @@
 -- Laws and theorems; Demands has the theorems that the others lead to.
 pub mod Facts
+pub mod Alike
 pub mod Extensions
 pub mod Correct
 pub mod First
 pub mod Placed
-pub mod Subterms
+pub mod Machine
 pub mod Machinery
+pub mod Meter
 pub mod Metering
 pub mod Steps
 pub mod Allowance
@@ -13,7 +15,8 @@ pub mod Answers
 pub mod Taken
 pub mod Renamed
 pub mod Published
-pub mod OverTable
 pub mod Crossed
+pub mod Within
+pub mod OverTable
 pub mod Demands
 pub mod Each

@@ -4,7 +4,7 @@ use mathlib.Core.Path.{_≡_, refl, sym, _∙_, ap}
 use mathlib.Core.Bool.{Bool, true, false, not}
 use native.Mathlib.Omega.{arith}
 use lib.Dec.{leb, T, leb→le, le→leb, nleb→lt}
-use Rattle.anti_pattern.specs.Meter.{Metered, missed, usedUp, metered, meter, thenMeter, refuteMeter}
+use Rattle.anti_pattern.proofs.Meter.{Metered, missed, usedUp, metered, meter, thenMeter, refuteMeter}
 use Rattle.anti_pattern.specs.Search.{Outcome, found, failed, Result, plus, counted, fail, after, refuted}
 
 pub leb-true : (a b : ℕ) → a ≤ b → leb a b ≡ true

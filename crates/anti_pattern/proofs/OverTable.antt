@@ -1,66 +1,126 @@
--- The ground terms may be those over the table only, or any others closed under children: the published definition comes to the same.
-use Prim.Native.Nat.{ℕ}
-use mathlib.Core.Path.{_≡_, refl, sym, _∙_, ap, subst}
-use mathlib.Core.Logic.{inl, inr, ite, if-pos, _↔_}
-use mathlib.Core.List.{List}
+-- Over more terms than the language's the same assignments satisfy: what a pattern's free variables are assigned is the same as terms of the record.
+use Prim.Native.Nat.{ℕ, _<_}
 use native.Mathlib.Omega.{arith}
-use Rattle.term.specs.Term.{Term, node, Terms, nil, _::_}
-use Rattle.anti_pattern.specs.AntiTerm.{Anti, var, neg, app, Antis, ε, _▸_, ground, grounds, Occurs, OccursIn, replace, replaceAll}
-use Rattle.anti_pattern.specs.Ground.{Outermost, OutermostIn, Way, bare, take, Semantics, ⟦_⟧}
-use Rattle.anti_pattern.specs.Scope.{apart}
-use Rattle.anti_pattern.specs.Subterm.{Each, OverTable}
-use Rattle.anti_pattern.proofs.Renamed.{scoped?}
-use Rattle.anti_pattern.proofs.Subterms.{over-down}
-use Rattle.anti_pattern.proofs.Taken.{ground-same, occurs?}
+use mathlib.Core.Path.{_≡_, refl, sym, _∙_, ap, subst}
+use mathlib.Core.Logic.{inl, inr}
+use mathlib.Core.List.{List, [], _∷_}
+use mathlib.Core.Bool.{Bool, true, false, cond, false≢true}
+use mathlib.Core.Option.{Option, none, some}
+use lib.Dec.{eqb, ltb}
+use lib.ListN.{length}
+use borrow.Author.Tests.{eqb-true, ltb-true, ltb-false}
+use Rattle.term.specs.Class.{classOf, Alike}
+use Rattle.term.specs.Pattern.{Pattern, name, symbol, complement, Children, end, plain, run}
+use Rattle.term.specs.Table.{list}
+use Rattle.term.specs.Term.{Term, node, Terms, nil, _::_, single}
+use Rattle.term.proofs.Classes.{class-none, classes-exactly, accepted-alike, none-alike}
+use Rattle.term.proofs.SameParts.{entry-alike, same-counts}
+use Rattle.anti_pattern.specs.Language.{Language, Classed, TermOf, TermsOf, _⊢_∼_, _⊢_≈_, _⊢_≋_}
+use Rattle.anti_pattern.specs.Meaning.{Assignment, ExtendsAt, Extends, Holds, HoldAll, SatisfiesOver}
+use Rattle.anti_pattern.specs.Variables.{vars, varsAll, free, among}
+use Rattle.anti_pattern.proofs.Alike.{node-open, cons-open, of-split}
 
--- a set T of terms, with their children
-module _ (T : Term → Type 0) (down : (f : ℕ) (ts : Terms) → T (node f ts) → Each T ts) where
-  module _ {X : Type 0} (a : X → Term) where
-    -- the values of the variables are parts of the instance
+alike : (l : Language) → Classed l → Alike (l .table) (l .classes)
+alike l (inl e) = subst (Alike (l .table)) (sym e) (none-alike (l .table))
+alike l (inr h) = accepted-alike (l .table) (l .classes) h
+
+-- no symbol outside the table is of one class with a symbol of the table
+inside : (l : Language) → Classed l → (s r : ℕ) → l ⊢ s ∼ r → r < length (l .table) → s < length (l .table)
+inside l (inl e) s r h k =
+    let own : (n : ℕ) → classOf (l .classes) n ≡ n = λ n. class-none (l .classes) n (omega (arith, ap length e)) in
+    omega (arith, h, own s, own r)
+inside l (inr c) s r h k = go (ltb s (length (l .table))) refl
+  where
+    go : (m : Bool) → ltb s (length (l .table)) ≡ m → s < length (l .table)
+    go true z = ltb-true s (length (l .table)) z
+    go false z =
+        let d = classes-exactly (l .table) (l .classes) .0 c in
+        let out = ltb-false s (length (l .table)) z in
+        omega (arith, h, class-none (l .classes) s (omega (arith, d .as-long)), d .lowest r k)
+
+module _ (l : Language) (c : Classed l) where
+  mutual
+    same-of : (u t : Term) → l ⊢ u ≈ t → TermOf l t → TermOf l u
+    same-of (node s us) (node r ts) h g =
+        let a = node-open l s r us ts h in
+        let e = entry-alike (l .table) (l .classes) (alike l c) s r (a .0) in (
+          inside l c s r (a .0) (g .0),
+          λ n. same-counts (l .classes) us ts (a .1) ∙ g .1 (ap (λ (b : ℕ). eqb b list) (sym e) ∙ n) ∙ sym e,
+          same-all-of us ts (a .1) (g .2),
+        )
+
+    same-all-of : (us ts : Terms) → l ⊢ us ≋ ts → TermsOf l ts → TermsOf l us
+    same-all-of nil ts h g = tt
+    same-all-of (u :: us) nil h g = let z = same-counts (l .classes) (u :: us) nil h in absurd (omega arith)
+    same-all-of (u :: us) (t :: ts) h g = let a = cons-open l u t us ts h in (same-of u t (a .0) (g .0), same-all-of us ts (a .1) (g .1))
+
+  -- a variable is assigned terms of the language
+  abbrev Of : Assignment → ℕ → Type 0
+  Of a v = (w : Terms) × TermsOf l w × (a v ≡ some w)
+
+  next : (a : Assignment) (u v : ℕ) (vs : List ℕ) → Of a u → among v (u ∷ vs) ≡ true → (among v vs ≡ true → Of a v) → Of a v
+  next a u v vs o m f = go (eqb u v) refl m
+    where
+      go : (b : Bool) → eqb u v ≡ b → cond b true (among v vs) ≡ true → Of a v
+      go true e m = subst (Of a) (eqb-true u v e) o
+      go false e m = f m
+
+  -- every variable outside complements is, whatever terms there are
+  module _ (There : Terms → Type 0) where
     mutual
-      parts-proper : (q : Anti X) (t : Term) (x : X) → (Outermost q → ⊥) → replace (λ x. ground (a x)) q ≡ ground t → T t → Occurs x q
-          → T (a x)
-      parts-proper (var y) t x n e h o = subst T (sym (ap a o ∙ ground-same (a y) t e)) h
-      parts-proper (neg q) t x n e h o = absurd (n tt)
-      parts-proper (app f qs) (node r ts) x n e h o = parts-proper-all qs ts x n (cc) (down r ts h) o
+      holds-of : (q : Pattern) (a : Assignment) (t : Term) (vs : List ℕ) (v : ℕ) → TermOf l t → Holds l There q a t
+          → among v (vars q vs) ≡ true → (among v vs ≡ true → Of a v) → Of a v
+      holds-of (name u) a t vs v g h m f = next a u v vs (single (h .0), (same-of (h .0) t (h .2) g, tt), h .1) m f
+      holds-of (symbol s qs) a (node r ts) vs v g h m f = hold-all-of qs a ts vs v (g .2) (h .1) m f
+      holds-of (complement q) a t vs v g h m f = f m
 
-      parts-proper-all : (qs : Antis X) (ts : Terms) (x : X) → (OutermostIn qs → ⊥) → replaceAll (λ x. ground (a x)) qs ≡ grounds ts → Each T ts
-          → OccursIn x qs → T (a x)
-      parts-proper-all ε ts x n e h o = absurd o
-      parts-proper-all (q ▸ qs) nil x n e h o = let z : _≡_ {A = ℕ} 0 1 = cc in absurd (omega arith)
-      parts-proper-all (q ▸ qs) (t :: ts) x n e h (inl o) = parts-proper q t x (λ ω. n (inl ω)) (cc) (h .0) o
-      parts-proper-all (q ▸ qs) (t :: ts) x n e h (inr o) = parts-proper-all qs ts x (λ ω. n (inr ω)) (cc) (h .1) o
+      hold-all-of : (qs : Children) (a : Assignment) (ts : Terms) (vs : List ℕ) (v : ℕ) → TermsOf l ts → HoldAll l There qs a ts
+          → among v (varsAll qs vs) ≡ true → (among v vs ≡ true → Of a v) → Of a v
+      hold-all-of end a ts vs v g h m f = f m
+      hold-all-of (plain q qs) a nil vs v g h m f = absurd h
+      hold-all-of (plain q qs) a (t :: ts) vs v g h m f =
+          holds-of q a t (varsAll qs vs) v (g .0) (h .0) m (λ n. hold-all-of qs a ts vs v (g .1) (h .1) n f)
+      hold-all-of (run u qs) a ts vs v g h m f =
+          let d = of-split l (h .1) (h .2) (subst (TermsOf l) (h .5) g) in
+          next a u v (varsAll qs vs) (h .0, same-all-of (h .0) (h .1) (h .4) (d .0), h .3) m
+          (λ n. hold-all-of qs a (h .2) vs v (d .1) (h .6) n f)
 
-    -- only the values of what stands in q matter
-    module _ (b : X → Term) where
-      mutual
-        replace-on : (q : Anti X) → ((x : X) → Occurs x q → a x ≡ b x) → replace (λ x. ground (a x)) q ≡ replace (λ x. ground (b x)) q
-        replace-on (var y) e = ap ground (e y refl)
-        replace-on (neg q) e = ap neg (replace-on q e)
-        replace-on (app f qs) e = ap (app f) (replace-on-all qs e)
+  -- there are the terms of the language, and maybe others
+  abbrev Enough : (Terms → Type 0) → Type 0
+  Enough There = (w : Terms) → TermsOf l w → There w
 
-        replace-on-all : (qs : Antis X) → ((x : X) → OccursIn x qs → a x ≡ b x) → replaceAll (λ x. ground (a x)) qs ≡ replaceAll (λ x. ground (b x)) qs
-        replace-on-all ε e = refl
-        replace-on-all (q ▸ qs) e =
-            let i : replace (λ x. ground (a x)) q ≡ replace (λ x. ground (b x)) q = replace-on q (λ x o. e x (inl o)) in
-            let j : replaceAll (λ x. ground (a x)) qs ≡ replaceAll (λ x. ground (b x)) qs = replace-on-all qs (λ x o. e x (inr o)) in cc
+  extends-over : (There Here : Terms → Type 0) → Enough Here → (q : Pattern) (a b : Assignment) (t : Term) → TermOf l t → Holds l There q b t
+      → Extends There a (free q) b → Extends Here a (free q) b
+  unfolding Extends
+  extends-over There Here here q a b t g h x v = go (a v) (among v (free q)) (x v) (λ m. holds-of There q b t [] v g h m (λ n. absurd (false≢true n)))
+    where
+      go : (o : Option Terms) (m : Bool) → ExtendsAt There o m (b v) → (m ≡ true → Of b v) → ExtendsAt Here o m (b v)
+      go (some w) m y f = y
+      go none true y f = let o = f refl in (o .0, here (o .0) (o .1), o .2)
+      go none false y f = y
 
-  module _ {X : Type 0} (same? : (x y : X) → Dec (x ≡ y)) (t : Term) (h : T t) where
-    over-bare : (q : Anti X) → (Outermost q → ⊥) → (σ : X → Term) → replace (λ x. ground (σ x)) q ≡ ground t
-        → (ρ : X → Term) × ((x : X) → T (ρ x)) × (replace (λ x. ground (ρ x)) q ≡ ground t)
-    over-bare q n σ e = (ρ, λ x. go x (occurs? same? x q), sym (replace-on σ ρ q (λ x o. sym (if-pos (occurs? same? x q) o (σ x) t))) ∙ e)
-      where
-        ρ : X → Term
-        ρ x = ite (occurs? same? x q) (σ x) t
+  -- the pattern holds over the ones if it does over the others; within a complement the other way round
+  mutual
+    holds-over : (There Here : Terms → Type 0) → Enough There → Enough Here → (q : Pattern) (a : Assignment) (t : Term) → TermOf l t
+        → Holds l There q a t → Holds l Here q a t
+    holds-over There Here there here (name v) a t g h = h
+    holds-over There Here there here (symbol s qs) a (node r ts) g h = (h .0, hold-all-over There Here there here qs a ts (g .2) (h .1))
+    holds-over There Here there here (complement q) a t g n = λ b x h.
+        n b (extends-over Here There there q a b t g h x) (holds-over Here There here there q b t g h)
 
-        go : (x : X) (d : Dec (Occurs x q)) → T (ite d (σ x) t)
-        go x (yes o) = parts-proper σ q t x n e h o
-        go x (no m) = h
+    hold-all-over : (There Here : Terms → Type 0) → Enough There → Enough Here → (qs : Children) (a : Assignment) (ts : Terms) → TermsOf l ts
+        → HoldAll l There qs a ts → HoldAll l Here qs a ts
+    hold-all-over There Here there here end a ts g h = h
+    hold-all-over There Here there here (plain q qs) a nil g h = h
+    hold-all-over There Here there here (plain q qs) a (t :: ts) g h =
+        (holds-over There Here there here q a t (g .0) (h .0), hold-all-over There Here there here qs a ts (g .1) (h .1))
+    hold-all-over There Here there here (run v qs) a ts g h =
+        let d = of-split l (h .1) (h .2) (subst (TermsOf l) (h .5) g) in
+        (h .0, h .1, h .2, h .3, h .4, h .5, hold-all-over There Here there here qs a (h .2) (d .1) (h .6))
 
-    over : {q : Anti X} (w : Way q) → Semantics T w t ↔ ⟦ w ⟧ t
-    over (bare {q} n) = (λ s. (s .0, λ x. tt, s .2), λ s. over-bare q n (s .0) (s .2))
-    over (take ω z f w v) = let i = over w in let j = over v in (λ s. (i .0 (s .0), λ m. s .1 (j .1 m)), λ s. (i .1 (s .0), λ m. s .1 (j .0 m)))
-
--- the terms over the table
-pub over-table : (table : List ℕ) (q : Anti ℕ) (w : Way (apart q)) (t : Term) → OverTable table t → Semantics (OverTable table) w t ↔ ⟦ w ⟧ t
-over-table table q w t h = over (OverTable table) (over-down table) scoped? t h w
+  pub satisfies-over : (There Here : Terms → Type 0) → Enough There → Enough Here → (q : Pattern) (t : Term) (a : Assignment) → TermOf l t
+      → SatisfiesOver l There q t a → SatisfiesOver l Here q t a
+  satisfies-over There Here there here q t a g s = record {
+    exact = extends-over There Here here q _ a t g (s .holds) (s .exact);
+    holds = holds-over There Here there here q a t g (s .holds);
+  }

@@ -6,19 +6,24 @@ use mathlib.Core.Bool.{Bool, true, false, cond, false≢true}
 use mathlib.Core.Option.{Option, none, some}
 use native.Mathlib.Omega.{arith}
 use lib.Dec.{eqb}
-use Rattle.term.specs.Part.{absent}
+use Rattle.term.specs.Code.{variables}
+use Rattle.term.specs.Part.{part, absent}
+use Rattle.term.specs.Class.{classOf, Alike}
 use Rattle.term.specs.Pattern.{Pattern, name, symbol, complement, Children, end, plain, run}
 use Rattle.term.specs.Same.{sameTerms}
 use Rattle.term.specs.Table.{width}
 use Rattle.term.specs.Term.{Term, node, Terms, nil, _::_, _⧺_, single, size, sizes}
 use Rattle.term.specs.declared.Part.{Part}
 use Rattle.anti_pattern.specs.Answer.{parts}
-use Rattle.anti_pattern.specs.Meaning.{Assignment, ExtendsAt, Extends, Holds, HoldAll, Satisfies}
+use Rattle.anti_pattern.specs.Language.{Language, TermOf, TermsOf, _⊢_≋_}
+use Rattle.anti_pattern.specs.Meaning.{Assignment, ExtendsAt, Extends, Holds, HoldAll, Satisfies, OneAt, CountAsOne}
 use Rattle.anti_pattern.specs.Place.{past, assigned, place, placeAll, partOf, orAbsent, partAt, eachFrom, partsAt}
 use Rattle.anti_pattern.specs.Search.{Env, bind, start, Outcome, found, failed, Result, ifTrue, ifSome, after, Deferred, Next, refuted, finish, sameOr, lengths, behind, tryRun, search, searches, whole}
 use Rattle.anti_pattern.specs.Variables.{vars, varsAll, free, among}
 use borrow.Author.Tests.{eqb-true}
-use Rattle.anti_pattern.proofs.Facts.{eqb-same, join-nil, join-one, none-some, behind-sound}
+use Rattle.term.proofs.SameParts.{same-terms, same-counts, same-sizes}
+use Rattle.anti_pattern.proofs.Alike.{cons-open}
+use Rattle.anti_pattern.proofs.Facts.{eqb-same, join-nil, join-one, none-some, behind-alike}
 use Rattle.anti_pattern.proofs.First.{found-first}
 
 failed-found : {e : Env} → failed ≡ found e → ⊥
@@ -26,10 +31,6 @@ failed-found h = let z : _≡_ {A = ℕ} 0 1 = cc in omega arith
 
 found-same : {e f : Env} → found e ≡ found f → e ≡ f
 found-same h = cc
-
-past-join : (w us : Terms) → past w (w ⧺ us) ≡ us
-past-join nil us = refl
-past-join (t :: w) us = past-join w us
 
 -- from e on, f was found: what was assigned stays, with its offset; what has a place in the rest has its offset
 abbrev Placed : Option Terms → ℕ → Option ℕ → Option Terms → ℕ → Type 0
@@ -86,17 +87,6 @@ module _ (e f : Env) (u at : ℕ) (w : Terms) (P : ℕ → Option ℕ) where
           (subst (λ (o : Option Terms). Placed o (e .offset v) (P v) (f .value v) (f .offset v)) i (h v))
       go false r = h v
 
-name-places : (e : Env) (u at : ℕ) (w : Terms) (k : Next) (P : Assignment → ℕ → Option ℕ) → Places k P → (put : List Deferred) (f : Env)
-    (o : Option Terms) → e .value u ≡ o → ifSome (sameOr o w e (bind e u at w)) (λ g. k g put) .out ≡ found f
-    → (v : ℕ) → PlacedAt e f v (cond (eqb u v) (some at) (P (f .value) v))
-name-places e u at w k P l put f none q h = placed-fresh e f u at w (P (f .value)) q (l (bind e u at w) put f h)
-name-places e u at w k P l put f (some x) q h = go (sameTerms x w) h
-  where
-    go : (m : Bool) → ifSome (cond m (some e) none) (λ g. k g put) .out ≡ found f
-        → (v : ℕ) → PlacedAt e f v (cond (eqb u v) (some at) (P (f .value) v))
-    go true h = placed-kept e f u at w (P (f .value)) x q (l e put f h)
-    go false h = absurd (failed-found h)
-
 -- a run name's length at which something is found
 lengths-found : (ts w : Terms) (g : Terms → Terms → Result) (f : Env) → lengths w ts g .out ≡ found f
     → (x : Terms) × (us : Terms) × (ts ≡ x ⧺ us) × (g (w ⧺ x) us .out ≡ found f)
@@ -112,22 +102,9 @@ lengths-found (t :: ts) w g f h = go (g w (t :: ts) .out) (1 + g w (t :: ts) .co
         let s = r h in
         (t :: s .0, s .1, ap (t ::_) (s .2), subst (λ (y : Terms). g y (s .1) .out ≡ found f) (join-one w t (s .0)) (s .3))
 
-rest-found : (w ts : Terms) (g : Terms → Result) (f : Env) (o : Option Terms) → behind w ts ≡ o → ifSome o g .out ≡ found f
-    → (us : Terms) × (ts ≡ w ⧺ us) × (g us .out ≡ found f)
-rest-found w ts g f none r h = absurd (failed-found h)
-rest-found w ts g f (some us) r h = (us, behind-sound w ts us r, h)
-
 ifTrue-found : (m : Bool) (g : Unit {0} → Result) (f : Env) → ifTrue m g .out ≡ found f → g tt .out ≡ found f
 ifTrue-found true g f h = h
 ifTrue-found false g f h = absurd (failed-found h)
-
--- what was taken is what is assigned, and what is left is past it
-rest-is : (o : Option Terms) (x us ts : Terms) → o ≡ some x → ts ≡ x ⧺ us → us ≡ past (assigned o) ts
-rest-is o x us ts h r = sym (ap (λ (y : Terms). past y ts) (ap assigned h) ∙ ap (past x) r ∙ past-join x us)
-
-rest-place : (P : Terms → Terms → ℕ → Option ℕ) (o : Option Terms) (x us ts : Terms) → o ≡ some x → ts ≡ x ⧺ us
-    → P x us ≡ P (assigned o) (past (assigned o) ts)
-rest-place P o x us ts h r = ap₂ P (sym (ap assigned h)) (rest-is o x us ts h r)
 
 -- a name or a run name has a place here, or further on
 place-here : (u at v : ℕ) (vs : List ℕ) (other : Option ℕ) → (among v vs ≡ true → (n : ℕ) × (other ≡ some n)) → among v (u ∷ vs) ≡ true
@@ -138,129 +115,215 @@ place-here u at v vs other f m = go (eqb u v) m
     go true m = (at, refl)
     go false m = f m
 
-module _ (e : Env) (u at : ℕ) (ts : Terms) (g h : Terms → Terms → Result) (f : Env) (P : Terms → Terms → ℕ → Option ℕ)
-    (fresh : (w us : Terms) → g w us .out ≡ found f
-    → (v : ℕ) → PlacedAt (bind e u at w) f v (P w us v))
-    (kept : (w us : Terms) → h w us .out ≡ found f → (v : ℕ) → PlacedAt e f v (P w us v)) where
-  abbrev Goal : (ℕ → Option ℕ) → Type 0
-  Goal p = (v : ℕ) → PlacedAt e f v (cond (eqb u v) (some at) (p v))
+pub each-same : (f g : ℕ → Part) → ((v : ℕ) → f v ≡ g v) → (v n : ℕ) → eachFrom f v n ≡ eachFrom g v n
+each-same f g e v zero = refl
+each-same f g e v (suc n) = ap₂ _∷_ (e v) (each-same f g e (suc v) n)
 
-  run-places : (o : Option Terms) → e .value u ≡ o → tryRun o ts g h .out ≡ found f
-      → Goal (P (assigned (f .value u)) (past (assigned (f .value u)) ts))
-  run-places none q r =
-      let s = lengths-found ts nil g f r in
-      let k = fresh (s .0) (s .1) (s .3) in
-      let i : f .value u ≡ some (s .0) =
-      (subst (λ (m : Bool). Placed (cond m (some (s .0)) (e .value u)) (cond m at (e .offset u)) (P (s .0) (s .1) u) (f .value u) (f .offset u))
-      (eqb-same u) (k u)) .0 in
-      subst Goal (rest-place P (f .value u) (s .0) (s .1) ts i (s .2)) (placed-fresh e f u at (s .0) (P (s .0) (s .1)) q k)
-  run-places (some w) q r =
-      let s = rest-found w ts (h w) f (behind w ts) refl r in
-      let k = kept w (s .0) (s .2) in
-      let i : f .value u ≡ some w =
-      (subst (λ (o : Option Terms). Placed o (e .offset u) (P w (s .0) u) (f .value u) (f .offset u)) q (k u)) .0 in
-      subst Goal (rest-place P (f .value u) w (s .0) ts i (s .1)) (placed-kept e f u at w (P w (s .0)) w q k)
+module _ (l : Language) where
+  name-places : (e : Env) (u at : ℕ) (w : Terms) (k : Next) (P : Assignment → ℕ → Option ℕ) → Places k P → (put : List Deferred) (f : Env)
+      (o : Option Terms) → e .value u ≡ o → ifSome (sameOr (l .classes) o w e (bind e u at w)) (λ g. k g put) .out ≡ found f
+      → (v : ℕ) → PlacedAt e f v (cond (eqb u v) (some at) (P (f .value) v))
+  name-places e u at w k P j put f none q h = placed-fresh e f u at w (P (f .value)) q (j (bind e u at w) put f h)
+  name-places e u at w k P j put f (some x) q h = go (sameTerms (l .classes) x w) h
+    where
+      go : (m : Bool) → ifSome (cond m (some e) none) (λ g. k g put) .out ≡ found f
+          → (v : ℕ) → PlacedAt e f v (cond (eqb u v) (some at) (P (f .value) v))
+      go true h = placed-kept e f u at w (P (f .value)) x q (j e put f h)
+      go false h = absurd (failed-found h)
 
-module _ (table : List ℕ) where
+  -- what is left behind what was taken is past it
+  past-same : (w x us : Terms) → l ⊢ w ≋ x → past w (x ⧺ us) ≡ us
+  past-same nil nil us h = refl
+  past-same nil (y :: x) us h = absurd (false≢true h)
+  past-same (t :: w) nil us h = absurd (false≢true h)
+  past-same (t :: w) (y :: x) us h = past-same w x us (cons-open l t y w x h .1)
+
+  rest-found : (w ts : Terms) (g : Terms → Result) (f : Env) (o : Option Terms) → behind (l .classes) w ts ≡ o → ifSome o g .out ≡ found f
+      → (x : Terms) × (us : Terms) × (l ⊢ w ≋ x) × (ts ≡ x ⧺ us) × (g us .out ≡ found f)
+  rest-found w ts g f none r h = absurd (failed-found h)
+  rest-found w ts g f (some us) r h = let i = behind-alike (l .classes) w ts us r in (i .0, us, i .2, i .1, h)
+
+  rest-is : (o : Option Terms) (w x us ts : Terms) → o ≡ some w → l ⊢ w ≋ x → ts ≡ x ⧺ us → us ≡ past (assigned o) ts
+  rest-is o w x us ts h i r = sym (ap (λ (y : Terms). past y ts) (ap assigned h) ∙ ap (past w) r ∙ past-same w x us i)
+
+  rest-place : (P : Terms → Terms → ℕ → Option ℕ) (o : Option Terms) (w x us ts : Terms) → o ≡ some w → l ⊢ w ≋ x → ts ≡ x ⧺ us
+      → P w us ≡ P (assigned o) (past (assigned o) ts)
+  rest-place P o w x us ts h i r = ap₂ P (sym (ap assigned h)) (rest-is o w x us ts h i r)
+
+  module _ (e : Env) (u at : ℕ) (ts : Terms) (g h : Terms → Terms → Result) (f : Env) (P : Terms → Terms → ℕ → Option ℕ)
+      (fresh : (w us : Terms) → g w us .out ≡ found f
+      → (v : ℕ) → PlacedAt (bind e u at w) f v (P w us v))
+      (kept : (w us : Terms) → h w us .out ≡ found f → (v : ℕ) → PlacedAt e f v (P w us v)) where
+    abbrev Goal : (ℕ → Option ℕ) → Type 0
+    Goal p = (v : ℕ) → PlacedAt e f v (cond (eqb u v) (some at) (p v))
+
+    run-places : (o : Option Terms) → e .value u ≡ o → tryRun (l .classes) o ts g h .out ≡ found f
+        → Goal (P (assigned (f .value u)) (past (assigned (f .value u)) ts))
+    run-places none q r =
+        let s = lengths-found ts nil g f r in
+        let k = fresh (s .0) (s .1) (s .3) in
+        let i : f .value u ≡ some (s .0) =
+        (subst (λ (m : Bool). Placed (cond m (some (s .0)) (e .value u)) (cond m at (e .offset u)) (P (s .0) (s .1) u) (f .value u) (f .offset u))
+        (eqb-same u) (k u)) .0 in
+        subst Goal (rest-place P (f .value u) (s .0) (s .0) (s .1) ts i (same-terms (l .classes) (s .0)) (s .2)) (placed-fresh e f u at (s .0) (P (s .0) (s .1)) q k)
+    run-places (some w) q r =
+        let s = rest-found w ts (h w) f (behind (l .classes) w ts) refl r in
+        let k = kept w (s .1) (s .4) in
+        let i : f .value u ≡ some w =
+        (subst (λ (o : Option Terms). Placed o (e .offset u) (P w (s .1) u) (f .value u) (f .offset u)) q (k u)) .0 in
+        subst Goal (rest-place P (f .value u) w (s .0) (s .1) ts i (s .2) (s .3)) (placed-kept e f u at w (P w (s .1)) w q k)
+
   mutual
     unfolding search
 
     search-places : (q : Pattern) (t : Term) (at : ℕ) (k : Next) (P : Assignment → ℕ → Option ℕ) → Places k P
-        → Places (λ e put. search table q t at e put k) (λ b v. place table q t at b v (P b v))
-    search-places (name u) t at k P l e put f h = name-places e u at (single t) k P l put f (e .value u) refl h
-    search-places (symbol s qs) (node r ts) at k P l e put f h =
-        searches-places qs ts (at + width table r) k P l e put f (ifTrue-found (eqb s r) (λ u. searches table qs ts (at + width table r) e put k) f h)
-    search-places (complement q) t at k P l e put f h = l e (put ++ ((λ g. search table q t at g [] finish) ∷ [])) f h
+        → Places (λ e put. search (l .table) (l .classes) q t at e put k) (λ b v. place (l .table) q t at b v (P b v))
+    search-places (name u) t at k P j e put f h = name-places e u at (single t) k P j put f (e .value u) refl h
+    search-places (symbol s qs) (node r ts) at k P j e put f h =
+        searches-places qs ts (at + width (l .table) r) k P j e put f (ifTrue-found (eqb (classOf (l .classes) s) (classOf (l .classes) r)) (λ u. searches (l .table) (l .classes) qs ts (at + width (l .table) r) e put k) f h)
+    search-places (complement q) t at k P j e put f h = j e (put ++ ((λ g. search (l .table) (l .classes) q t at g [] finish) ∷ [])) f h
 
     searches-places : (qs : Children) (ts : Terms) (at : ℕ) (k : Next) (P : Assignment → ℕ → Option ℕ) → Places k P
-        → Places (λ e put. searches table qs ts at e put k) (λ b v. placeAll table qs ts at b v (P b v))
-    searches-places end nil at k P l e put f h = l e put f h
-    searches-places end (t :: ts) at k P l e put f h = absurd (failed-found h)
-    searches-places (plain q qs) nil at k P l e put f h = absurd (failed-found h)
-    searches-places (plain q qs) (t :: ts) at k P l e put f h =
-        search-places q t at (λ g ds. searches table qs ts (at + size table t) g ds k) (λ b v. placeAll table qs ts (at + size table t) b v (P b v))
-        (searches-places qs ts (at + size table t) k P l) e put f h
-    searches-places (run u qs) ts at k P l e put f h =
-        run-places e u at ts (λ w us. searches table qs us (at + sizes table w) (bind e u at w) put k)
-        (λ w us. searches table qs us (at + sizes table w) e put k) f
-        (λ w us v. placeAll table qs us (at + sizes table w) (f .value) v (P (f .value) v))
-        (λ w us r. searches-places qs us (at + sizes table w) k P l (bind e u at w) put f r)
-        (λ w us r. searches-places qs us (at + sizes table w) k P l e put f r)
+        → Places (λ e put. searches (l .table) (l .classes) qs ts at e put k) (λ b v. placeAll (l .table) qs ts at b v (P b v))
+    searches-places end nil at k P j e put f h = j e put f h
+    searches-places end (t :: ts) at k P j e put f h = absurd (failed-found h)
+    searches-places (plain q qs) nil at k P j e put f h = absurd (failed-found h)
+    searches-places (plain q qs) (t :: ts) at k P j e put f h =
+        search-places q t at (λ g ds. searches (l .table) (l .classes) qs ts (at + size (l .table) t) g ds k) (λ b v. placeAll (l .table) qs ts (at + size (l .table) t) b v (P b v))
+        (searches-places qs ts (at + size (l .table) t) k P j) e put f h
+    searches-places (run u qs) ts at k P j e put f h =
+        run-places e u at ts (λ w us. searches (l .table) (l .classes) qs us (at + sizes (l .table) w) (bind e u at w) put k)
+        (λ w us. searches (l .table) (l .classes) qs us (at + sizes (l .table) w) e put k) f
+        (λ w us v. placeAll (l .table) qs us (at + sizes (l .table) w) (f .value) v (P (f .value) v))
+        (λ w us r. searches-places qs us (at + sizes (l .table) w) k P j (bind e u at w) put f r)
+        (λ w us r. searches-places qs us (at + sizes (l .table) w) k P j e put f r)
         (e .value u) refl h
 
   -- the offset of each variable that has a place is that of its first place
-  whole-places : (q : Pattern) (t : Term) (f : Env) → whole table q t .out ≡ found f
-      → (v n : ℕ) → place table q t zero (f .value) v none ≡ some n → f .offset v ≡ n
+  whole-places : (q : Pattern) (t : Term) (f : Env) → whole l q t .out ≡ found f
+      → (v n : ℕ) → place (l .table) q t zero (f .value) v none ≡ some n → f .offset v ≡ n
   whole-places q t f h v n p = search-places q t zero finish (λ b v. none) finish-places start [] f h v n p
 
   -- each free variable has a place
   mutual
-    has-place : (q : Pattern) (t : Term) (at : ℕ) (b : Assignment) (v : ℕ) (vs : List ℕ) (other : Option ℕ) → Holds q b t
+    has-place : (q : Pattern) (t : Term) (at : ℕ) (b : Assignment) (v : ℕ) (vs : List ℕ) (other : Option ℕ) → Holds l (TermsOf l) q b t
         → (among v vs ≡ true → (n : ℕ) × (other ≡ some n)) → among v (vars q vs) ≡ true
-        → (n : ℕ) × (place table q t at b v other ≡ some n)
+        → (n : ℕ) × (place (l .table) q t at b v other ≡ some n)
     has-place (name u) t at b v vs other h f m = place-here u at v vs other f m
-    has-place (symbol s qs) (node r ts) at b v vs other h f m = has-place-all qs ts (at + width table r) b v vs other (h .1) f m
+    has-place (symbol s qs) (node r ts) at b v vs other h f m = has-place-all qs ts (at + width (l .table) r) b v vs other (h .1) f m
     has-place (complement q) t at b v vs other h f m = f m
 
-    has-place-all : (qs : Children) (ts : Terms) (at : ℕ) (b : Assignment) (v : ℕ) (vs : List ℕ) (other : Option ℕ) → HoldAll qs b ts
+    has-place-all : (qs : Children) (ts : Terms) (at : ℕ) (b : Assignment) (v : ℕ) (vs : List ℕ) (other : Option ℕ) → HoldAll l (TermsOf l) qs b ts
         → (among v vs ≡ true → (n : ℕ) × (other ≡ some n)) → among v (varsAll qs vs) ≡ true
-        → (n : ℕ) × (placeAll table qs ts at b v other ≡ some n)
+        → (n : ℕ) × (placeAll (l .table) qs ts at b v other ≡ some n)
     has-place-all end ts at b v vs other h f m = f m
     has-place-all (plain q qs) nil at b v vs other h f m = absurd h
     has-place-all (plain q qs) (t :: ts) at b v vs other h f m =
-        has-place q t at b v (varsAll qs vs) (placeAll table qs ts (at + size table t) b v other) (h .0)
-        (has-place-all qs ts (at + size table t) b v vs other (h .1) f) m
+        has-place q t at b v (varsAll qs vs) (placeAll (l .table) qs ts (at + size (l .table) t) b v other) (h .0)
+        (has-place-all qs ts (at + size (l .table) t) b v vs other (h .1) f) m
     has-place-all (run u qs) ts at b v vs other h f m =
-        place-here u at v (varsAll qs vs) (placeAll table qs (past (assigned (b u)) ts) (at + sizes table (assigned (b u))) b v other)
-        (has-place-all qs (past (assigned (b u)) ts) (at + sizes table (assigned (b u))) b v vs other
-        (subst (λ (y : Terms). HoldAll qs b y) (rest-is (b u) (h .0) (h .1) ts (h .2) (h .3)) (h .4)) f) m
+        place-here u at v (varsAll qs vs) (placeAll (l .table) qs (past (assigned (b u)) ts) (at + sizes (l .table) (assigned (b u))) b v other)
+        (has-place-all qs (past (assigned (b u)) ts) (at + sizes (l .table) (assigned (b u))) b v vs other
+        (subst (λ (y : Terms). HoldAll l (TermsOf l) qs b y) (rest-is (b u) (h .0) (h .1) (h .2) ts (h .3) (h .4) (h .5)) (h .6)) f) m
 
--- the part that is shown for a variable, at the offset found and at its first place
-shows : (table : List ℕ) (n : ℕ) (p : Option ℕ) (m : Bool) (o : Option Terms) → ExtendsAt none m o
-    → (m ≡ true → (k : ℕ) × (p ≡ some k)) → ((k : ℕ) → p ≡ some k → n ≡ k) → partOf table o n ≡ orAbsent p (partOf table o)
-shows table n p true none x g i = absurd (none-some (x .1))
-shows table n p true (some w) x g i = let k = g refl in rw (k .1, i (k .0) (k .1))
-shows table n p false none x g i = absent-there p
-  where
-    absent-there : (p : Option ℕ) → absent ≡ orAbsent p (partOf table none)
-    absent-there none = refl
-    absent-there (some k) = refl
-shows table n p false (some w) x g i = absurd (none-some (sym x))
-
-each-same : (f g : ℕ → Part) → ((v : ℕ) → f v ≡ g v) → (v n : ℕ) → eachFrom f v n ≡ eachFrom g v n
-each-same f g e v zero = refl
-each-same f g e v (suc n) = ap₂ _∷_ (e v) (each-same f g e (suc v) n)
-
-module _ (table : List ℕ) (q : Pattern) (t : Term) where
-  -- each free variable has a place and a value
-  pub free-placed : (a : Assignment) → Satisfies q t a → (v : ℕ) → among v (free q) ≡ true
-      → (at : ℕ) × (w : Terms) × (place table q t zero a v none ≡ some at) × (a v ≡ some w)
-  unfolding Extends
-  free-placed a s v m =
-      let p = has-place table q t zero a v [] none (s .holds) (λ m. absurd (false≢true m)) m in
-      let w = subst (λ (c : Bool). ExtendsAt none c (a v)) m (s .exact v) in (p .0, w .0, p .1, w .1)
-
-  -- and no other variable has
-  pub others-absent : (a : Assignment) → Satisfies q t a → (v : ℕ) → among v (free q) ≡ false → partAt table q t a v ≡ absent
-  unfolding Extends
-  others-absent a s v m =
-      let w : a v ≡ none = subst (λ (c : Bool). ExtendsAt none c (a v)) m (s .exact v) in
-      ap (λ (o : Option Terms). orAbsent (place table q t zero a v none) (partOf table o)) w ∙ go (place table q t zero a v none)
+  -- the part that is shown for a variable, at the offset found and at its first place
+  shows : (n : ℕ) (p : Option ℕ) (m : Bool) (o : Option Terms) → ExtendsAt (TermsOf l) none m o
+      → (m ≡ true → (k : ℕ) × (p ≡ some k)) → ((k : ℕ) → p ≡ some k → n ≡ k) → partOf (l .table) o n ≡ orAbsent p (partOf (l .table) o)
+  shows n p true none x g i = absurd (none-some (x .2))
+  shows n p true (some w) x g i = let k = g refl in rw (k .1, i (k .0) (k .1))
+  shows n p false none x g i = absent-there p
     where
-      go : (p : Option ℕ) → orAbsent p (partOf table none) ≡ absent
-      go none = refl
-      go (some k) = refl
+      absent-there : (p : Option ℕ) → absent ≡ orAbsent p (partOf (l .table) none)
+      absent-there none = refl
+      absent-there (some k) = refl
+  shows n p false (some w) x g i = absurd (none-some (sym x))
 
-  pub shown-at-first-place : (e : Env) → whole table q t .out ≡ found e → parts table e ≡ partsAt table q t (e .value)
-  unfolding Extends
-  shown-at-first-place e h =
-      each-same (λ v. partOf table (e .value v) (e .offset v)) (partAt table q t (e .value)) each 0 48
-    where
-      s : Satisfies q t (e .value)
-      s = found-first table q t e h .satisfies
+  module _ (q : Pattern) (t : Term) where
+    -- each free variable has a place and a value
+    pub free-placed : (a : Assignment) → Satisfies l q t a → (v : ℕ) → among v (free q) ≡ true
+        → (at : ℕ) × (w : Terms) × (place (l .table) q t zero a v none ≡ some at) × (a v ≡ some w)
+    unfolding Extends
+    free-placed a s v m =
+        let p = has-place q t zero a v [] none (s .holds) (λ m. absurd (false≢true m)) m in
+        let w = subst (λ (c : Bool). ExtendsAt (TermsOf l) none c (a v)) m (s .exact v) in (p .0, w .0, p .1, w .2)
 
-      each : (v : ℕ) → partOf table (e .value v) (e .offset v) ≡ partAt table q t (e .value) v
-      each v =
-          shows table (e .offset v) (place table q t zero (e .value) v none) (among v (free q)) (e .value v) (s .exact v)
-          (has-place table q t zero (e .value) v [] none (s .holds) (λ m. absurd (false≢true m)))
-          (whole-places table q t e h v)
+    -- and no other variable has
+    pub others-absent : (a : Assignment) → Satisfies l q t a → (v : ℕ) → among v (free q) ≡ false → partAt (l .table) q t a v ≡ absent
+    unfolding Extends
+    others-absent a s v m =
+        let w : a v ≡ none = subst (λ (c : Bool). ExtendsAt (TermsOf l) none c (a v)) m (s .exact v) in
+        ap (λ (o : Option Terms). orAbsent (place (l .table) q t zero a v none) (partOf (l .table) o)) w ∙ go (place (l .table) q t zero a v none)
+      where
+        go : (p : Option ℕ) → orAbsent p (partOf (l .table) none) ≡ absent
+        go none = refl
+        go (some k) = refl
+
+    pub shown-at-first-place : TermOf l t → (e : Env) → whole l q t .out ≡ found e → parts (l .table) e ≡ partsAt (l .table) q t (e .value)
+    unfolding Extends
+    shown-at-first-place g e h =
+        each-same (λ v. partOf (l .table) (e .value v) (e .offset v)) (partAt (l .table) q t (e .value)) each 0 variables
+      where
+        s : Satisfies l q t (e .value)
+        s = found-first l q t g e h .satisfies
+
+        each : (v : ℕ) → partOf (l .table) (e .value v) (e .offset v) ≡ partAt (l .table) q t (e .value) v
+        each v =
+            shows (e .offset v) (place (l .table) q t zero (e .value) v none) (among v (free q)) (e .value v) (s .exact v)
+            (has-place q t zero (e .value) v [] none (s .holds) (λ m. absurd (false≢true m)))
+            (whole-places q t e h v)
+
+  -- assignments that count as one show the same parts, where the table bytes within a class are alike
+
+  module _ (k : Alike (l .table) (l .classes)) where
+    part-one : (o p : Option Terms) (at : ℕ) → OneAt l o p → partOf (l .table) o at ≡ partOf (l .table) p at
+    part-one none none at h = refl
+    part-one none (some x) at h = absurd h
+    part-one (some w) none at h = absurd h
+    part-one (some w) (some x) at h = ap₂ (part at) (same-sizes (l .table) (l .classes) k w x h) (same-counts (l .classes) w x h)
+
+    past-one : (w x ts : Terms) → l ⊢ w ≋ x → past w ts ≡ past x ts
+    past-one nil nil ts h = refl
+    past-one nil (y :: x) ts h = absurd (false≢true h)
+    past-one (t :: w) nil ts h = absurd (false≢true h)
+    past-one (t :: w) (y :: x) nil h = refl
+    past-one (t :: w) (y :: x) (u :: ts) h = past-one w x ts (cons-open l t y w x h .1)
+
+    assigned-one : (o p : Option Terms) → OneAt l o p → l ⊢ assigned o ≋ assigned p
+    assigned-one none none h = refl
+    assigned-one none (some x) h = absurd h
+    assigned-one (some w) none h = absurd h
+    assigned-one (some w) (some x) h = h
+
+    module _ (a b : Assignment) (e : CountAsOne l a b) (v : ℕ) where
+      mutual
+        place-one : (q : Pattern) (t : Term) (at : ℕ) (other other′ : Option ℕ) → other ≡ other′
+            → place (l .table) q t at a v other ≡ place (l .table) q t at b v other′
+        place-one (name u) t at other other′ i = ap (cond (eqb u v) (some at)) i
+        place-one (symbol s qs) (node r ts) at other other′ i = places-one qs ts (at + width (l .table) r) other other′ i
+        place-one (complement q) t at other other′ i = i
+
+        places-one : (qs : Children) (ts : Terms) (at : ℕ) (other other′ : Option ℕ) → other ≡ other′
+            → placeAll (l .table) qs ts at a v other ≡ placeAll (l .table) qs ts at b v other′
+        places-one end ts at other other′ i = i
+        places-one (plain q qs) nil at other other′ i = i
+        places-one (plain q qs) (t :: ts) at other other′ i =
+            place-one q t at (placeAll (l .table) qs ts (at + size (l .table) t) a v other) (placeAll (l .table) qs ts (at + size (l .table) t) b v other′)
+            (places-one qs ts (at + size (l .table) t) other other′ i)
+        places-one (run u qs) ts at other other′ i =
+            let h = assigned-one (a u) (b u) (e u) in
+            ap (cond (eqb u v) (some at))
+            (places-one qs (past (assigned (a u)) ts) (at + sizes (l .table) (assigned (a u))) other other′ i
+            ∙ ap₂ (λ (us : Terms) (n : ℕ). placeAll (l .table) qs us (at + n) b v other′) (past-one (assigned (a u)) (assigned (b u)) ts h)
+            (same-sizes (l .table) (l .classes) k (assigned (a u)) (assigned (b u)) h))
+
+    pub parts-one : (q : Pattern) (t : Term) (a b : Assignment) → CountAsOne l a b → partsAt (l .table) q t a ≡ partsAt (l .table) q t b
+    parts-one q t a b e = each-same (partAt (l .table) q t a) (partAt (l .table) q t b) each 0 variables
+      where
+        go : (p : Option ℕ) (o r : Option Terms) → OneAt l o r → orAbsent p (partOf (l .table) o) ≡ orAbsent p (partOf (l .table) r)
+        go none o r h = refl
+        go (some at) o r h = part-one o r at h
+
+        each : (v : ℕ) → partAt (l .table) q t a v ≡ partAt (l .table) q t b v
+        each v =
+            ap (λ (p : Option ℕ). orAbsent p (partOf (l .table) (a v))) (place-one a b e v q t zero none none refl)
+            ∙ go (place (l .table) q t zero b v none) (a v) (b v) (e v)

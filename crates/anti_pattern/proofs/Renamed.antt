@@ -10,9 +10,12 @@ use native.Mathlib.Omega.{arith}
 use native.Mathlib.Decide.{ℕ-discrete}
 use Rattle.term.specs.Term.{Term, node, Terms, nil, _::_}
 use Rattle.anti_pattern.specs.AntiTerm.{Anti, var, neg, app, Antis, ε, _▸_, Free, FreeIn, free?, Occurs, OccursIn}
-use Rattle.anti_pattern.specs.Ground.{Outermost, OutermostIn, within, withinAll, put, putAll, Way, bare, take, ⟦_⟧}
-use Rattle.anti_pattern.specs.Published.{_∈⟦_⟧}
+use Rattle.anti_pattern.specs.Ground.{Outermost, OutermostIn, within, withinAll, put, putAll, Way, bare, take, Semantics}
+use Rattle.anti_pattern.specs.Language.{Language, TermOf, _⊢_≈_}
+use Rattle.anti_pattern.specs.Published.{_⊢_∈⟦_⟧}
 use Rattle.anti_pattern.specs.Scope.{Position, Owner, belongs, enter, Scoped, rename, renameAll, apart, Apart, ApartAll}
+use Rattle.term.proofs.SameParts.{same-term}
+use Rattle.anti_pattern.proofs.Alike.{term-sym, term-trans, term-eq}
 use Rattle.anti_pattern.proofs.Taken.{Fits, FitAll, Some, outermost?, taken}
 
 pub scoped? : (x y : Scoped) → Dec (x ≡ y)
@@ -213,43 +216,47 @@ matched-enter F G o p q m = record {
       [ inl f ↦ (m .owned y f .0, enter-kept o p q (y .0) (m .owned y f .0) (m .owned y f .1), m .owned y f .2) | inr f ↦ owned-free o p q y f ];
 }
 
-mutual
-  renamed : (q : Anti ℕ) (o : Owner) (p : Position) (F : ℕ → Type 0) (G : Scoped → Type 0) (a : ℕ → Term) (c : Scoped → Term) (t : Term)
-      → ((x : ℕ) → Free x q → F x) → Matched F G o → ((x : ℕ) → Occurs x q → F x → a x ≡ c (x, o x))
-      → Fits F q a t ↔ Fits G (rename o p q) c t
-  renamed (var x) o p F G a c t s m l = let e = l x refl (s x refl) in (λ h. sym e ∙ h, λ h. e ∙ h)
-  renamed (neg q) o p F G a c t s m l =
-      let p′ : Position = p ++ (0 ∷ []) in
-      let o′ : Owner = enter o p′ q in
-      let F′ : ℕ → Type 0 = λ x. F x ⊎ Free x q in
-      let G′ : Scoped → Type 0 = λ y. G y ⊎ Free y (rename o′ p′ q) in
-      let m′ : Matched F′ G′ o′ = matched-enter F G o p′ q m in (
-        λ n d g h. n (λ x. d (x, o′ x))
-            (λ x u f. let k = m .has x f in
-            ap (λ (z : Option Position). d (x, z)) (enter-kept o p′ q x (k .0) (k .1))
-            ∙ g (x, some (k .0)) (occurs-kept x (k .0) q o′ p′ (enter-kept o p′ q x (k .0) (k .1)) u) (m .knows x (k .0) (k .1))
-            ∙ ap (λ (z : Option Position). c (x, z)) (sym (k .1)) ∙ sym (l x u f))
-            (renamed q o′ p′ F′ G′ (λ x. d (x, o′ x)) d t (λ x. inr) m′ (λ x u f. refl) .1 h),
-        λ n b g h. n (λ y. b (y .0))
-            (λ y u f. let k = m .owned y f in
-            let v : Occurs (y .0) q = rename-occurs q o′ p′ y u in
-            g (y .0) v (m .only (y .0) (k .0) (k .1)) ∙ l (y .0) v (m .only (y .0) (k .0) (k .1))
-            ∙ ap (λ (z : Option Position). c (y .0, z)) (k .1 ∙ sym (k .2)))
-            (renamed q o′ p′ F′ G′ b (λ y. b (y .0)) t (λ x. inr) m′ (λ x u f. refl) .0 h),
-      )
-  renamed (app f qs) o p F G a c (node r ts) s m l =
-      let i = renamed-all qs o p 0 F G a c ts s m l in (λ h. (h .0, i .0 (h .1)), λ h. (h .0, i .1 (h .1)))
+module _ (l : Language) where
+  mutual
+    renamed : (q : Anti ℕ) (o : Owner) (p : Position) (F : ℕ → Type 0) (G : Scoped → Type 0) (a : ℕ → Term) (c : Scoped → Term) (t : Term)
+        → ((x : ℕ) → Free x q → F x) → Matched F G o → ((x : ℕ) → Occurs x q → F x → l ⊢ a x ≈ c (x, o x))
+        → Fits l F q a t ↔ Fits l G (rename o p q) c t
+    renamed (var x) o p F G a c t s m link = let e = link x refl (s x refl) in
+        (term-trans l (c (x, o x)) (a x) t (term-sym l (a x) (c (x, o x)) e), term-trans l (a x) (c (x, o x)) t e)
+    renamed (neg q) o p F G a c t s m link =
+        let p′ : Position = p ++ (0 ∷ []) in
+        let o′ : Owner = enter o p′ q in
+        let F′ : ℕ → Type 0 = λ x. F x ⊎ Free x q in
+        let G′ : Scoped → Type 0 = λ y. G y ⊎ Free y (rename o′ p′ q) in
+        let m′ : Matched F′ G′ o′ = matched-enter F G o p′ q m in (
+          λ n d v g h. n (λ x. d (x, o′ x)) (λ x. v (x, o′ x))
+              (λ x u f. let k = m .has x f in
+              let w = g (x, some (k .0)) (occurs-kept x (k .0) q o′ p′ (enter-kept o p′ q x (k .0) (k .1)) u) (m .knows x (k .0) (k .1)) in
+              term-trans l (d (x, o′ x)) (c (x, o x)) (a x)
+              (subst (λ (z : Option Position). l ⊢ d (x, z) ≈ c (x, o x)) (sym (enter-kept o p′ q x (k .0) (k .1)))
+              (subst (λ (z : Option Position). l ⊢ d (x, some (k .0)) ≈ c (x, z)) (sym (k .1)) w))
+              (term-sym l (a x) (c (x, o x)) (link x u f)))
+              (renamed q o′ p′ F′ G′ (λ x. d (x, o′ x)) d t (λ x. inr) m′ (λ x u f. same-term (l .classes) (d (x, o′ x))) .1 h),
+          λ n b v g h. n (λ y. b (y .0)) (λ y. v (y .0))
+              (λ y u f. let k = m .owned y f in
+              let w : Occurs (y .0) q = rename-occurs q o′ p′ y u in
+              term-trans l (b (y .0)) (a (y .0)) (c y) (g (y .0) w (m .only (y .0) (k .0) (k .1)))
+              (subst (λ (z : Option Position). l ⊢ a (y .0) ≈ c (y .0, z)) (k .1 ∙ sym (k .2)) (link (y .0) w (m .only (y .0) (k .0) (k .1)))))
+              (renamed q o′ p′ F′ G′ b (λ y. b (y .0)) t (λ x. inr) m′ (λ x u f. same-term (l .classes) (b x)) .0 h),
+        )
+    renamed (app f qs) o p F G a c (node r ts) s m link =
+        let i = renamed-all qs o p 0 F G a c ts s m link in (λ h. (h .0, i .0 (h .1)), λ h. (h .0, i .1 (h .1)))
 
-  renamed-all : (qs : Antis ℕ) (o : Owner) (p : Position) (n : ℕ) (F : ℕ → Type 0) (G : Scoped → Type 0) (a : ℕ → Term) (c : Scoped → Term) (ts : Terms)
-      → ((x : ℕ) → FreeIn x qs → F x) → Matched F G o → ((x : ℕ) → OccursIn x qs → F x → a x ≡ c (x, o x))
-      → FitAll F qs a ts ↔ FitAll G (renameAll o p n qs) c ts
-  renamed-all ε o p n F G a c nil s m l = (λ h. h, λ h. h)
-  renamed-all ε o p n F G a c (t :: ts) s m l = (λ h. h, λ h. h)
-  renamed-all (q ▸ qs) o p n F G a c nil s m l = (λ h. h, λ h. h)
-  renamed-all (q ▸ qs) o p n F G a c (t :: ts) s m l =
-      let i = renamed q o (p ++ (n ∷ [])) F G a c t (λ x f. s x (inl f)) m (λ x u. l x (inl u)) in
-      let j = renamed-all qs o p (suc n) F G a c ts (λ x f. s x (inr f)) m (λ x u. l x (inr u)) in
-      (λ h. (i .0 (h .0), j .0 (h .1)), λ h. (i .1 (h .0), j .1 (h .1)))
+    renamed-all : (qs : Antis ℕ) (o : Owner) (p : Position) (n : ℕ) (F : ℕ → Type 0) (G : Scoped → Type 0) (a : ℕ → Term) (c : Scoped → Term) (ts : Terms)
+        → ((x : ℕ) → FreeIn x qs → F x) → Matched F G o → ((x : ℕ) → OccursIn x qs → F x → l ⊢ a x ≈ c (x, o x))
+        → FitAll l F qs a ts ↔ FitAll l G (renameAll o p n qs) c ts
+    renamed-all ε o p n F G a c nil s m link = (λ h. h, λ h. h)
+    renamed-all ε o p n F G a c (t :: ts) s m link = (λ h. h, λ h. h)
+    renamed-all (q ▸ qs) o p n F G a c nil s m link = (λ h. h, λ h. h)
+    renamed-all (q ▸ qs) o p n F G a c (t :: ts) s m link =
+        let i = renamed q o (p ++ (n ∷ [])) F G a c t (λ x f. s x (inl f)) m (λ x u. link x (inl u)) in
+        let j = renamed-all qs o p (suc n) F G a c ts (λ x f. s x (inr f)) m (λ x u. link x (inr u)) in
+        (λ h. (i .0 (h .0), j .0 (h .1)), λ h. (i .1 (h .0), j .1 (h .1)))
 
 module _ (q : Anti ℕ) where
   abbrev own : Owner
@@ -267,21 +274,22 @@ module _ (q : Anti ℕ) where
     owned = owned-free (λ x. none) [] q;
   }
 
-  some-apart : (t : Term) → Some (apart q) t ↔ Some q t
-  some-apart t = (
-    λ s. (λ x. s .0 (x, own x), go (λ x. s .0 (x, own x)) (s .0) (λ x. refl) .1 (s .1)),
-    λ s. (λ y. s .0 (y .0), go (s .0) (λ y. s .0 (y .0)) (λ x. refl) .0 (s .1)),
-  )
-    where
-      go : (a : ℕ → Term) (c : Scoped → Term) → ((x : ℕ) → a x ≡ c (x, own x))
-          → Fits (λ x. Free x q) q a t ↔ Fits (λ y. Free y (apart q)) (apart q) c t
-      go a c e = renamed q own [] (λ x. Free x q) (λ y. Free y (apart q)) a c t (λ x f. f) matched-apart (λ x u f. e x)
+  module _ (l : Language) (t : Term) where
+    some-apart : Some l (apart q) t ↔ Some l q t
+    some-apart = (
+      λ s. (λ x. s .0 (x, own x), λ x. s .1 (x, own x), go (λ x. s .0 (x, own x)) (s .0) (λ x. refl) .1 (s .2)),
+      λ s. (λ y. s .0 (y .0), λ y. s .1 (y .0), go (s .0) (λ y. s .0 (y .0)) (λ x. refl) .0 (s .2)),
+    )
+      where
+        go : (a : ℕ → Term) (c : Scoped → Term) → ((x : ℕ) → a x ≡ c (x, own x))
+            → Fits l (λ x. Free x q) q a t ↔ Fits l (λ y. Free y (apart q)) (apart q) c t
+        go a c e = renamed l q own [] (λ x. Free x q) (λ y. Free y (apart q)) a c t (λ x f. f) matched-apart (λ x u f. term-eq l (a x) (c (x, own x)) (e x))
 
-  -- in any way
-  in-way : (w : Way (apart q)) (t : Term) → ⟦ w ⟧ t ↔ Some q t
-  in-way w t =
-      let i = taken scoped? w (apart-rename q own [] (λ y. Free y (apart q)) (matched-apart .has) (matched-apart .knows)) t in
-      let j = some-apart t in (λ h. j .0 (i .0 h), λ h. i .1 (j .1 h))
+    -- in any way
+    in-way : TermOf l t → (w : Way (apart q)) → Semantics l w t ↔ Some l q t
+    in-way g w =
+        let i = taken l scoped? w (apart-rename q own [] (λ y. Free y (apart q)) (matched-apart .has) (matched-apart .knows)) t g in
+        let j = some-apart in (λ h. j .0 (i .0 h), λ h. i .1 (j .1 h))
 
 -- the complements can be taken
 
@@ -348,16 +356,17 @@ taking q = taking-all (negs q) q (omega arith)
 
 -- with the rule of scope the choices of 001 make no difference, and there is always a way
 
-pub any-way : (q : Anti ℕ) (w v : Way (apart q)) (t : Term) → ⟦ w ⟧ t ↔ ⟦ v ⟧ t
-any-way q w v t = let i = in-way q w t in let j = in-way q v t in (λ h. j .1 (i .0 h), λ h. i .1 (j .0 h))
-
 pub some-way : (q : Anti ℕ) → Way (apart q)
 some-way q = taking (apart q)
 
-pub member : (q : Anti ℕ) (t : Term) → t ∈⟦ q ⟧ ↔ Some q t
-member q t = (λ m. in-way q (m .0) t .0 (m .1), λ s. (some-way q, in-way q (some-way q) t .1 s))
+module _ (l : Language) (q : Anti ℕ) (t : Term) (g : TermOf l t) where
+  pub any-way : (w v : Way (apart q)) → Semantics l w t ↔ Semantics l v t
+  any-way w v = let i = in-way q l t g w in let j = in-way q l t g v in (λ h. j .1 (i .0 h), λ h. i .1 (j .0 h))
 
--- the rule enters only where names clash: where they are apart already, 001 alone comes to the same, in any way
-pub no-clash : (q : Anti ℕ) → Apart (λ x. Free x q) q → (w : Way q) (t : Term) → ⟦ w ⟧ t ↔ t ∈⟦ q ⟧
-no-clash q h w t =
-    let i = taken ℕ-discrete w h t in let j = member q t in (λ m. j .1 (i .0 m), λ m. i .1 (j .0 m))
+  pub member : (l ⊢ t ∈⟦ q ⟧) ↔ Some l q t
+  member = (λ m. in-way q l t g (m .0) .0 (m .1), λ s. (some-way q, in-way q l t g (some-way q) .1 s))
+
+  -- the rule enters only where names clash: where they are apart already, 001 alone comes to the same, in any way
+  pub no-clash : Apart (λ x. Free x q) q → (w : Way q) → Semantics l w t ↔ (l ⊢ t ∈⟦ q ⟧)
+  no-clash h w =
+      let i = taken l ℕ-discrete w h t g in let j = member in (λ m. j .1 (i .0 m), λ m. i .1 (j .0 m))

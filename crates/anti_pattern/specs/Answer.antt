@@ -6,6 +6,7 @@ use lib.Dec.{ltb}
 use Rattle.term.specs.Term.{Term}
 use Rattle.term.specs.Pattern.{Pattern}
 use Rattle.term.specs.declared.Part.{Part}
+use Rattle.anti_pattern.specs.Language.{Language}
 use Rattle.anti_pattern.specs.Search.{Env, Outcome, found, failed, whole}
 use Rattle.anti_pattern.specs.Place.{partOf, eachVariable}
 
@@ -20,8 +21,8 @@ abbrev pub parts : List ℕ → Env → List Part
 parts table e = eachVariable (λ v. partOf table (e .value v) (e .offset v))
 
 -- "The count of a pattern and record is that of the search run, under no allowance, to its first answer or its end."
-abbrev pub countOf : List ℕ → Pattern → Term → ℕ
-countOf table q t = whole table q t .cost
+abbrev pub countOf : Language → Pattern → Term → ℕ
+countOf l q t = whole l q t .cost
 
 abbrev pub shown : List ℕ → Outcome → ℕ → Answer
 shown table (found e) n = bound (parts table e) n
@@ -32,6 +33,5 @@ abbrev pub limit : Bool → ℕ → Answer → Answer
 limit true allowance a = spent allowance
 limit false allowance a = a
 
-unfoldable pub answer : List ℕ → Pattern → Term → ℕ → Answer
-answer table q t allowance =
-    limit (ltb allowance (countOf table q t)) allowance (shown table (whole table q t .out) (countOf table q t))
+unfoldable pub answer : Language → Pattern → Term → ℕ → Answer
+answer l q t allowance = limit (ltb allowance (countOf l q t)) allowance (shown (l .table) (whole l q t .out) (countOf l q t))

@@ -1,7 +1,8 @@
--- The ground semantics of an anti-term: source document 001, definition 2.4. A set of ground terms is a predicate.
+-- The ground semantics of an anti-term in a language: source document 001, definition 2.4. A set of ground terms is a predicate.
 use mathlib.Core.Path.{_≡_}
 use mathlib.Core.Logic.{_⊎_, inl, inr}
 use Rattle.term.specs.Term.{Term}
+use Rattle.anti_pattern.specs.Language.{Language, TermOf, _⊢_≈_}
 use Rattle.anti_pattern.specs.AntiTerm.{Anti, var, neg, app, Antis, ε, _▸_, ground, Occurs, replace}
 
 -- the positions ω of q at which a complement stands, with no complement above it
@@ -44,14 +45,9 @@ pub data Way {X : Type 0} : Anti X → Type 0 where
   bare : {q : Anti X} → (Outermost q → ⊥) → Way q
   take : {q : Anti X} (ω : Outermost q) (z : X) → (Occurs z q → ⊥) → Way (put q ω (var z)) → Way (put q ω (within q ω)) → Way q
 
--- and the set that it comes to, where the ground terms are those of T: all the ground instances of q, or ⟦q[z]⟧ \ ⟦q[q']⟧
-abbrev pub Semantics : (T : Term → Type 0) {X : Type 0} {q : Anti X} → Way q → Term → Type 0
-Semantics T {X} (bare {q} n) t = (σ : X → Term) × ((x : X) → T (σ x)) × (replace (λ x. ground (σ x)) q ≡ ground t)
-Semantics T (take ω z f w v) t = Semantics T w t × (Semantics T v t → ⊥)
-
--- every term is a ground term
-abbrev pub Any : Term → Type 0
-Any t = Unit {0}
-
-abbrev pub ⟦_⟧ : {X : Type 0} {q : Anti X} → Way q → Term → Type 0
-⟦ w ⟧ = Semantics Any w
+-- and the set that it comes to, where the ground terms are those of the language: all that are the same as a ground instance of q, or
+-- ⟦q[z]⟧ \ ⟦q[q']⟧
+abbrev pub Semantics : (l : Language) {X : Type 0} {q : Anti X} → Way q → Term → Type 0
+Semantics l {X} (bare {q} n) t =
+    (σ : X → Term) × ((x : X) → TermOf l (σ x)) × (u : Term) × (replace (λ x. ground (σ x)) q ≡ ground u) × (l ⊢ u ≈ t)
+Semantics l (take ω z f w v) t = Semantics l w t × (Semantics l v t → ⊥)

@@ -1,5 +1,6 @@
 -- What a pattern means, the counted search and its answer, the published definition, and what is demanded of them.
 pub mod Variables
+pub mod Language
 pub mod Meaning
 pub mod Order
 pub mod Search
@@ -9,8 +10,5 @@ pub mod AntiTerm
 pub mod Ground
 pub mod Scope
 pub mod Published
-pub mod Subterm
 pub mod Demands
 pub mod Rides
-pub mod Machine
-pub mod Meter

@@ -4,6 +4,7 @@ use mathlib.Core.List.{List, [], _∷_}
 use mathlib.Core.Bool.{cond}
 use mathlib.Core.Option.{Option, none, some}
 use lib.Dec.{eqb}
+use Rattle.term.specs.Code.{variables}
 use Rattle.term.specs.Table.{width}
 use Rattle.term.specs.Term.{Term, Terms, node, nil, _::_, count, size, sizes}
 use Rattle.term.specs.Pattern.{Pattern, Children, name, symbol, complement, end, plain, run}
@@ -55,7 +56,7 @@ eachFrom f v (suc n) = f v ∷ eachFrom f (suc v) n
 
 -- for ?0 to ?31, then for @0 to @15
 abbrev pub eachVariable : (ℕ → Part) → List Part
-eachVariable f = eachFrom f 0 48
+eachVariable f = eachFrom f 0 variables
 
 abbrev pub partsAt : List ℕ → Pattern → Term → Assignment → List Part
 partsAt table q t a = eachVariable (partAt table q t a)

@@ -1,4 +1,4 @@
--- Anti-pattern matching as it is published: source document 001, definition 3.2, for patterns without run names. A list symbol with
+-- Anti-pattern matching as it is published, in a language: source document 001, definition 3.2, for patterns without run names. A list symbol with
 -- n children is a symbol with n children.
 use Prim.Native.Nat.{ℕ}
 use mathlib.Core.Path.{_≡_}
@@ -6,20 +6,21 @@ use mathlib.Core.Option.{Option, none, some}
 use Rattle.term.specs.Pattern.{Pattern, name, symbol, complement, Children, end, plain, run}
 use Rattle.term.specs.Term.{Term, Terms, single}
 use Rattle.anti_pattern.specs.AntiTerm.{Anti, var, neg, app, Antis, ε, _▸_, Free, Substitution, _⟨_⟩}
-use Rattle.anti_pattern.specs.Ground.{Way, ⟦_⟧}
+use Rattle.anti_pattern.specs.Ground.{Way, Semantics}
+use Rattle.anti_pattern.specs.Language.{Language, TermOf}
 use Rattle.anti_pattern.specs.Meaning.{Assignment}
 use Rattle.anti_pattern.specs.Scope.{apart}
 
 -- t is in the ground semantics of q: by 001, in some way to take the complements, with the names renamed apart
-infix 40 _∈⟦_⟧
-abbrev pub _∈⟦_⟧ : Term → Anti ℕ → Type 0
-t ∈⟦ q ⟧ = (w : Way (apart q)) × ⟦ w ⟧ t
+infix 40 _⊢_∈⟦_⟧
+abbrev pub _⊢_∈⟦_⟧ : Language → Term → Anti ℕ → Type 0
+l ⊢ t ∈⟦ q ⟧ = (w : Way (apart q)) × Semantics l w t
 
 -- Definition 3.2: a solution of q ≪ t is a grounding substitution σ with t ∈ ⟦σ(q)⟧, here of the free variables of q only
-pub record Solution (q : Anti ℕ) (t : Term) (σ : Substitution) : Type 0 where
-  pub domain : (x : ℕ) (u : Term) → σ x ≡ some u → Free x q
+pub record Solution (l : Language) (q : Anti ℕ) (t : Term) (σ : Substitution) : Type 0 where
+  pub domain : (x : ℕ) (u : Term) → σ x ≡ some u → Free x q × TermOf l u
   pub grounding : (x : ℕ) → Free x (σ ⟨ q ⟩) → ⊥
-  pub member : t ∈⟦ σ ⟨ q ⟩ ⟧
+  pub member : l ⊢ t ∈⟦ σ ⟨ q ⟩ ⟧
 
 -- the patterns without run names
 abbrev mutual

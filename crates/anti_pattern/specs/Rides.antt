@@ -1,4 +1,4 @@
--- Document 01's marked rides A to L, and the rules and states of its report, with the answers stated there.
+-- Document 01's marked rides A to L, and the rules and states of its report, with the answers stated there; and some up to class.
 use Prim.Native.Nat.{ℕ}
 use mathlib.Core.Path.{_≡_}
 use mathlib.Core.List.{List, [], _∷_, map}
@@ -9,11 +9,19 @@ use Rattle.term.specs.Pattern.{Pattern, name, symbol, complement, Children, end
 use Rattle.term.specs.Term.{Term, node, Terms, nil, _::_, single}
 use Rattle.term.specs.declared.Part.{Part}
 use Rattle.anti_pattern.specs.Answer.{Answer, bound, nothing, spent, answer}
+use Rattle.anti_pattern.specs.Language.{Language, language}
 use Rattle.anti_pattern.specs.Place.{eachVariable}
 
 -- open, shut, held, gate (1), row (2), gates (list)
 abbrev pub table : List ℕ
 table = 0 ∷ 0 ∷ 0 ∷ 1 ∷ 2 ∷ 255 ∷ []
+
+-- besides, stopped, of one class with held
+abbrev wider : List ℕ
+wider = 0 ∷ 0 ∷ 0 ∷ 1 ∷ 2 ∷ 255 ∷ 0 ∷ []
+
+abbrev classes : List ℕ
+classes = 0 ∷ 1 ∷ 2 ∷ 3 ∷ 4 ∷ 5 ∷ 2 ∷ []
 
 abbrev pub opened : Term
 opened = node 0 nil
@@ -23,6 +31,9 @@ shut = node 1 nil
 
 abbrev held : Term
 held = node 2 nil
+
+abbrev stopped : Term
+stopped = node 6 nil
 
 abbrev pub gate : Term → Term
 gate t = node 3 (single t)
@@ -39,6 +50,9 @@ openedᵖ = symbol 0 end
 
 abbrev shutᵖ : Pattern
 shutᵖ = symbol 1 end
+
+abbrev heldᵖ : Pattern
+heldᵖ = symbol 2 end
 
 abbrev gateᵖ : Pattern → Pattern
 gateᵖ q = symbol 3 (plain q end)
@@ -62,16 +76,25 @@ abbrev showing : List (ℕ × Part) → ℕ → Answer
 showing xs n = bound (eachVariable (lookup xs)) n
 
 pub record Ride : Type 0 where
+  pub language : Language
   pub pattern : Pattern
   pub term : Term
   pub allowance : ℕ
   pub expected : Answer
 
-abbrev under : ℕ → Pattern → Term → Answer → Ride
-under n q t a = record { pattern = q; term = t; allowance = n; expected = a }
+-- the report's allowance
+abbrev ample : ℕ
+ample = 100000
+
+abbrev under : ℕ → Language → Pattern → Term → Answer → Ride
+under n l q t a = record { language = l; pattern = q; term = t; allowance = n; expected = a }
 
 abbrev ride : Pattern → Term → Answer → Ride
-ride = under 100000
+ride = under ample (language table [])
+
+-- by the class list
+abbrev classed : Pattern → Term → Answer → Ride
+classed = under ample (language wider classes)
 
 -- ?0 is the variable 0, @0 the variable 32
 abbrev pub rides : List Ride
@@ -85,7 +108,7 @@ rides =
     ∷ ride (rowᵖ (! (gateᵖ (name 0))) (! (! (gateᵖ (name 0))))) (row (gate opened) (gate shut)) (nothing 5)
     ∷ ride (gatesᵖ (run 32 (plain (! openedᵖ) (run 33 end)))) (gates (opened :: shut :: nil)) (showing ((32, part 2 1 1) ∷ (33, part 4 0 0) ∷ []) 10)
     ∷ ride (gatesᵖ (run 32 (run 33 end))) (gates (opened :: nil)) (showing ((32, part 2 0 0) ∷ (33, part 2 1 1) ∷ []) 4)
-    ∷ under 3 (gatesᵖ (run 32 (run 33 end))) (gates (opened :: nil)) (spent 3)
+    ∷ under 3 (language table []) (gatesᵖ (run 32 (run 33 end))) (gates (opened :: nil)) (spent 3)
     ∷ ride (gatesᵖ (run 32 (run 32 end))) (gates (opened :: nil)) (nothing 5)
     ∷ ride (! (gatesᵖ (run 32 (plain (name 0) (run 33 (plain (! (name 0)) (run 34 end))))))) (gates nil) (showing [] 3)
     ∷ ride (gatesᵖ (plain (! openedᵖ) end)) (gates nil) (nothing 1)
@@ -94,8 +117,20 @@ rides =
     ∷ ride (rowᵖ (! (name 0)) (name 0)) (row shut opened) (showing ((0, part 2 1 1) ∷ []) 4)
     ∷ ride (rowᵖ (! (name 0)) (name 0)) held (nothing 1)
     ∷ ride (rowᵖ openedᵖ (! shutᵖ)) held (nothing 1)
+    -- up to class: gate(held) holds of gate(stopped), two pairs
+    ∷ classed (gateᵖ heldᵖ) (gate stopped) (showing [] 2)
+    -- row(?0, ?0) on row(held, stopped), three pairs: ?0 is shown at its first place; without the class list the last pair fails
+    ∷ classed (rowᵖ (name 0) (name 0)) (row held stopped) (showing ((0, part 1 1 1) ∷ []) 3)
+    ∷ under ample (language wider []) (rowᵖ (name 0) (name 0)) (row held stopped) (nothing 3)
+    -- row(?0, !?0): the complement's inside is a fourth pair, which holds
+    ∷ classed (rowᵖ (name 0) (! (name 0))) (row held stopped) (nothing 4)
+    -- gates(@0, @0) on gates(held, stopped): the list, then lengths 0 and 1, each tried at either place; the second leaves nothing over
+    ∷ classed (gatesᵖ (run 32 (run 32 end))) (gates (held :: stopped :: nil)) (showing ((32, part 2 1 1) ∷ []) 5)
+    -- row(?0, ?0) on lists of 2 and of 6 children, three pairs: 2 and 6 are of one class as symbols, not as numbers of children
+    ∷ classed (rowᵖ (name 0) (name 0)) (row (gates (opened :: opened :: nil)) (gates (opened :: opened :: opened :: opened :: opened :: opened :: nil)))
+    (nothing 3)
     ∷ []
 
 -- each comes to the answer stated
 abbrev pub RidesHold : Type 0
-RidesHold = map (λ r. answer table (r .pattern) (r .term) (r .allowance)) rides ≡ map (λ r. r .expected) rides
+RidesHold = map (λ r. answer (r .language) (r .pattern) (r .term) (r .allowance)) rides ≡ map (λ r. r .expected) rides

@@ -1,14 +1,17 @@
 -- The counted search: document 01's "The count". What comes after a pair is a function of the assignments made so far and of the
--- complements put by.
+-- complements put by. "Symbols of one class count as the same wherever a symbol or two parts are compared"; a call that brings no class list
+-- has the empty one.
 use Prim.Native.Nat.{ℕ, zero, _+_}
 use mathlib.Core.List.{List, [], _∷_, _++_}
 use mathlib.Core.Bool.{Bool, true, false, cond}
 use mathlib.Core.Option.{Option, none, some}
 use lib.Dec.{eqb}
+use Rattle.term.specs.Class.{classOf}
 use Rattle.term.specs.Table.{width}
 use Rattle.term.specs.Term.{Term, Terms, node, nil, _::_, _⧺_, single, size, sizes}
 use Rattle.term.specs.Same.{sameTerm, sameTerms}
 use Rattle.term.specs.Pattern.{Pattern, Children, name, symbol, complement, end, plain, run}
+use Rattle.anti_pattern.specs.Language.{Language}
 use Rattle.anti_pattern.specs.Meaning.{Assignment, unassigned}
 
 -- the assignments made so far, and the offset of each variable's first place
@@ -78,53 +81,56 @@ unfoldable pub finish : Env → List Deferred → Result
 finish e [] = record { out = found e; cost = zero }
 finish e (d ∷ ds) = refuted (d e .out) (d e .cost) (λ u. finish e ds)
 
--- "An unassigned name takes the node; an assigned one must equal it."
-abbrev pub sameOr : Option Terms → Terms → Env → Env → Option Env
-sameOr none w e fresh = some fresh
-sameOr (some x) w e fresh = cond (sameTerms x w) (some e) none
-
-abbrev pub assign : Env → ℕ → ℕ → Terms → Option Env
-assign e v at w = sameOr (e .value v) w e (bind e v at w)
-
 -- "An unassigned run name tries lengths 0 up to the elements left in its list": w is taken, and then what is left
 abbrev pub lengths : Terms → Terms → (Terms → Terms → Result) → Result
 lengths w nil f = counted (f w nil)
 lengths w (t :: ts) f = orElse (counted (f w (t :: ts))) (λ u. lengths (w ⧺ single t) ts f)
 
--- what is left of the second sequence behind the first, where it begins with it
-unfoldable pub behind : Terms → Terms → Option Terms
-behind nil us = some us
-behind (t :: ts) nil = none
-behind (t :: ts) (u :: us) = cond (sameTerm t u) (behind ts us) none
+module _ (classes : List ℕ) where
+  -- "An unassigned name takes the node; an assigned one must equal it."
+  abbrev pub sameOr : Option Terms → Terms → Env → Env → Option Env
+  sameOr none w e fresh = some fresh
+  sameOr (some x) w e fresh = cond (sameTerms classes x w) (some e) none
 
--- an assigned run name "tries its own length only, counted even where it doesn't fit, and the elements there must equal its run"
-abbrev pub tryRun : Option Terms → Terms → (Terms → Terms → Result) → (Terms → Terms → Result) → Result
-tryRun none ts fresh same = lengths nil ts fresh
-tryRun (some w) ts fresh same = counted (ifSome (behind w ts) (same w))
+  abbrev pub assign : Env → ℕ → ℕ → Terms → Option Env
+  assign e v at w = sameOr (e .value v) w e (bind e v at w)
 
-unfoldable mutual
-  -- a pattern node set against the term that stands at the offset; "A complement is put by."
-  pub search : List ℕ → Pattern → Term → ℕ → Env → List Deferred → Next → Result
-  search table (name v) t at e put k = counted (ifSome (assign e v at (single t)) (λ f. k f put))
-  search table (symbol s qs) (node r ts) at e put k = counted (ifTrue (eqb s r) (λ u. searches table qs ts (at + width table r) e put k))
-  search table (complement q) t at e put k = counted (k e (put ++ ((λ f. search table q t at f [] finish) ∷ [])))
+  -- what is left of the second sequence behind the first, where it begins with it
+  unfoldable pub behind : Terms → Terms → Option Terms
+  behind nil us = some us
+  behind (t :: ts) nil = none
+  behind (t :: ts) (u :: us) = cond (sameTerm classes t u) (behind ts us) none
 
-  -- the child patterns left, and the elements left, of which the first stands at the offset: "A plain child pattern with no element
-  -- left fails uncounted; so do elements left over once the pairs of the last child pattern are done"
-  pub searches : List ℕ → Children → Terms → ℕ → Env → List Deferred → Next → Result
-  searches table end nil at e put k = k e put
-  searches table end (t :: ts) at e put k = fail
-  searches table (plain q qs) nil at e put k = fail
-  searches table (plain q qs) (t :: ts) at e put k = search table q t at e put (λ f ds. searches table qs ts (at + size table t) f ds k)
-  searches table (run v qs) ts at e put k =
-      tryRun (e .value v) ts
-      (λ w us. searches table qs us (at + sizes table w) (bind e v at w) put k)
-      (λ w us. searches table qs us (at + sizes table w) e put k)
+  -- an assigned run name "tries its own length only, counted even where it doesn't fit, and the elements there must equal its run"
+  abbrev pub tryRun : Option Terms → Terms → (Terms → Terms → Result) → (Terms → Terms → Result) → Result
+  tryRun none ts fresh same = lengths nil ts fresh
+  tryRun (some w) ts fresh same = counted (ifSome (behind w ts) (same w))
 
--- "the whole pattern is a level and so is the inside of each complement"
-abbrev pub level : List ℕ → Pattern → Term → ℕ → Env → Result
-level table q t at e = search table q t at e [] finish
+module _ (table classes : List ℕ) where
+  unfoldable mutual
+    -- a pattern node set against the term that stands at the offset; "A complement is put by."
+    pub search : Pattern → Term → ℕ → Env → List Deferred → Next → Result
+    search (name v) t at e put k = counted (ifSome (assign classes e v at (single t)) (λ f. k f put))
+    search (symbol s qs) (node r ts) at e put k =
+        counted (ifTrue (eqb (classOf classes s) (classOf classes r)) (λ u. searches qs ts (at + width table r) e put k))
+    search (complement q) t at e put k = counted (k e (put ++ ((λ f. search q t at f [] finish) ∷ [])))
+
+    -- the child patterns left, and the elements left, of which the first stands at the offset: "A plain child pattern with no element
+    -- left fails uncounted; so do elements left over once the pairs of the last child pattern are done"
+    pub searches : Children → Terms → ℕ → Env → List Deferred → Next → Result
+    searches end nil at e put k = k e put
+    searches end (t :: ts) at e put k = fail
+    searches (plain q qs) nil at e put k = fail
+    searches (plain q qs) (t :: ts) at e put k = search q t at e put (λ f ds. searches qs ts (at + size table t) f ds k)
+    searches (run v qs) ts at e put k =
+        tryRun classes (e .value v) ts
+        (λ w us. searches qs us (at + sizes table w) (bind e v at w) put k)
+        (λ w us. searches qs us (at + sizes table w) e put k)
+
+  -- "the whole pattern is a level and so is the inside of each complement"
+  abbrev pub level : Pattern → Term → ℕ → Env → Result
+  level q t at e = search q t at e [] finish
 
 -- the search of a whole pattern, "under no allowance, to its first answer or its end"
-abbrev pub whole : List ℕ → Pattern → Term → Result
-whole table q t = level table q t zero start
+abbrev pub whole : Language → Pattern → Term → Result
+whole l q t = level (l .table) (l .classes) q t zero start

@@ -8,6 +8,7 @@ use mathlib.Core.Option.{Option, some}
 use lib.ListN.{length, getD, take, drop}
 use lib.Dec.{eqb}
 use borrow.Author.Tests.{eqb-true}
+use Rattle.term.specs.Class.{Alike}
 use Rattle.term.specs.Term.{Term, Terms, count, sizes}
 use Rattle.term.specs.Pattern.{Pattern, Children, name, symbol, complement, end, plain, run, patternTree, childTrees}
 use Rattle.term.specs.Limits.{Written, belowOf, Fits, FitAll, Octets}
@@ -17,24 +18,27 @@ use Rattle.term.specs.declared.Code.the-variants.{Symbol}
 use Rattle.term.specs.declared.Part.{Part}
 use Rattle.term.proofs.Sizes.{terms-sizes, take-terms}
 use Rattle.anti_pattern.specs.Answer.{Answer as Outcome, bound, nothing, spent, parts, countOf, shown, answer}
-use Rattle.anti_pattern.specs.Demands.{First, AnswerExact}
+use Rattle.anti_pattern.specs.Demands.{First, PartsShown, AnswerExact, PublishedAgrees}
+use Rattle.anti_pattern.specs.Language.{TermOf}
 use Rattle.anti_pattern.specs.Meaning.{Assignment, Satisfies}
-use Rattle.anti_pattern.specs.Meter.{Metered, met, metered}
+use Rattle.anti_pattern.proofs.Meter.{Metered, met, metered}
 use Rattle.anti_pattern.specs.Place.{partOf, orAbsent, partAt, partsAt, eachVariable}
 use Rattle.anti_pattern.specs.Published.{NoRuns, assignment}
 use Rattle.anti_pattern.specs.Search.{Env, Outcome as Ended, found, failed, whole}
 use Rattle.anti_pattern.specs.Variables.{vars, varsAll, free, among}
 use Rattle.anti_pattern.proofs.Allowance.{answer-over, answer-within, bound-found}
-use Rattle.anti_pattern.proofs.Demands.{search-decides, parts-shown, answer-exact, published-agrees, published-answer}
+use Rattle.anti_pattern.proofs.Demands.{search-decides, parts-shown, answer-exact, published-agrees}
+use Rattle.anti_pattern.proofs.Within.{accepted-of}
 use Rattle.anti_pattern.proofs.Metering.{meter-within}
 use Rattle.search.specs.Level.{Reply, searchOf}
-use Rattle.matcher.specs.Call.{answerNumber, answerCount, Input, Checked, trees, checked, told, answerBy, answerOf, numbers, written, bufferBy, bufferOf}
+use Rattle.matcher.specs.Call.{answerNumber, answerCount, classesOf, languageOf, broughtAccepted, Input, Checked, trees, checked, told, answerBy, answerOf, numbers, written, bufferBy, bufferOf}
 use Rattle.matcher.specs.Demands.{offsetIn, lengthIn, Shows, Answered, Published}
-use Rattle.matcher.specs.Represents.{Shown, Agrees, is-found}
+use Rattle.matcher.proofs.Represents.{Shown, Agrees, is-found}
 use Rattle.matcher.proofs.Buffers.{offset-shown, length-shown}
 use Rattle.matcher.proofs.Checks.{input-checked}
 use Rattle.anti_pattern.proofs.Each.{each-at}
 use Rattle.matcher.proofs.Linked.{whole-agrees}
+use Rattle.search.specs.Shown.{answerWidth}
 
 -- the free variables of an accepted pattern are among the 48
 
@@ -51,7 +55,7 @@ mutual
   vars-below : (table : List ℕ) (q : Pattern) (left : ℕ) (inList : Bool) → Fits table false (patternTree q) left inList
       → (v : ℕ) (vs : List ℕ) → (among v vs ≡ true → v < 48) → among v (vars q vs) ≡ true → v < 48
   vars-below table (name u) left inList f v vs k h = first-below u v vs (omega (arith, f .1)) k h
-  vars-below table (symbol s qs) left inList f v vs k h = all-below table qs (belowOf (Symbol s) left) (listCode table (Symbol s)) (f .3) v vs k h
+  vars-below table (symbol s qs) left inList f v vs k h = all-below table qs (belowOf left) (listCode table (Symbol s)) (f .3) v vs k h
   vars-below table (complement q) left inList f v vs k h = k h
 
   all-below : (table : List ℕ) (qs : Children) (left : ℕ) (inList : Bool) → FitAll table false (childTrees qs) left inList
@@ -64,10 +68,14 @@ mutual
 
 -- what the search finds is shown
 
-module _ (table pattern bytes : List ℕ) (q : Pattern) (t : Term) (i : Input table pattern bytes q t) (e : Env) (o : whole table q t .out ≡ found e)
+module _ (table : List ℕ) (brought : Option (List ℕ)) (pattern bytes : List ℕ) (k : Alike table (classesOf brought)) (q : Pattern) (t : Term)
+    (i : Input table pattern bytes q t) (e : Env) (o : whole (languageOf table brought) q t .out ≡ found e)
     (ps : List Part) (h : Shown table bytes ps e) (rest : List ℕ) where
-  satisfies : Satisfies q t (e .value)
-  satisfies = search-decides table q t .found-first e o .satisfies
+  satisfies : Satisfies (languageOf table brought) q t (e .value)
+  satisfies = search-decides (languageOf table brought) k q t (accepted-of (languageOf table brought) t (i .record-accepted)) .found-first e o .satisfies
+
+  placed : PartsShown (languageOf table brought) q t
+  placed = parts-shown (languageOf table brought) k q t (accepted-of (languageOf table brought) t (i .record-accepted))
 
   below : (v : ℕ) → among v (free q) ≡ true → v < 48
   below v m =
@@ -95,12 +103,12 @@ module _ (table pattern bytes : List ℕ) (q : Pattern) (t : Term) (i : Input ta
 
   place-pair : (v : ℕ) → v < 48 → (p : Part) → partAt table q t (e .value) v ≡ p
       → (offsetIn (numbers (parts table e) ++ rest) v ≡ p .offset) × (lengthIn (numbers (parts table e) ++ rest) v ≡ p .length)
-  place-pair v low p z = pair-is v low p (each-is (partAt table q t (e .value)) v low (parts-shown table q t .shown-at-first-place e o) ∙ z)
+  place-pair v low p z = pair-is v low p (each-is (partAt table q t (e .value)) v low (placed .shown-at-first-place e o) ∙ z)
 
   env-shown : Shows table bytes q t (e .value) (numbers (parts table e) ++ rest)
   env-shown = record {
     first-place = λ v m.
-        let f = parts-shown table q t .free-placed (e .value) satisfies v m in
+        let f = placed .free-placed (e .value) satisfies v m in
         f .2 ∙ ap some (sym (place-pair v (below v m) (part (f .0) (sizes table (f .1)) (count (f .1)))
         (ap₂ (λ (x : Option ℕ) (y : Option Terms). orAbsent x (partOf table y)) (f .2) (f .3)) .0));
     value-length = λ v w m z. value-pair v w (below v m) z .1 ∙ sym (terms-sizes table w);
@@ -108,7 +116,7 @@ module _ (table pattern bytes : List ℕ) (q : Pattern) (t : Term) (i : Input ta
         let p = value-pair v w (below v m) z in
         let s = h .stands v w z in
         ap₂ (λ (n at : ℕ). take n (drop at bytes)) (p .1) (p .0) ∙ ap (take (sizes table w)) (s .stands) ∙ take-terms table w (s .after);
-    absent-mark = λ v low m. place-pair v low absent (parts-shown table q t .others-absent (e .value) satisfies v m);
+    absent-mark = λ v low m. place-pair v low absent (placed .others-absent (e .value) satisfies v m);
   }
 
 -- the number of what is told says which it is
@@ -131,96 +139,105 @@ bound-told (spent n) h = absurd (omega arith)
 shown-by : {table bytes : List ℕ} {e : Env} {left : ℕ} {r : Reply} → Agrees table bytes (met e left) r → Shown table bytes (r .parts) e
 shown-by (is-found h) = h
 
-module _ (table pattern bytes : List ℕ) (q : Pattern) (t : Term) (i : Input table pattern bytes q t) (allowance : ℕ) where
-  found-shown : (e : Env) → countOf table q t ≤ allowance → whole table q t .out ≡ found e
-      → Shown table bytes (searchOf table pattern bytes allowance .parts) e
-  found-shown e within o =
-      shown-by (subst (λ (m : Metered). Agrees table bytes m (searchOf table pattern bytes allowance))
-      (meter-within allowance (whole table q t) within ∙ ap (λ (x : Ended). metered true x (allowance - countOf table q t)) o)
-      (whole-agrees table pattern bytes q t i allowance))
+module _ (table : List ℕ) (brought : Option (List ℕ)) (pattern bytes : List ℕ) (k : Alike table (classesOf brought)) (q : Pattern) (t : Term)
+    (i : Input table pattern bytes q t) (allowance : ℕ) where
+  of : TermOf (languageOf table brought) t
+  of = accepted-of (languageOf table brought) t (i .record-accepted)
 
-  bound-shows : (before : List ℕ) → answerNumber (told (answer table q t allowance)) ≡ 0
-      → (x : Assignment) × First q t x × Shows table bytes q t x (written (answer table q t allowance) before)
+  found-shown : (e : Env) → countOf (languageOf table brought) q t ≤ allowance → whole (languageOf table brought) q t .out ≡ found e
+      → Shown table bytes (searchOf table (classesOf brought) pattern bytes allowance .parts) e
+  found-shown e within o =
+      shown-by (subst (λ (m : Metered). Agrees table bytes m (searchOf table (classesOf brought) pattern bytes allowance))
+      (meter-within allowance (whole (languageOf table brought) q t) within ∙ ap (λ (x : Ended). metered true x (allowance - countOf (languageOf table brought) q t)) o)
+      (whole-agrees table (classesOf brought) pattern bytes k q t i allowance))
+
+  bound-shows : (before : List ℕ) → answerNumber (told (answer (languageOf table brought) q t allowance)) ≡ 0
+      → (x : Assignment) × First (languageOf table brought) q t x × Shows table bytes q t x (written (answer (languageOf table brought) q t allowance) before)
   bound-shows before h =
-      let b = bound-told (answer table q t allowance) h in
-      let f = bound-found table q t allowance (b .0) (b .1) (b .2) in
+      let b = bound-told (answer (languageOf table brought) q t allowance) h in
+      let f = bound-found (languageOf table brought) q t allowance (b .0) (b .1) (b .2) in
       let e = f .1 .0 in
-      let z : answer table q t allowance ≡ bound (parts table e) (b .1) = b .2 ∙ ap (λ (ps : List Part). bound ps (b .1)) (f .1 .2) in (
+      let z : answer (languageOf table brought) q t allowance ≡ bound (parts table e) (b .1) = b .2 ∙ ap (λ (ps : List Part). bound ps (b .1)) (f .1 .2) in (
         e .value,
-        search-decides table q t .found-first e (f .1 .1),
+        search-decides (languageOf table brought) k q t of .found-first e (f .1 .1),
         subst (Shows table bytes q t (e .value)) (ap (λ (o : Outcome). written o before) (sym z))
-            (env-shown table pattern bytes q t i e (f .1 .1) _ (found-shown e (f .0) (f .1 .1)) (drop 96 before)),
+            (env-shown table brought pattern bytes k q t i e (f .1 .1) _ (found-shown e (f .0) (f .1 .1)) (drop answerWidth before)),
       )
 
   count-told : (o : Ended) (n : ℕ) → answerCount (told (shown table o n)) ≡ n
   count-told (found e) n = refl
   count-told failed n = refl
 
-  module _ (before : List ℕ) (pattern-octets : Octets pattern) (record-octets : Octets bytes) (wide : 96 ≤ length before) where
-    pub same-call : (more : ℕ) → answer table q t more ≡ answer table q t allowance
-        → (answerOf table pattern bytes more (length before) ≡ told (answer table q t allowance))
-        × (bufferOf table pattern bytes more before ≡ written (answer table q t allowance) before)
+  module _ (before : List ℕ) (pattern-octets : Octets pattern) (record-octets : Octets bytes) (wide : answerWidth ≤ length before)
+      (accepted : broughtAccepted table brought ≡ true) where
+    pub same-call : (more : ℕ) → answer (languageOf table brought) q t more ≡ answer (languageOf table brought) q t allowance
+        → (answerOf table brought pattern bytes more (length before) ≡ told (answer (languageOf table brought) q t allowance))
+        × (bufferOf table brought pattern bytes more before ≡ written (answer (languageOf table brought) q t allowance) before)
     unfolding answerOf bufferOf
     same-call more z =
-        let c : checked table pattern bytes (length before) ≡ trees q t =
-        input-checked table pattern bytes (length before) pattern-octets record-octets q t wide i in (
-          ap (λ (x : Checked). answerBy x table more) c ∙ ap told z,
-          ap (λ (x : Checked). bufferBy x table more before) c
+        let c : checked table brought pattern bytes (length before) ≡ trees q t =
+        input-checked table brought pattern bytes (length before) pattern-octets record-octets q t wide accepted i in (
+          ap (λ (x : Checked). answerBy x table brought more) c ∙ ap told z,
+          ap (λ (x : Checked). bufferBy x table brought more before) c
               ∙ ap (λ (o : Outcome). written o before) z,
         )
 
-    pub answered : Answered table pattern bytes before allowance q t (told (answer table q t allowance)) (written (answer table q t allowance) before)
+    pub answered : Answered table brought pattern bytes before allowance q t (told (answer (languageOf table brought) q t allowance)) (written (answer (languageOf table brought) q t allowance) before)
     answered = record {
       spent-exactly = (
-        λ h. let s = spent-told (answer table q t allowance) h in exact .spent-exactly (s .0) .0 (s .1) .1,
+        λ h. let s = spent-told (answer (languageOf table brought) q t allowance) h in exact .spent-exactly (s .0) .0 (s .1) .1,
         λ h. ap (λ (o : Outcome). answerNumber (told o)) (exact .spent-exactly allowance .1 (refl, h)),
       );
-      spent-shows = λ h. ap (λ (o : Outcome). answerCount (told o)) (answer-over table q t allowance h);
-      shows-count = λ h. ap (λ (o : Outcome). answerCount (told o)) (answer-within table q t allowance h)
-          ∙ count-told (whole table q t .out) (countOf table q t);
+      spent-shows = λ h. ap (λ (o : Outcome). answerCount (told o)) (answer-over (languageOf table brought) q t allowance h);
+      shows-count = λ h. ap (λ (o : Outcome). answerCount (told o)) (answer-within (languageOf table brought) q t allowance h)
+          ∙ count-told (whole (languageOf table brought) q t .out) (countOf (languageOf table brought) q t);
       none-exactly = (
         λ h.
-            let s = none-told (answer table q t allowance) h in
+            let s = none-told (answer (languageOf table brought) q t allowance) h in
             let b = exact .none-exactly (s .0) .0 (s .1) in
             (b .1, b .2),
-        λ h. ap (λ (o : Outcome). answerNumber (told o)) (exact .none-exactly (countOf table q t) .1 (refl, h .0, h .1)),
+        λ h. ap (λ (o : Outcome). answerNumber (told o)) (exact .none-exactly (countOf (languageOf table brought) q t) .1 (refl, h .0, h .1)),
       );
       bound-exactly = (
         λ h.
-            let s = bound-told (answer table q t allowance) h in
+            let s = bound-told (answer (languageOf table brought) q t allowance) h in
             let b = exact .bound-exactly (s .0) (s .1) .0 (s .2) in
             (b .1, (b .2 .0, b .2 .1)),
         λ h. ap (λ (o : Outcome). answerNumber (told o))
-            (exact .bound-exactly (partsAt table q t (h .1 .0)) (countOf table q t) .1 (refl, h .0, (h .1 .0, h .1 .1, refl))),
+            (exact .bound-exactly (partsAt table q t (h .1 .0)) (countOf (languageOf table brought) q t) .1 (refl, h .0, (h .1 .0, h .1 .1, refl))),
       );
       bound-shows = bound-shows before;
-      larger-allowance = λ more h k. same-call more (exact .larger-allowance more h k);
+      larger-allowance = λ more h l. same-call more (exact .larger-allowance more h l);
     }
       where
-        exact : AnswerExact table q t allowance
-        exact = answer-exact table q t allowance
+        exact : AnswerExact (languageOf table brought) q t allowance
+        exact = answer-exact (languageOf table brought) k q t of allowance
 
-    pub published : (n : NoRuns q) → Published table bytes allowance q n t (told (answer table q t allowance)) (written (answer table q t allowance) before)
+    pub published : (n : NoRuns q) → Published table brought bytes allowance q n t (told (answer (languageOf table brought) q t allowance)) (written (answer (languageOf table brought) q t allowance) before)
     published n = record {
       none-exactly = (
-        λ h. let s = none-told (answer table q t allowance) h in
-            let b = published-answer table q n t allowance .none-exactly (s .0) .0 (s .1) in
+        λ h. let s = none-told (answer (languageOf table brought) q t allowance) h in
+            let b = agrees .none-exactly (s .0) .0 (s .1) in
             (b .1, b .2),
-        λ h. ap (λ (o : Outcome). answerNumber (told o)) (published-answer table q n t allowance .none-exactly (countOf table q t) .1 (refl, h .0, h .1)),
+        λ h. ap (λ (o : Outcome). answerNumber (told o)) (agrees .none-exactly (countOf (languageOf table brought) q t) .1 (refl, h .0, h .1)),
       );
       bound-exactly = (
-        λ h. let s = bound-told (answer table q t allowance) h in
-            let b = published-answer table q n t allowance .bound-exactly (s .0) (s .1) .0 (s .2) in
+        λ h. let s = bound-told (answer (languageOf table brought) q t allowance) h in
+            let b = agrees .bound-exactly (s .0) (s .1) .0 (s .2) in
             (b .1, (b .2 .0, b .2 .1)),
         λ h. ap (λ (o : Outcome). answerNumber (told o))
-            (published-answer table q n t allowance .bound-exactly (partsAt table q t (assignment (h .1 .0))) (countOf table q t) .1
+            (agrees .bound-exactly (partsAt table q t (assignment (h .1 .0))) (countOf (languageOf table brought) q t) .1
             (refl, h .0, (h .1 .0, h .1 .1, refl))),
       );
       bound-shows = λ h.
           let b = bound-shows before h in
-          let s = published-agrees table q n t .satisfying-substitution (b .0) (b .1 .satisfies) in (
+          let s = agrees .satisfying-substitution (b .0) (b .1 .satisfies) in (
             s .0,
-            published-agrees table q n t .solution-satisfies (s .0) .1 (subst (Satisfies q t) (s .1) (b .1 .satisfies)),
-            subst (λ (x : Assignment). Shows table bytes q t x (written (answer table q t allowance) before)) (s .1) (b .2),
+            agrees .solution-satisfies (s .0) .1 (subst (Satisfies (languageOf table brought) q t) (s .1) (b .1 .satisfies)),
+            subst (λ (x : Assignment). Shows table bytes q t x (written (answer (languageOf table brought) q t allowance) before)) (s .1) (b .2),
           );
+      only-one = agrees .at-most-one;
     }
+      where
+        agrees : PublishedAgrees (languageOf table brought) q t n allowance
+        agrees = published-agrees (languageOf table brought) k q t of n allowance

@@ -14,15 +14,15 @@ use Rattle.term.specs.declared.Code.the-variants.{Run}
 use Rattle.term.specs.declared.Part.{Part}
 use Rattle.term.proofs.SameParts.{branch-some}
 use Rattle.anti_pattern.specs.Search.{Env, Result, bind, lengths}
-use Rattle.anti_pattern.specs.Machine.{Frame, Pending, frame, machine}
-use Rattle.anti_pattern.specs.Meter.{Metered, meter, thenMeter, refuteMeter}
+use Rattle.anti_pattern.proofs.Machine.{Frame, Pending, frame, machine}
+use Rattle.anti_pattern.proofs.Meter.{Metered, meter, thenMeter, refuteMeter}
 use Rattle.anti_pattern.proofs.Facts.{join-one, count-join}
 use Rattle.anti_pattern.proofs.Metering.{Split, enough, over, split}
 use Rattle.anti_pattern.proofs.Steps.{step-found, step-refute, step-length, step-last-length, length-used-up}
 use Rattle.search.specs.State.{PutBy, State}
 use Rattle.search.specs.Level.{Reply, reply, spentAt, startOf, tried, orElse, lengthsOf, insideOf, andThen, complementsOf, levels}
 use Rattle.search.specs.declared.Outcome.the-variants.{Found}
-use Rattle.matcher.specs.Represents.{Limited, bytesLeft, Stands, Shown, Waits, AllWait, Represents, Agrees, is-found, is-failed, is-spent}
+use Rattle.matcher.proofs.Represents.{Limited, bytesLeft, Stands, Shown, Waits, AllWait, Represents, Agrees, is-found, is-failed, is-spent}
 use Rattle.term.proofs.Joins.{sizes-join, sizes-none}
 use Rattle.matcher.proofs.Places.{here-stands, past-leaf}
 use Rattle.matcher.proofs.Parts.{shown-bind}
@@ -69,13 +69,13 @@ start-represents table pattern bytes parts e q t node c l stands shown = record 
 }
 
 -- what a search of levels, at most n within one another, is to reply
-abbrev pub Searches : List ℕ → List ℕ → ℕ → (List ℕ → State → ℕ → Reply) → Type 0
-Searches table bytes n lv =
+abbrev pub Searches : List ℕ → List ℕ → List ℕ → ℕ → (List ℕ → State → ℕ → Reply) → Type 0
+Searches table classes bytes n lv =
     (pattern : List ℕ) → length pattern ≤ 256 → (s : State) (qs : Children) (ts : Terms) (fs : List Frame) (e : Env) (ds : List Pending) (left : ℕ)
     → Represents table pattern bytes s qs ts fs e ds → levels pattern (s .place .at) ≤ n
-    → Agrees table bytes (meter left (machine table (frame qs ts (s .place .node) ∷ fs) e ds)) (lv pattern s left)
+    → Agrees table bytes (meter left (machine table classes (frame qs ts (s .place .node) ∷ fs) e ds)) (lv pattern s left)
 
-module _ (table bytes : List ℕ) (n : ℕ) (lv : List ℕ → State → ℕ → Reply) (searches : Searches table bytes n lv) (pattern : List ℕ)
+module _ (table classes bytes : List ℕ) (n : ℕ) (lv : List ℕ → State → ℕ → Reply) (searches : Searches table classes bytes n lv) (pattern : List ℕ)
     (narrow : length pattern ≤ 256) where
   -- the lengths of an unassigned run name
   module _ (small : length table ≤ 200) (short : length bytes ≤ 4096) (s : State) (v : ℕ) (qs : Children) (ts : Terms) (fs : List Frame) (e : Env)
@@ -91,7 +91,7 @@ module _ (table bytes : List ℕ) (n : ℕ) (lv : List ℕ → State → ℕ →
         (here-stands table pattern bytes (s .place) (s .frames) (run v qs) w us fs (g .here)))
 
     abbrev bound : Terms → Terms → Result
-    bound w us = machine table (frame qs us (s .place .node + sizes table w) ∷ fs) (bind e v (s .place .node) w) ds
+    bound w us = machine table classes (frame qs us (s .place .node + sizes table w) ∷ fs) (bind e v (s .place .node) w) ds
 
     lengths-spent : (k m size left : ℕ) → left ≡ 0 → lengthsOf (lv pattern) table bytes v s k m size left ≡ spentAt left
     unfolding lengthsOf
@@ -163,7 +163,7 @@ module _ (table bytes : List ℕ) (n : ℕ) (lv : List ℕ → State → ℕ →
 
   inside-agrees : (parts : List Part) (e : Env) (c : PutBy) (d : Pending) (left : ℕ) → Shown table bytes parts e → Waits table pattern bytes c d
       → 257 * length pattern ≤ n
-      → Agrees table bytes (meter left (machine table (frame (plain (d .inside) end) (single (d .term)) (d .at) ∷ []) e []))
+      → Agrees table bytes (meter left (machine table classes (frame (plain (d .inside) end) (single (d .term)) (d .at) ∷ []) e []))
       (lv (take (c .size) (drop (c .at + 1) pattern)) (startOf parts (c .node)) left)
   inside-agrees parts e c d left shown w few =
       let i = take (c .size) (drop (c .at + 1) pattern) in
@@ -175,18 +175,18 @@ module _ (table bytes : List ℕ) (n : ℕ) (lv : List ℕ → State → ℕ →
         ap length (w .codes),
         branch-some table (patternTree (d .inside)) [],
       ) in
-      carry (ap (λ (m : ℕ). meter left (machine table (frame (plain (d .inside) end) (single (d .term)) m ∷ []) e [])) (w .at)) refl
+      carry (ap (λ (m : ℕ). meter left (machine table classes (frame (plain (d .inside) end) (single (d .term)) m ∷ []) e [])) (w .at)) refl
       (searches i (omega arith) (startOf parts (c .node)) (plain (d .inside) end) (single (d .term)) [] e [] left
       (start-represents table i bytes parts e (d .inside) (d .term) (c .node) (w .codes) (w .limited) (w .stands) shown)
       (omega arith))
 
   pub complements-agree : (parts : List Part) (e : Env) (cs : List PutBy) (ds : List Pending) (left : ℕ) → Shown table bytes parts e
       → AllWait table pattern bytes cs ds → 257 * length pattern ≤ n
-      → Agrees table bytes (meter left (machine table [] e ds)) (complementsOf lv pattern parts cs left)
-  complements-agree parts e [] [] left shown w few = carry (step-found table e left) (complements-none parts left) (is-found shown)
+      → Agrees table bytes (meter left (machine table classes [] e ds)) (complementsOf lv pattern parts cs left)
+  complements-agree parts e [] [] left shown w few = carry (step-found table classes e left) (complements-none parts left) (is-found shown)
   complements-agree parts e [] (d ∷ ds) left shown w few = absurd w
   complements-agree parts e (c ∷ cs) [] left shown w few = absurd w
   complements-agree parts e (c ∷ cs) (d ∷ ds) left shown w few =
-      carry (step-refute table e d ds left) (complements-next parts c cs left)
-      (refute-then (λ u. machine table [] e ds) (complementsOf lv pattern parts cs) (inside-agrees parts e c d left shown (w .0) few)
+      carry (step-refute table classes e d ds left) (complements-next parts c cs left)
+      (refute-then (λ u. machine table classes [] e ds) (complementsOf lv pattern parts cs) (inside-agrees parts e c d left shown (w .0) few)
       (λ l. complements-agree parts e cs ds l shown (w .1) few))

@@ -1,4 +1,5 @@
 -- The laws: from the search on bytes to the search on trees (Linked), and from there to what the call promises (Demanded).
+pub mod Represents
 pub mod Places
 pub mod Parts
 pub mod Turns

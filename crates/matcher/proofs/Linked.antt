@@ -8,6 +8,7 @@ use lib.ListN.{length, replicate}
 use lib.Seq.{ext-getD}
 use lib.Dec.{leb}
 use borrow.Author.Tests.{leb-true, le-leb}
+use Rattle.term.specs.Class.{Alike}
 use Rattle.term.specs.Table.{entriesAccepted, tableAccepted}
 use Rattle.term.specs.Tree.{Tree, empty, more, encode}
 use Rattle.term.specs.Term.{Term, single}
@@ -15,27 +16,28 @@ use Rattle.term.specs.Pattern.{Pattern, end, plain}
 use Rattle.term.specs.Limits.{Fits, Accepted}
 use Rattle.term.specs.Part.{part, absent}
 use Rattle.term.specs.declared.Part.{Part}
+use Rattle.anti_pattern.specs.Language.{language}
 use Rattle.anti_pattern.specs.Search.{Env, start, whole}
 use Rattle.anti_pattern.specs.Place.{partOf}
 use Rattle.anti_pattern.specs.Answer.{bound, parts, answer}
-use Rattle.anti_pattern.specs.Meter.{Metered, meter, answered}
+use Rattle.anti_pattern.proofs.Meter.{Metered, meter, answered}
 use Rattle.anti_pattern.proofs.Machinery.{machine-level}
 use Rattle.anti_pattern.proofs.Allowance.{answer-metered}
 use Rattle.anti_pattern.proofs.Each.{each-at}
 use Rattle.search.specs.Level.{Reply, startOf, levels, levelOf, searchOf}
-use Rattle.matcher.specs.Call.{Input}
-use Rattle.matcher.specs.Represents.{Limited, Shown, Represents, Agrees, is-found, is-failed, is-spent, replied}
+use Rattle.matcher.specs.Call.{Input, replied, outcomeOnBytes}
+use Rattle.matcher.proofs.Represents.{Limited, Shown, Represents, Agrees, is-found, is-failed, is-spent}
 use Rattle.matcher.proofs.Parts.{shown-start}
 use Rattle.matcher.proofs.Levels.{carry, start-represents, Searches}
 use Rattle.matcher.proofs.Walks.{walk-goes}
 
 -- every level, with levels enough
-level-searches : (table : List ℕ) (small : length table ≤ 200) (bytes : List ℕ) (short : length bytes ≤ 4096) (n : ℕ)
-    → Searches table bytes n (levelOf n table bytes)
+level-searches : (table : List ℕ) (small : length table ≤ 200) (classes : List ℕ) (alike : Alike table classes) (bytes : List ℕ) (short : length bytes ≤ 4096) (n : ℕ)
+    → Searches table classes bytes n (levelOf n table classes bytes)
 unfolding levelOf
-level-searches table small bytes short zero pattern narrow s qs ts fs e ds left h few = absurd (omega arith)
-level-searches table small bytes short (suc n) pattern narrow s qs ts fs e ds left h few =
-    walk-goes table small bytes short n (levelOf n table bytes) (level-searches table small bytes short n) pattern narrow 1024 s qs ts fs e ds left
+level-searches table small classes alike bytes short zero pattern narrow s qs ts fs e ds left h few = absurd (omega arith)
+level-searches table small classes alike bytes short (suc n) pattern narrow s qs ts fs e ds left h few =
+    walk-goes table small classes alike bytes short n (levelOf n table classes bytes) (level-searches table small classes alike bytes short n) pattern narrow 1024 s qs ts fs e ds left
     (record { is = h; few = few; long = omega (arith, h .here .few) })
 
 -- the parts of a reply are the parts of the answer
@@ -65,7 +67,7 @@ limited-whole : (table : List ℕ) (records : Bool) (t : Tree) → Accepted tabl
 unfolding Fits
 limited-whole table records t a = record { left = 32; inList = false; fit = (a .fits, tt) }
 
-module _ (table pattern bytes : List ℕ) (q : Pattern) (t : Term) (i : Input table pattern bytes q t) (allowance : ℕ) where
+module _ (table classes pattern bytes : List ℕ) (alike : Alike table classes) (q : Pattern) (t : Term) (i : Input table pattern bytes q t) (allowance : ℕ) where
   narrow : length pattern ≤ 256
   narrow = rw (i .pattern-bytes) at (i .pattern-accepted .short)
 
@@ -79,18 +81,19 @@ module _ (table pattern bytes : List ℕ) (q : Pattern) (t : Term) (i : Input ta
       (record { after = []; stands = sym (i .record-bytes); within = omega arith; limited = limited-whole table true _ (i .record-accepted) })
       (shown-start table bytes)
 
-  searched : searchOf table pattern bytes allowance ≡ levelOf (levels pattern 0) table bytes pattern (startOf (replicate 48 absent) 0) allowance
+  searched : searchOf table classes pattern bytes allowance ≡ levelOf (levels pattern 0) table classes bytes pattern (startOf (replicate 48 absent) 0) allowance
   unfolding searchOf
   searched = rw (le-leb (length pattern) 256 narrow, le-leb (length bytes) 4096 short)
 
   -- the reply under an allowance is what the search on trees under it comes to
-  pub whole-agrees : Agrees table bytes (meter allowance (whole table q t)) (searchOf table pattern bytes allowance)
+  pub whole-agrees : Agrees table bytes (meter allowance (whole (language table classes) q t)) (searchOf table classes pattern bytes allowance)
   whole-agrees =
-      carry (ap (meter allowance) (machine-level table q t 0 start)) searched
-      (level-searches table (table-short table (i .table-accepted)) bytes short _ pattern narrow (startOf (replicate 48 absent) 0) (plain q end) (single t)
+      carry (ap (meter allowance) (machine-level table classes q t 0 start)) searched
+      (level-searches table (table-short table (i .table-accepted)) classes alike bytes short _ pattern narrow (startOf (replicate 48 absent) 0) (plain q end) (single t)
       [] start []
       allowance start-here (omega arith))
 
   -- word, count and parts
-  pub linked : answer table q t allowance ≡ replied allowance (searchOf table pattern bytes allowance)
-  linked = answer-metered table q t allowance ∙ answers table bytes allowance whole-agrees
+  pub linked : answer (language table classes) q t allowance ≡ outcomeOnBytes table classes pattern bytes allowance
+  unfolding outcomeOnBytes
+  linked = answer-metered (language table classes) q t allowance ∙ answers table bytes allowance whole-agrees

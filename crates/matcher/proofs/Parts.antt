@@ -2,25 +2,26 @@
 use Prim.Native.Nat.{ℕ, _+_, _%_, _<_, _≤_}
 use native.Mathlib.Omega.{arith}
 use mathlib.Core.Path.{_≡_, refl, sym, _∙_, ap, ap₂, subst}
-use mathlib.Core.List.{List, [], _++_}
+use mathlib.Core.List.{List, []}
 use mathlib.Core.Bool.{Bool, true, false, cond, _&&_, not-eq-not}
 use mathlib.Core.Option.{none, some}
-use lib.ListN.{length, getD, drop, take, set, replicate, length-set, length-replicate, getD-replicate, take-append-drop}
+use lib.ListN.{length, getD, take, set, replicate, length-set, length-replicate, getD-replicate}
 use lib.Seq.{getD-set-same, getD-set-other}
 use lib.Dec.{eqb, leb}
 use borrow.Author.Tests.{eqb-true, eqb-false, leb-true, le-leb, ne-eqb}
 use Rattle.term.specs.Term.{Terms, _⧺_, count, sizes, termTrees, termsBytes}
+use Rattle.term.specs.Class.{Alike}
 use Rattle.term.specs.Same.{samePart}
 use Rattle.term.specs.Limits.{FitAll}
 use Rattle.term.specs.Part.{part, absent, isAbsent, boundPart, partBytes}
 use Rattle.term.specs.declared.Part.{Part}
-use Rattle.term.proofs.Sizes.{encodes-append, terms-length, take-terms}
-use Rattle.term.proofs.SameParts.{same-refl, same-equal, run-of-count, and-true}
+use Rattle.term.proofs.Sizes.{terms-length, take-terms}
+use Rattle.term.proofs.SameParts.{same-counts, same-sizes, same-part, part-same, and-true}
 use Rattle.anti_pattern.specs.Search.{Env, bind, start, behind}
 use Rattle.anti_pattern.specs.Place.{partOf}
-use Rattle.anti_pattern.proofs.Facts.{count-join, cut, none-some, some-same, behind-sound, behind-complete}
+use Rattle.anti_pattern.proofs.Facts.{count-join, cut, none-some, some-same, behind-alike, alike-behind}
 use Rattle.search.specs.State.{standsOf}
-use Rattle.matcher.specs.Represents.{Stands, Shown}
+use Rattle.matcher.proofs.Represents.{Stands, Shown}
 use Rattle.term.proofs.Joins.{bytes-join, fit-split}
 use Rattle.matcher.proofs.Places.{within-terms}
 
@@ -32,45 +33,48 @@ module _ (table bytes : List ℕ) where
       (take-terms table w (s .after))
 
   -- an assigned run, and the elements ts that come next
-  module _ (at : ℕ) (w ts : Terms) (after : List ℕ) (s : Stands table bytes at w) where
-    pub assigned-stands : (us : Terms) → behind w ts ≡ some us
-        → (leb (count w) (count ts) && standsOf bytes (part at (sizes table w) (count w)) (termsBytes table ts after)) ≡ true
+  module _ (classes : List ℕ) (k : Alike table classes) (at : ℕ) (w ts : Terms) (after : List ℕ) (s : Stands table bytes at w) (left : ℕ) (inList : Bool)
+      (f : FitAll table true (termTrees ts) left inList) where
+    fit-front : (x us : Terms) → ts ≡ x ⧺ us → FitAll table true (termTrees x) left inList
+    fit-front x us z = fit-split table true x us left inList (subst (λ (u : Terms). FitAll table true (termTrees u) left inList) z f) .0
+
+    front-bytes : (x us : Terms) → ts ≡ x ⧺ us → termsBytes table ts after ≡ termsBytes table x (termsBytes table us after)
+    front-bytes x us z = ap (λ (u : Terms). termsBytes table u after) z ∙ bytes-join table x us after
+
+    pub assigned-stands : (us : Terms) → behind classes w ts ≡ some us
+        → (leb (count w) (count ts) && standsOf table classes bytes (part at (sizes table w) (count w)) (termsBytes table ts after)) ≡ true
     unfolding standsOf
     assigned-stands us b =
-        let z : ts ≡ w ⧺ us = behind-sound w ts us b in
-        let r : termsBytes table ts after ≡ termsBytes table w (termsBytes table us after) =
-        ap (λ (x : Terms). termsBytes table x after) z ∙ bytes-join table w us after in
+        let a = behind-alike classes w ts us b in
+        let x = a .0 in
+        let n = same-counts classes w x (a .2) in
+        let m = same-sizes table classes k w x (a .2) in
         rw (
-          le-leb (count w) (count ts) (omega (arith, ap count z, count-join w us)),
-          r,
-          le-leb (sizes table w) (length (termsBytes table w (termsBytes table us after)))
-              (omega (arith, terms-length table w (termsBytes table us after))),
+          le-leb (count w) (count ts) (omega (arith, ap count (a .1), count-join x us)),
+          front-bytes x us (a .1),
+          le-leb (sizes table w) (length (termsBytes table x (termsBytes table us after)))
+              (omega (arith, terms-length table x (termsBytes table us after))),
           part-bytes at w s,
-          take-terms table w (termsBytes table us after),
-        ) (same-refl (termsBytes table w []))
+        ) (same-part table classes k w x (s .limited .left) left (s .limited .inList) inList (s .limited .fit) (fit-front x us (a .1))
+        (termsBytes table us after) (a .2))
 
-    pub assigned-differs : (left : ℕ) (inList : Bool) → FitAll table true (termTrees ts) left inList → behind w ts ≡ none
-        → (leb (count w) (count ts) && standsOf bytes (part at (sizes table w) (count w)) (termsBytes table ts after)) ≡ false
+    pub assigned-differs : behind classes w ts ≡ none
+        → (leb (count w) (count ts) && standsOf table classes bytes (part at (sizes table w) (count w)) (termsBytes table ts after)) ≡ false
     unfolding standsOf
-    assigned-differs left inList f b = not-eq-not {b = false} .0 (λ e. none-some (sym b ∙ ap (behind w) (stood e .1) ∙ behind-complete w (stood e .0)))
+    assigned-differs b = not-eq-not {b = false} .0 (λ e. none-some (sym b ∙ stood e .1))
       where
         stood : (leb (count w) (count ts) && (leb (sizes table w) (length (termsBytes table ts after))
-            && samePart (partBytes bytes (part at (sizes table w) (count w))) (take (sizes table w) (termsBytes table ts after)))) ≡ true
-            → (us : Terms) × (ts ≡ w ⧺ us)
+            && samePart table classes false (partBytes bytes (part at (sizes table w) (count w))) (take (sizes table w) (termsBytes table ts after)))) ≡ true
+            → (us : Terms) × (behind classes w ts ≡ some us)
         stood e =
             let a = and-true (leb (count w) (count ts)) _ e in
             let d = and-true (leb (sizes table w) (length (termsBytes table ts after))) _ (a .1) in
             let c = cut w ts (leb-true (count w) (count ts) (a .0)) in
-            let r = drop (sizes table w) (termsBytes table ts after) in
-            let x : termsBytes table w [] ≡ take (sizes table w) (termsBytes table ts after) = sym (part-bytes at w s) ∙ same-equal _ _ (d .1) in
-            let y : termsBytes table w r ≡ termsBytes table (c .0) (termsBytes table (c .1) after) =
-            encodes-append table (termTrees w) [] r ∙ ap (λ (l : List ℕ). l ++ r) x ∙ take-append-drop (sizes table w) (termsBytes table ts after)
-            ∙ ap (λ (u : Terms). termsBytes table u after) (c .2) ∙ bytes-join table (c .0) (c .1) after in
-            let g = fit-split table true (c .0) (c .1) left inList (subst (λ (u : Terms). FitAll table true (termTrees u) left inList) (c .2) f) in
-            let z : w ≡ c .0 =
-            run-of-count table w (c .0) (s .limited .left) left (s .limited .inList) inList (s .limited .fit) (g .0) r (termsBytes table (c .1) after)
-            (c .3) y in
-            (c .1, c .2 ∙ ap (λ (u : Terms). u ⧺ c .1) (sym z))
+            let x : samePart table classes false (termsBytes table w []) (take (sizes table w) (termsBytes table (c .0) (termsBytes table (c .1) after))) ≡ true =
+            rw (sym (part-bytes at w s), sym (front-bytes (c .0) (c .1) (c .2))) (d .1) in
+            let y = part-same table classes k w (c .0) (s .limited .left) left (s .limited .inList) inList (s .limited .fit) (fit-front (c .0) (c .1) (c .2))
+            (termsBytes table (c .1) after) (c .3) x in
+            (c .1, ap (behind classes w) (c .2) ∙ alike-behind classes w (c .0) (c .1) y)
 
   module _ (short : length bytes ≤ 4096) where
     pub assigned-present : (at : ℕ) (w : Terms) → Stands table bytes at w → isAbsent (part at (sizes table w) (count w)) ≡ false

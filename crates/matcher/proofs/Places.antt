@@ -10,18 +10,18 @@ use borrow.Author.Tests.{eqb-true}
 use Rattle.term.specs.Table.{isList, width}
 use Rattle.term.specs.Tree.{Tree, Trees, branch, empty, more, number, listCode, encode, encodes}
 use Rattle.term.specs.Term.{Terms, node, nil, _::_, _⧺_, count, size, sizes, termTrees, termsBytes}
-use Rattle.term.specs.Pattern.{Children, symbol, end, plain, run, arity, childTrees, childrenBytes}
+use Rattle.term.specs.Pattern.{Children, symbol, end, plain, run, childTrees}
 use Rattle.term.specs.Limits.{Shape, belowOf, Fits}
 use Rattle.term.specs.declared.Code.{Code}
 use Rattle.term.specs.declared.Code.the-variants.{Symbol}
 use Rattle.term.specs.declared.Part.{Part}
-use Rattle.term.proofs.Sizes.{front, past-front, past-tree, past-terms, terms-length, number-children, node-bytes, symbol-bytes}
+use Rattle.term.proofs.Sizes.{arity, childrenBytes, front, past-front, past-tree, past-terms, terms-length, number-children, node-bytes, symbol-bytes}
 use Rattle.anti_pattern.specs.Search.{Env}
-use Rattle.anti_pattern.specs.Machine.{Frame, Pending, frame}
+use Rattle.anti_pattern.proofs.Machine.{Frame, Pending, frame}
 use Rattle.anti_pattern.proofs.Facts.{count-join}
 use Rattle.search.specs.State.{Frame as Counts, frame as counts, State, state, passed, entered, reopened, alone}
 use Rattle.search.specs.declared.Place.{Place}
-use Rattle.matcher.specs.Represents.{Limited, codesLeft, bytesLeft, Stacked, Here, Stands, Shown, Represents}
+use Rattle.matcher.proofs.Represents.{Limited, codesLeft, bytesLeft, Stacked, Here, Stands, Shown, Represents}
 use Rattle.term.proofs.Joins.{bytes-join, sizes-join, fit-split, leaf-length}
 
 -- limits
@@ -33,7 +33,7 @@ limited-rest h = record { left = h .left; inList = h .inList; fit = h .fit .1 }
 
 pub limited-children : {table : List ℕ} {records : Bool} {c : Code} {us ts : Trees} → Limited table records (more (branch c us) ts) → Limited table records us
 unfolding Fits
-limited-children {table} {records} {c} h = record { left = belowOf c (h .left); inList = listCode table c; fit = h .fit .0 .3 }
+limited-children {table} {records} {c} h = record { left = belowOf (h .left); inList = listCode table c; fit = h .fit .0 .3 }
 
 -- a symbol that has no children by the table
 pub childless : {table : List ℕ} {records : Bool} {s : ℕ} {us ts : Trees} → Limited table records (more (branch (Symbol s) us) ts) → getD table s 0 ≡ 0
@@ -119,23 +119,27 @@ module _ (table pattern bytes : List ℕ) (p : Place) (frames : List Counts) whe
   }
 
   -- into a node
-  pub here-open : (s : ℕ) (ps qs : Children) (us ts : Terms) (fs : List Frame)
-      → Here table pattern bytes p frames (plain (symbol s ps) qs) (node s us :: ts) fs
+  pub here-open : (s r : ℕ) → getD table s 0 ≡ getD table r 0 → (ps qs : Children) (us ts : Terms) (fs : List Frame)
+      → Here table pattern bytes p frames (plain (symbol s ps) qs) (node r us :: ts) fs
       → Here table pattern bytes (entered p (arity ps) (count us) (width table s)) (counts (p .children - 1) (p .elements - 1) ∷ frames)
-      ps us (frame qs ts (p .node + size table (node s us)) ∷ fs)
+      ps us (frame qs ts (p .node + size table (node r us)) ∷ fs)
   unfolding encode size
-  here-open s ps qs us ts fs h =
+  here-open s r alike ps qs us ts fs h =
+      let list : isList table r ≡ isList table s = ap (λ (b : ℕ). eqb b 255) (sym alike) in
+      let wide : width table r ≡ width table s = ap (λ (b : Bool). cond b 2 1) list in
       let codes = h .codes ∙ symbol-bytes table s ps (childrenBytes table qs (codesLeft table fs)) in
       let k : p .children - 1 ≡ arity qs = omega (arith, h .children) in
       let e : p .elements - 1 ≡ count ts = omega (arith, h .elements) in
-      let n : p .node + (width table s + sizes table us) ≡ p .node + width table s + sizes table us = omega arith in
-      let m : p .node + (width table s + sizes table us + sizes table ts) ≡ p .node + (width table s + sizes table us) + sizes table ts = omega arith in
+      let n : p .node + (width table r + sizes table us) ≡ p .node + width table s + sizes table us = omega arith in
+      let m : p .node + (width table r + sizes table us + sizes table ts) ≡ p .node + (width table r + sizes table us) + sizes table ts = omega arith in
       record {
         bytes-after = h .bytes-after;
         codes = past-own pattern (p .at) (isList table s) s (arity ps) (childrenBytes table ps (childrenBytes table qs (codesLeft table fs))) codes;
-        stands = past-own bytes (p .node) (isList table s) s (count us) (termsBytes table us (termsBytes table ts (bytesLeft table fs (h .bytes-after))))
-            (h .stands ∙ node-bytes table s us (termsBytes table ts (bytesLeft table fs (h .bytes-after))));
-        within = omega (arith, within-terms table bytes (p .node) (node s us :: ts) (bytesLeft table fs (h .bytes-after)) (h .within) (h .stands));
+        stands = past-own bytes (p .node) (isList table s) r (count us) (termsBytes table us (termsBytes table ts (bytesLeft table fs (h .bytes-after))))
+            (h .stands ∙ node-bytes table r us (termsBytes table ts (bytesLeft table fs (h .bytes-after)))
+            ∙ ap (λ (b : Bool). r ∷ cond b (count us ∷ termsBytes table us (termsBytes table ts (bytesLeft table fs (h .bytes-after))))
+            (termsBytes table us (termsBytes table ts (bytesLeft table fs (h .bytes-after))))) list);
+        within = omega (arith, within-terms table bytes (p .node) (node r us :: ts) (bytesLeft table fs (h .bytes-after)) (h .within) (h .stands));
         children = refl;
         elements = refl;
         few = omega (arith, h .few, some-width (isList table s), front pattern (p .at) s _ codes .0);

@@ -8,26 +8,28 @@ use mathlib.Core.Option.{none, some}
 use lib.ListN.{length, getD, drop}
 use lib.Dec.{eqb, leb}
 use borrow.Author.Tests.{le-leb, lt-leb, lt-ltb, ne-eqb, eq-eqb}
+use Rattle.term.specs.Class.{Alike}
+use Rattle.term.specs.Same.{sameByte}
 use Rattle.term.specs.Table.{isList, width}
 use Rattle.term.specs.Code.{decodeOf}
 use Rattle.term.specs.Tree.{Tree, Trees, more, number, encode, encodes}
 use Rattle.term.specs.Term.{Term, Terms, node, nil, _::_, count, single, size, sizes, termTree, termTrees, termsBytes}
-use Rattle.term.specs.Pattern.{Pattern, Children, name, symbol, complement, end, plain, arity, patternTree, childTrees, patternBytes, childrenBytes}
+use Rattle.term.specs.Pattern.{Pattern, Children, name, symbol, complement, end, plain, patternTree, childTrees, patternBytes}
 use Rattle.term.specs.Limits.{Counted, Shape, Fits}
 use Rattle.term.specs.Extent.{entryOf, extentOf}
 use Rattle.term.specs.Part.{part, absent}
 use Rattle.term.specs.declared.Code.{Code}
 use Rattle.term.specs.declared.Code.the-variants.{Complement}
 use Rattle.term.specs.declared.Part.{Part}
-use Rattle.term.proofs.Sizes.{front, number-children, number-terms, node-bytes, symbol-bytes, term-size}
+use Rattle.term.proofs.Sizes.{arity, childrenBytes, front, number-children, number-terms, node-bytes, symbol-bytes, term-size}
 use Rattle.term.proofs.Extents.{entry-symbol, extent-tree}
-use Rattle.anti_pattern.specs.Machine.{Frame}
+use Rattle.anti_pattern.proofs.Machine.{Frame}
 use Rattle.anti_pattern.specs.Search.{behind}
 use Rattle.search.specs.State.{Frame as Counts, alone, variableOf, variableAt, standsOf, overStep, symbolStep, assignedStep, nameStep, complementStep, pairStep, plainStep, codeStep, stepOf}
 use Rattle.search.specs.declared.Place.{Place}
 use Rattle.search.specs.declared.Step.the-variants.{Stops, Fails, Closes, Opens, Passes, Binds, PutsBy}
 use Rattle.search.specs.declared.Stop.the-variants.{Failure, NoAllowance, NoPair}
-use Rattle.matcher.specs.Represents.{Limited, codesLeft, bytesLeft, Here, Stands}
+use Rattle.matcher.proofs.Represents.{Limited, codesLeft, bytesLeft, Here, Stands}
 use Rattle.term.proofs.Joins.{sizes-single, rootOf, first-code}
 use Rattle.matcher.proofs.Places.{behind-last}
 use Rattle.matcher.proofs.Parts.{assigned-stands, assigned-differs}
@@ -46,38 +48,38 @@ extent-element table small t ts bs h =
 
 -- by the numbers alone
 
-module _ (table pattern bytes : List ℕ) (had : Part) (p : Place) (left : ℕ) (outermost : Bool) where
-  pub turn-over : p .children ≡ 0 → 0 < p .elements → stepOf outermost table pattern bytes had p left ≡ Stops Failure
+module _ (table classes pattern bytes : List ℕ) (had : Part) (p : Place) (left : ℕ) (outermost : Bool) where
+  pub turn-over : p .children ≡ 0 → 0 < p .elements → stepOf outermost table classes pattern bytes had p left ≡ Stops Failure
   unfolding stepOf overStep
   turn-over h k = rw (eq-eqb (p .children) 0 h, ne-eqb (p .elements) 0 (λ e. omega arith))
 
-  pub turn-end : p .children ≡ 0 → p .elements ≡ 0 → stepOf outermost table pattern bytes had p left ≡ cond outermost (Stops NoPair) Closes
+  pub turn-end : p .children ≡ 0 → p .elements ≡ 0 → stepOf outermost table classes pattern bytes had p left ≡ cond outermost (Stops NoPair) Closes
   unfolding stepOf overStep
   turn-end h k = rw (eq-eqb (p .children) 0 h, eq-eqb (p .elements) 0 k)
 
   turn-code : (c : Code) → 0 < p .children → p .at < length pattern → decodeOf (getD pattern (p .at) 0) ≡ c
-      → stepOf outermost table pattern bytes had p left ≡ codeStep outermost c table pattern bytes had p left
+      → stepOf outermost table classes pattern bytes had p left ≡ codeStep outermost c table classes pattern bytes had p left
   unfolding stepOf
   turn-code c h k e = rw (ne-eqb (p .children) 0 (λ z. omega arith), lt-ltb (p .at) (length pattern) k, e)
 
-  plain-short : (c : Code) → p .elements ≡ 0 → plainStep outermost c table pattern bytes had p left ≡ Stops Failure
+  plain-short : (c : Code) → p .elements ≡ 0 → plainStep outermost c table classes pattern bytes had p left ≡ Stops Failure
   unfolding plainStep
   plain-short c h = rw (eq-eqb (p .elements) 0 h)
 
-  plain-spent : (c : Code) → 0 < p .elements → p .node < length bytes → left ≡ 0 → plainStep outermost c table pattern bytes had p left ≡ Stops NoAllowance
+  plain-spent : (c : Code) → 0 < p .elements → p .node < length bytes → left ≡ 0 → plainStep outermost c table classes pattern bytes had p left ≡ Stops NoAllowance
   unfolding plainStep
   plain-spent c h k z = rw (ne-eqb (p .elements) 0 (λ e. omega arith), lt-leb (length bytes) (p .node) k, eq-eqb left 0 z)
 
   plain-pair : (c : Code) → 0 < p .elements → p .node < length bytes → 0 < left
-      → plainStep outermost c table pattern bytes had p left
-      ≡ pairStep (outermost && eqb (p .children) 1) c table bytes (drop (p .at) pattern) (drop (p .node) bytes) had (p .elements)
+      → plainStep outermost c table classes pattern bytes had p left
+      ≡ pairStep (outermost && eqb (p .children) 1) c table classes bytes (drop (p .at) pattern) (drop (p .node) bytes) had (p .elements)
   unfolding plainStep
   plain-pair c h k z =
       rw (ne-eqb (p .elements) 0 (λ e. omega arith), lt-leb (length bytes) (p .node) k, ne-eqb left 0 (λ e. omega arith))
 
   by-plain : (q : Pattern)
-      → codeStep outermost (rootOf (patternTree q)) table pattern bytes had p left
-      ≡ plainStep outermost (rootOf (patternTree q)) table pattern bytes had p left
+      → codeStep outermost (rootOf (patternTree q)) table classes pattern bytes had p left
+      ≡ plainStep outermost (rootOf (patternTree q)) table classes pattern bytes had p left
   unfolding codeStep
   by-plain (name v) = refl
   by-plain (symbol s qs) = refl
@@ -89,7 +91,7 @@ some-bytes table bytes at (node s us) ts bs h = front bytes at s _ (h ∙ node-b
 
 -- at a place
 
-module _ (table pattern bytes : List ℕ) (p : Place) (frames : List Counts) (fs : List Frame) where
+module _ (table classes pattern bytes : List ℕ) (p : Place) (frames : List Counts) (fs : List Frame) where
   -- a child pattern: a run name too
   module _ (cs qs : Children) (c : Tree) (ts : Terms) (z : childTrees cs ≡ more c (childTrees qs)) (h : Here table pattern bytes p frames cs ts fs) where
     some-children : 0 < p .children
@@ -111,114 +113,124 @@ module _ (table pattern bytes : List ℕ) (p : Place) (frames : List Counts) (fs
     variable-here = rw (lt-ltb (p .at) (length pattern) (first-child .0), first-child .1)
 
     pub does-code : (had : Part) (left : ℕ)
-        → stepOf (alone frames) table pattern bytes had p left ≡ codeStep (alone frames) (rootOf c) table pattern bytes had p left
-    does-code had left = turn-code table pattern bytes had p left (alone frames) (rootOf c) some-children (first-child .0) (first-child .1)
+        → stepOf (alone frames) table classes pattern bytes had p left ≡ codeStep (alone frames) (rootOf c) table classes pattern bytes had p left
+    does-code had left = turn-code table classes pattern bytes had p left (alone frames) (rootOf c) some-children (first-child .0) (first-child .1)
 
   -- a plain child pattern
   module _ (q : Pattern) (qs : Children) (had : Part) (left : ℕ) where
     does-plain : (ts : Terms) → Here table pattern bytes p frames (plain q qs) ts fs
-        → stepOf (alone frames) table pattern bytes had p left ≡ plainStep (alone frames) (rootOf (patternTree q)) table pattern bytes had p left
-    does-plain ts h = does-code (plain q qs) qs (patternTree q) ts refl h had left ∙ by-plain table pattern bytes had p left (alone frames) q
+        → stepOf (alone frames) table classes pattern bytes had p left ≡ plainStep (alone frames) (rootOf (patternTree q)) table classes pattern bytes had p left
+    does-plain ts h = does-code (plain q qs) qs (patternTree q) ts refl h had left ∙ by-plain table classes pattern bytes had p left (alone frames) q
 
-    pub does-short : Here table pattern bytes p frames (plain q qs) nil fs → stepOf (alone frames) table pattern bytes had p left ≡ Stops Failure
-    does-short h = does-plain nil h ∙ plain-short table pattern bytes had p left (alone frames) (rootOf (patternTree q)) (h .elements)
+    pub does-short : Here table pattern bytes p frames (plain q qs) nil fs → stepOf (alone frames) table classes pattern bytes had p left ≡ Stops Failure
+    does-short h = does-plain nil h ∙ plain-short table classes pattern bytes had p left (alone frames) (rootOf (patternTree q)) (h .elements)
 
     module _ (t : Term) (ts : Terms) (h : Here table pattern bytes p frames (plain q qs) (t :: ts) fs) where
-      pub does-spent : left ≡ 0 → stepOf (alone frames) table pattern bytes had p left ≡ Stops NoAllowance
+      pub does-spent : left ≡ 0 → stepOf (alone frames) table classes pattern bytes had p left ≡ Stops NoAllowance
       does-spent z =
           does-plain (t :: ts) h
-          ∙ plain-spent table pattern bytes had p left (alone frames) (rootOf (patternTree q)) (omega (arith, h .elements))
+          ∙ plain-spent table classes pattern bytes had p left (alone frames) (rootOf (patternTree q)) (omega (arith, h .elements))
           (some-bytes table bytes (p .node) t ts _ (h .stands)) z
 
       pub does-pair : 0 < left
-          → stepOf (alone frames) table pattern bytes had p left
-          ≡ pairStep (alone frames && eqb (p .children) 1) (rootOf (patternTree q)) table bytes (drop (p .at) pattern) (drop (p .node) bytes) had
+          → stepOf (alone frames) table classes pattern bytes had p left
+          ≡ pairStep (alone frames && eqb (p .children) 1) (rootOf (patternTree q)) table classes bytes (drop (p .at) pattern) (drop (p .node) bytes) had
           (p .elements)
       does-pair z =
           does-plain (t :: ts) h
-          ∙ plain-pair table pattern bytes had p left (alone frames) (rootOf (patternTree q)) (omega (arith, h .elements))
+          ∙ plain-pair table classes pattern bytes had p left (alone frames) (rootOf (patternTree q)) (omega (arith, h .elements))
           (some-bytes table bytes (p .node) t ts _ (h .stands)) z
 
   -- an assigned variable, its own elements against those left
-  module _ (cs : Children) (ts : Terms) (h : Here table pattern bytes p frames cs ts fs) (at : ℕ) (w : Terms) (s : Stands table bytes at w) where
-    assigned-by : (b : Bool) → (leb (count w) (count ts) && standsOf bytes (part at (sizes table w) (count w))
+  module _ (cs : Children) (ts : Terms) (h : Here table pattern bytes p frames cs ts fs) (at : ℕ) (w : Terms) (s : Stands table bytes at w)
+      (k : Alike table classes) where
+    assigned-by : (b : Bool) → (leb (count w) (count ts) && standsOf table classes bytes (part at (sizes table w) (count w))
         (termsBytes table ts (bytesLeft table fs (h .bytes-after)))) ≡ b
-        → assignedStep bytes (part at (sizes table w) (count w)) (drop (p .node) bytes) (p .elements) ≡ cond b (Passes (count w) (sizes table w)) Fails
+        → assignedStep table classes bytes (part at (sizes table w) (count w)) (drop (p .node) bytes) (p .elements) ≡ cond b (Passes (count w) (sizes table w)) Fails
     unfolding assignedStep
     assigned-by b e = rw (h .elements, h .stands, e)
 
-    pub assigned-passes : (us : Terms) → behind w ts ≡ some us
-        → assignedStep bytes (part at (sizes table w) (count w)) (drop (p .node) bytes) (p .elements) ≡ Passes (count w) (sizes table w)
-    assigned-passes us b = assigned-by true (assigned-stands table bytes at w ts (bytesLeft table fs (h .bytes-after)) s us b)
+    pub assigned-passes : (us : Terms) → behind classes w ts ≡ some us
+        → assignedStep table classes bytes (part at (sizes table w) (count w)) (drop (p .node) bytes) (p .elements) ≡ Passes (count w) (sizes table w)
+    assigned-passes us b = assigned-by true (assigned-stands table bytes classes k at w ts (bytesLeft table fs (h .bytes-after)) s (h .elements-limited .left) (h .elements-limited .inList)
+        (h .elements-limited .fit) us b)
 
-    pub assigned-fails : behind w ts ≡ none → assignedStep bytes (part at (sizes table w) (count w)) (drop (p .node) bytes) (p .elements) ≡ Fails
+    pub assigned-fails : behind classes w ts ≡ none → assignedStep table classes bytes (part at (sizes table w) (count w)) (drop (p .node) bytes) (p .elements) ≡ Fails
     assigned-fails b =
         assigned-by false
-        (assigned-differs table bytes at w ts (bytesLeft table fs (h .bytes-after)) s (h .elements-limited .left) (h .elements-limited .inList)
+        (assigned-differs table bytes classes k at w ts (bytesLeft table fs (h .bytes-after)) s (h .elements-limited .left) (h .elements-limited .inList)
         (h .elements-limited .fit) b)
 
 -- the pairs
 
-module _ (table : List ℕ) (small : length table ≤ 200) (pattern bytes : List ℕ) (p : Place) (frames : List Counts) (fs : List Frame) where
+module _ (table : List ℕ) (small : length table ≤ 200) (classes pattern bytes : List ℕ) (p : Place) (frames : List Counts) (fs : List Frame) where
   -- an unassigned name takes the node
   pub name-binds : (cs : Children) (t : Term) (ts : Terms) (v : ℕ) → Here table pattern bytes p frames cs (t :: ts) fs
-      → nameStep table bytes (drop (p .node) bytes) v absent (p .elements) ≡ Binds v (sizes table (single t))
+      → nameStep table classes bytes (drop (p .node) bytes) v absent (p .elements) ≡ Binds v (sizes table (single t))
   unfolding nameStep
   name-binds cs t ts v h = rw (h .stands, extent-element table small t ts (bytesLeft table fs (h .bytes-after)) (h .elements-limited))
 
   -- a symbol, by what the table says of it
-  opens-by : (s n m : ℕ) (xs ys : List ℕ) (l : Bool) → isList table s ≡ l → entryOf table s ≡ getD table s 0
+  opens-by : (s r n m : ℕ) → sameByte classes false s r ≡ true → (xs ys : List ℕ) (l : Bool) → isList table s ≡ l → entryOf table s ≡ getD table s 0
       → Counted l n (getD table s 0) → Counted l m (getD table s 0) → 0 < getD table s 0
-      → symbolStep table (s ∷ cond l (n ∷ xs) xs) (s ∷ cond l (m ∷ ys) ys) s ≡ Opens n m (cond l 2 1)
+      → symbolStep table classes (s ∷ cond l (n ∷ xs) xs) (r ∷ cond l (m ∷ ys) ys) s ≡ Opens n m (cond l 2 1)
   unfolding symbolStep
-  opens-by s n m xs ys true e k f g i =
+  opens-by s r n m same xs ys true e k f g i =
       rw (
-        eq-eqb s s refl,
+        same,
         k,
         ne-eqb (getD table s 0) 0 (λ z. omega arith),
         e,
         le-leb 2 (suc (suc (length xs))) (omega arith),
         le-leb 2 (suc (suc (length ys))) (omega arith),
       )
-  opens-by s n m xs ys false e k f g i =
-      rw (eq-eqb s s refl, k, ne-eqb (getD table s 0) 0 (λ z. omega arith), e) (ap₂ (λ (x y : ℕ). Opens x y 1) (sym f) (sym g))
+  opens-by s r n m same xs ys false e k f g i =
+      rw (same, k, ne-eqb (getD table s 0) 0 (λ z. omega arith), e) (ap₂ (λ (x y : ℕ). Opens x y 1) (sym f) (sym g))
 
-  pub symbol-opens : (s : ℕ) (ps qs : Children) (us ts : Terms) → Here table pattern bytes p frames (plain (symbol s ps) qs) (node s us :: ts) fs
-      → 0 < getD table s 0 → symbolStep table (drop (p .at) pattern) (drop (p .node) bytes) s ≡ Opens (arity ps) (count us) (width table s)
-  unfolding Fits Shape encode
-  symbol-opens s ps qs us ts h i =
-      let f = h .patterns-limited .fit .0 in
-      let g = h .elements-limited .fit .0 in
-      rw (
-        h .codes,
-        symbol-bytes table s ps (childrenBytes table qs (codesLeft table fs)),
-        h .stands,
-        node-bytes table s us (termsBytes table ts (bytesLeft table fs (h .bytes-after))),
-      )
-      (opens-by s (arity ps) (count us) _ _ (isList table s) refl (entry-symbol table s (f .2 .0))
-      (rw (number-children ps) at (f .2 .1)) (rw (number-terms us) at (g .2 .1)) i)
+  -- a record's symbol of the same class, whose table byte is alike
+  module _ (s r : ℕ) (same : sameByte classes false s r ≡ true) (alike : getD table s 0 ≡ getD table r 0) where
+    pub symbol-opens : (ps qs : Children) (us ts : Terms) → Here table pattern bytes p frames (plain (symbol s ps) qs) (node r us :: ts) fs
+        → 0 < getD table s 0 → symbolStep table classes (drop (p .at) pattern) (drop (p .node) bytes) s ≡ Opens (arity ps) (count us) (width table s)
+    unfolding Fits Shape encode
+    symbol-opens ps qs us ts h i =
+        let f = h .patterns-limited .fit .0 in
+        let g = h .elements-limited .fit .0 in
+        let n : Counted (isList table r) (count us) (getD table r 0) = rw (number-terms us) at (g .2 .1) in
+        let m : Counted (isList table s) (count us) (getD table s 0) = subst (λ (b : ℕ). Counted (eqb b 255) (count us) b) (sym alike) n in
+        rw (
+          h .codes,
+          symbol-bytes table s ps (childrenBytes table qs (codesLeft table fs)),
+          h .stands,
+          node-bytes table r us (termsBytes table ts (bytesLeft table fs (h .bytes-after))),
+          sym alike,
+        )
+        (opens-by s r (arity ps) (count us) same _ _ (isList table s) refl (entry-symbol table s (f .2 .0))
+        (rw (number-children ps) at (f .2 .1)) m i)
 
-  pub symbol-passes : (s : ℕ) (qs : Children) (ts : Terms) → Here table pattern bytes p frames (plain (symbol s end) qs) (node s nil :: ts) fs
-      → getD table s 0 ≡ 0 → symbolStep table (drop (p .at) pattern) (drop (p .node) bytes) s ≡ Passes 1 (sizes table (single (node s nil)))
-  unfolding Fits Shape encode symbolStep size
-  symbol-passes s qs ts h i =
-      rw (
-        h .stands,
-        node-bytes table s nil (termsBytes table ts (bytesLeft table fs (h .bytes-after))),
-        eq-eqb s s refl,
-        entry-symbol table s (h .patterns-limited .fit .0 .2 .0),
-        i,
-      )
+    pub symbol-passes : (qs : Children) (ts : Terms) → Here table pattern bytes p frames (plain (symbol s end) qs) (node r nil :: ts) fs
+        → getD table s 0 ≡ 0
+        → symbolStep table classes (drop (p .at) pattern) (drop (p .node) bytes) s ≡ Passes 1 (sizes table (single (node r nil)))
+    unfolding Fits Shape encode symbolStep size
+    symbol-passes qs ts h i =
+        let j : getD table r 0 ≡ 0 = sym alike ∙ i in
+        rw (
+          h .stands,
+          node-bytes table r nil (termsBytes table ts (bytesLeft table fs (h .bytes-after))),
+          same,
+          entry-symbol table s (h .patterns-limited .fit .0 .2 .0),
+          i,
+          j,
+        )
 
-  pub symbol-fails : (s r : ℕ) (cs : Children) (us ts : Terms) → Here table pattern bytes p frames cs (node r us :: ts) fs → eqb s r ≡ false
-      → symbolStep table (drop (p .at) pattern) (drop (p .node) bytes) s ≡ Fails
+  pub symbol-fails : (s r : ℕ) (cs : Children) (us ts : Terms) → Here table pattern bytes p frames cs (node r us :: ts) fs
+      → sameByte classes false s r ≡ false → symbolStep table classes (drop (p .at) pattern) (drop (p .node) bytes) s ≡ Fails
   unfolding symbolStep encode
   symbol-fails s r cs us ts h e = rw (h .stands, node-bytes table r us (termsBytes table ts (bytesLeft table fs (h .bytes-after))), e)
 
   -- a complement is put by, the last child pattern of its level or not
   pub complement-put-by : (q : Pattern) (qs : Children) (t : Term) (ts : Terms) (had : Part)
       → Here table pattern bytes p frames (plain (complement q) qs) (t :: ts) fs
-      → pairStep (alone frames && eqb (p .children) 1) Complement table bytes (drop (p .at) pattern) (drop (p .node) bytes) had (p .elements)
+      → pairStep (alone frames && eqb (p .children) 1) Complement table classes bytes (drop (p .at) pattern) (drop (p .node) bytes) had (p .elements)
       ≡ PutsBy (length (patternBytes table (complement q) [])) (cond (alone frames && eqb (p .children) 1) 0 (sizes table (single t)))
   unfolding pairStep complementStep encode
   complement-put-by q qs t ts had h = by (alone frames && eqb (p .children) 1) refl

@@ -9,11 +9,13 @@ use lib.ListN.{length, getD, take, drop, set}
 use lib.Seq.{take-at}
 use lib.Dec.{eqb}
 use borrow.Author.Tests.{eqb-true, eq-eqb, ne-eqb}
+use Rattle.term.specs.Class.{classOf, Alike}
+use Rattle.term.specs.Same.{sameByte}
 use Rattle.term.specs.Table.{isList}
 use Rattle.term.specs.Code.{byteOf}
 use Rattle.term.specs.Tree.{Trees, branch, empty, more, listCode, own, encode}
 use Rattle.term.specs.Term.{Term, Terms, node, nil, _::_, _⧺_, count, single, size, sizes}
-use Rattle.term.specs.Pattern.{Pattern, Children, name, symbol, complement, end, plain, run, patternTree, childTrees, patternBytes, childrenBytes}
+use Rattle.term.specs.Pattern.{Pattern, Children, name, symbol, complement, end, plain, run, patternTree, childTrees, patternBytes}
 use Rattle.term.specs.Limits.{Written, Fits}
 use Rattle.term.specs.Part.{part, absent, boundPart}
 use Rattle.term.specs.declared.Code.{Code}
@@ -21,11 +23,11 @@ use Rattle.term.specs.declared.Code.the-variants.{Symbol, Name, Run}
 use Rattle.term.specs.declared.Part.{Part}
 use Rattle.anti_pattern.specs.Search.{Env, bind, sameOr, behind}
 use Rattle.anti_pattern.specs.Place.{partOf}
-use Rattle.anti_pattern.specs.Machine.{Frame, Pending, frame, pending, machine}
-use Rattle.anti_pattern.specs.Meter.{meter, missed}
-use Rattle.term.proofs.SameParts.{same-terms, branch-some}
-use Rattle.term.proofs.Sizes.{number-terms, number-children, past-front, encode-append}
-use Rattle.anti_pattern.proofs.Facts.{behind-sound, one-behind, none-behind}
+use Rattle.anti_pattern.proofs.Machine.{Frame, Pending, frame, pending, machine}
+use Rattle.anti_pattern.proofs.Meter.{meter, missed}
+use Rattle.term.proofs.SameParts.{same-counts, same-sizes, entry-alike, branch-some}
+use Rattle.term.proofs.Sizes.{childrenBytes, number-terms, number-children, past-front, encode-append}
+use Rattle.anti_pattern.proofs.Facts.{behind-alike, one-behind, none-behind}
 use Rattle.anti_pattern.proofs.Machinery.{machine-end, machine-run-fresh}
 use Rattle.anti_pattern.proofs.Metering.{Split, enough, over, split}
 use Rattle.anti_pattern.proofs.Steps.{step-over, step-short, pair-used-up, step-name, step-name-differs, step-symbol, step-symbol-differs, step-complement, step-run, step-run-differs, run-used-up}
@@ -36,7 +38,7 @@ use Rattle.search.specs.declared.Step.{Step}
 use Rattle.search.specs.declared.Step.the-variants.{Stops, Fails, Closes, Opens, Passes, Binds, PutsBy}
 use Rattle.search.specs.declared.Stop.{Stop}
 use Rattle.search.specs.declared.Stop.the-variants.{Failure, NoAllowance, NoPair, RunName}
-use Rattle.matcher.specs.Represents.{Limited, codesLeft, Here, Shown, Waits, AllWait, Represents, Agrees, is-failed, is-spent}
+use Rattle.matcher.proofs.Represents.{Limited, codesLeft, Here, Shown, Waits, AllWait, Represents, Agrees, is-failed, is-spent}
 use Rattle.term.proofs.Joins.{sizes-single}
 use Rattle.matcher.proofs.Places.{limited-children, childless, some-width, stacked-alone, stacked-open, here-past, here-stands, here-open, here-close, close-at, past-leaf}
 use Rattle.matcher.proofs.Parts.{assigned-present, shown-bind}
@@ -62,10 +64,10 @@ all-wait-next table pattern bytes c d [] (b ∷ ds) w x = absurd w
 all-wait-next table pattern bytes c d (a ∷ cs) [] w x = absurd w
 all-wait-next table pattern bytes c d (a ∷ cs) (b ∷ ds) w x = (w .0, all-wait-next table pattern bytes c d cs ds (w .1) x)
 
-module _ (table : List ℕ) (small : length table ≤ 200) (bytes : List ℕ) (short : length bytes ≤ 4096) (n : ℕ) (lv : List ℕ → State → ℕ → Reply)
-    (searches : Searches table bytes n lv) (pattern : List ℕ) (narrow : length pattern ≤ 256) where
+module _ (table : List ℕ) (small : length table ≤ 200) (classes : List ℕ) (alike : Alike table classes) (bytes : List ℕ) (short : length bytes ≤ 4096) (n : ℕ) (lv : List ℕ → State → ℕ → Reply)
+    (searches : Searches table classes bytes n lv) (pattern : List ℕ) (narrow : length pattern ≤ 256) where
   abbrev searched : ℕ → State → ℕ → Reply
-  searched turns s left = afterWalk (walkOf turns table pattern bytes s left) lv table pattern bytes
+  searched turns s left = afterWalk (walkOf turns table classes pattern bytes s left) lv table pattern bytes
 
   -- levels enough, and turns enough: each turn takes a byte of the pattern or closes a node
   pub record Ready (turns : ℕ) (s : State) (qs : Children) (ts : Terms) (fs : List Frame) (e : Env) (ds : List Pending) : Type 0 where
@@ -77,12 +79,12 @@ module _ (table : List ℕ) (small : length table ≤ 200) (bytes : List ℕ) (s
   abbrev Goes : ℕ → Type 0
   Goes turns =
       (s : State) (qs : Children) (ts : Terms) (fs : List Frame) (e : Env) (ds : List Pending) (left : ℕ) → Ready turns s qs ts fs e ds
-      → Agrees table bytes (meter left (machine table (frame qs ts (s .place .node) ∷ fs) e ds)) (searched turns s left)
+      → Agrees table bytes (meter left (machine table classes (frame qs ts (s .place .node) ∷ fs) e ds)) (searched turns s left)
 
   -- by the step that the turn takes
   module _ (turns : ℕ) (s : State) (left : ℕ) where
     abbrev step : Step
-    step = stepOf (alone (s .frames)) table pattern bytes (partAt s (variableAt pattern (s .place .at))) (s .place) left
+    step = stepOf (alone (s .frames)) table classes pattern bytes (partAt s (variableAt pattern (s .place .at))) (s .place) left
 
     stops : (stop : Stop) → step ≡ Stops stop → searched (suc turns) s left ≡ stopBy stop lv table pattern bytes s left
     unfolding walkOf nextOf afterWalk
@@ -146,35 +148,35 @@ module _ (table : List ℕ) (small : length table ≤ 200) (bytes : List ℕ) (s
 
   module _ (turns : ℕ) (goes : Goes turns) (s : State) (fs : List Frame) (e : Env) (ds : List Pending) (left : ℕ) where
     abbrev Agreed : Children → Terms → Type 0
-    Agreed cs ts = Agrees table bytes (meter left (machine table (frame cs ts (s .place .node) ∷ fs) e ds)) (searched (suc turns) s left)
+    Agreed cs ts = Agrees table bytes (meter left (machine table classes (frame cs ts (s .place .node) ∷ fs) e ds)) (searched (suc turns) s left)
 
     on-over : (t : Term) (ts : Terms) → Ready (suc turns) s end (t :: ts) fs e ds → Agreed end (t :: ts)
     on-over t ts h =
-        carry (step-over table (s .place .node) fs e ds t ts left)
+        carry (step-over table classes (s .place .node) fs e ds t ts left)
         (stops turns s left Failure
-        (turn-over table pattern bytes _ (s .place) left (alone (s .frames)) (h .is .here .children) (omega (arith, h .is .here .elements)))) is-failed
+        (turn-over table classes pattern bytes _ (s .place) left (alone (s .frames)) (h .is .here .children) (omega (arith, h .is .here .elements)))) is-failed
 
     on-short : (q : Pattern) (qs : Children) → Ready (suc turns) s (plain q qs) nil fs e ds → Agreed (plain q qs) nil
     on-short q qs h =
-        carry (step-short table (s .place .node) fs e ds q qs left)
-        (stops turns s left Failure (does-short table pattern bytes (s .place) (s .frames) fs q qs _ left (h .is .here))) is-failed
+        carry (step-short table classes (s .place .node) fs e ds q qs left)
+        (stops turns s left Failure (does-short table classes pattern bytes (s .place) (s .frames) fs q qs _ left (h .is .here))) is-failed
 
     on-spent : (q : Pattern) (qs : Children) (t : Term) (ts : Terms) → Ready (suc turns) s (plain q qs) (t :: ts) fs e ds → left ≡ 0
         → Agreed (plain q qs) (t :: ts)
     on-spent q qs t ts h z =
-        carry (ap (λ (k : ℕ). meter k (machine table (frame (plain q qs) (t :: ts) (s .place .node) ∷ fs) e ds)) z
-        ∙ pair-used-up table (s .place .node) fs e ds q qs t ts)
-        (stops turns s left NoAllowance (does-spent table pattern bytes (s .place) (s .frames) fs q qs _ left t ts (h .is .here) z)) is-spent
+        carry (ap (λ (k : ℕ). meter k (machine table classes (frame (plain q qs) (t :: ts) (s .place .node) ∷ fs) e ds)) z
+        ∙ pair-used-up table classes (s .place .node) fs e ds q qs t ts)
+        (stops turns s left NoAllowance (does-spent table classes pattern bytes (s .place) (s .frames) fs q qs _ left t ts (h .is .here) z)) is-spent
 
     -- a child pattern of one byte
     module _ (cs qs : Children) (ts : Terms) (c : Code) (z : childTrees cs ≡ more (branch c empty) (childTrees qs)) (l : listCode table c ≡ false)
         (h : Ready (suc turns) s cs ts fs e ds) where
       here : s .place .at < length pattern
-      here = child-here table pattern bytes (s .place) (s .frames) fs cs qs (branch c empty) ts z (h .is .here)
+      here = child-here table classes pattern bytes (s .place) (s .frames) fs cs qs (branch c empty) ts z (h .is .here)
 
       -- past the elements w
       goes-past : (w us : Terms) → ts ≡ w ⧺ us → (parts : List Part) (f : Env) → Shown table bytes parts f
-          → Agrees table bytes (meter (left - 1) (machine table (frame qs us (s .place .node + sizes table w) ∷ fs) f ds))
+          → Agrees table bytes (meter (left - 1) (machine table classes (frame qs us (s .place .node + sizes table w) ∷ fs) f ds))
           (searched turns (state parts (s .frames) (s .waiting) (passed (s .place) (count w) 1 (sizes table w))) (left - 1))
       goes-past w us x parts f shown =
           goes _ qs us fs f ds (left - 1)
@@ -189,28 +191,32 @@ module _ (table : List ℕ) (small : length table ≤ 200) (bytes : List ℕ) (s
       module _ (v : ℕ) (y : variableOf c ≡ v) (low : v < 48) where
         part-here : (o : Option Terms) → e .value v ≡ o → partAt s (variableAt pattern (s .place .at)) ≡ partOf table o (e .offset v)
         part-here o x =
-            ap (partAt s) (variable-here table pattern bytes (s .place) (s .frames) fs cs qs (branch c empty) ts z (h .is .here) ∙ y)
+            ap (partAt s) (variable-here table classes pattern bytes (s .place) (s .frames) fs cs qs (branch c empty) ts z (h .is .here) ∙ y)
             ∙ h .is .shown .shown v low ∙ ap (λ (p : Option Terms). partOf table p (e .offset v)) x
 
         on-assigned : (w : Terms) → e .value v ≡ some w
             → step turns s left
-            ≡ assignedStep bytes (part (e .offset v) (sizes table w) (count w)) (drop (s .place .node) bytes) (s .place .elements)
-            → ((us : Terms) → behind w ts ≡ some us → meter left (machine table (frame cs ts (s .place .node) ∷ fs) e ds)
-            ≡ meter (left - 1) (machine table (frame qs us (s .place .node + sizes table w) ∷ fs) e ds))
-            → (behind w ts ≡ none → meter left (machine table (frame cs ts (s .place .node) ∷ fs) e ds) ≡ missed (left - 1))
+            ≡ assignedStep table classes bytes (part (e .offset v) (sizes table w) (count w)) (drop (s .place .node) bytes) (s .place .elements)
+            → ((us : Terms) → behind classes w ts ≡ some us → meter left (machine table classes (frame cs ts (s .place .node) ∷ fs) e ds)
+            ≡ meter (left - 1) (machine table classes (frame qs us (s .place .node + sizes table w) ∷ fs) e ds))
+            → (behind classes w ts ≡ none → meter left (machine table classes (frame cs ts (s .place .node) ∷ fs) e ds) ≡ missed (left - 1))
             → Agreed cs ts
-        on-assigned w x does holds differs = go (behind w ts) refl
+        on-assigned w x does holds differs = go (behind classes w ts) refl
           where
-            go : (o : Option Terms) → behind w ts ≡ o → Agreed cs ts
+            go : (o : Option Terms) → behind classes w ts ≡ o → Agreed cs ts
             go (some us) b =
-                carry (holds us b)
-                (passes turns s left _ _ (does ∙ assigned-passes table pattern bytes (s .place) (s .frames) fs cs ts (h .is .here) (e .offset v) w
-                (h .is .shown .stands v w x) us b))
-                (goes-past w us (behind-sound w ts us b) (s .parts) e (h .is .shown))
+                let a = behind-alike classes w ts us b in
+                let m = same-sizes table classes alike w (a .0) (a .2) in
+                carry (holds us b ∙ ap (λ (i : ℕ). meter (left - 1) (machine table classes (frame qs us (s .place .node + i) ∷ fs) e ds)) m)
+                (passes turns s left _ _ (does ∙ assigned-passes table classes pattern bytes (s .place) (s .frames) fs cs ts (h .is .here) (e .offset v) w
+                (h .is .shown .stands v w x) alike us b)
+                ∙ ap₂ (λ (i j : ℕ). searched turns (state (s .parts) (s .frames) (s .waiting) (passed (s .place) i 1 j)) (left - 1))
+                (same-counts classes w (a .0) (a .2)) m)
+                (goes-past (a .0) us (a .1) (s .parts) e (h .is .shown))
             go none b =
                 carry (differs b)
-                (fails turns s left (does ∙ assigned-fails table pattern bytes (s .place) (s .frames) fs cs ts (h .is .here) (e .offset v) w
-                (h .is .shown .stands v w x) b))
+                (fails turns s left (does ∙ assigned-fails table classes pattern bytes (s .place) (s .frames) fs cs ts (h .is .here) (e .offset v) w
+                (h .is .shown .stands v w x) alike b))
                 is-failed
 
     -- a name
@@ -219,16 +225,16 @@ module _ (table : List ℕ) (small : length table ≤ 200) (bytes : List ℕ) (s
       name-low = omega (arith, name-below (h .is .here .patterns-limited))
 
       name-step : (o : Option Terms) → e .value v ≡ o
-          → step turns s left ≡ nameStep table bytes (drop (s .place .node) bytes) v (partOf table o (e .offset v)) (s .place .elements)
+          → step turns s left ≡ nameStep table classes bytes (drop (s .place .node) bytes) v (partOf table o (e .offset v)) (s .place .elements)
       unfolding pairStep listCode
       name-step o x =
-          does-pair table pattern bytes (s .place) (s .frames) fs (name v) qs _ left t ts (h .is .here) i
-          ∙ ap (λ (p : Part). nameStep table bytes (drop (s .place .node) bytes) v p (s .place .elements))
+          does-pair table classes pattern bytes (s .place) (s .frames) fs (name v) qs _ left t ts (h .is .here) i
+          ∙ ap (λ (p : Part). nameStep table classes bytes (drop (s .place .node) bytes) v p (s .place .elements))
           (part-here (plain (name v) qs) qs (t :: ts) (Name v) refl refl h v refl name-low o x)
 
       name-assigned : (w : Terms) → e .value v ≡ some w
-          → nameStep table bytes (drop (s .place .node) bytes) v (part (e .offset v) (sizes table w) (count w)) (s .place .elements)
-          ≡ assignedStep bytes (part (e .offset v) (sizes table w) (count w)) (drop (s .place .node) bytes) (s .place .elements)
+          → nameStep table classes bytes (drop (s .place .node) bytes) v (part (e .offset v) (sizes table w) (count w)) (s .place .elements)
+          ≡ assignedStep table classes bytes (part (e .offset v) (sizes table w) (count w)) (drop (s .place .node) bytes) (s .place .elements)
       unfolding nameStep
       name-assigned w x = rw (assigned-present table bytes short (e .offset v) w (h .is .shown .stands v w x))
 
@@ -236,11 +242,11 @@ module _ (table : List ℕ) (small : length table ≤ 200) (bytes : List ℕ) (s
       unfolding listCode
       on-name none x =
           carry
-          (step-name table (s .place .node) fs e ds left i v qs t ts (bind e v (s .place .node) (single t))
-          (ap (λ (o : Option Terms). sameOr o (single t) e (bind e v (s .place .node) (single t))) x)
-          ∙ ap (λ (k : ℕ). meter (left - 1) (machine table (frame qs ts (s .place .node + k) ∷ fs) (bind e v (s .place .node) (single t)) ds))
+          (step-name table classes (s .place .node) fs e ds left i v qs t ts (bind e v (s .place .node) (single t))
+          (ap (λ (o : Option Terms). sameOr classes o (single t) e (bind e v (s .place .node) (single t))) x)
+          ∙ ap (λ (k : ℕ). meter (left - 1) (machine table classes (frame qs ts (s .place .node + k) ∷ fs) (bind e v (s .place .node) (single t)) ds))
           (sym (sizes-single table t)))
-          (binds turns s left v _ (name-step none x ∙ name-binds table small pattern bytes (s .place) (s .frames) fs (plain (name v) qs) t ts v
+          (binds turns s left v _ (name-step none x ∙ name-binds table small classes pattern bytes (s .place) (s .frames) fs (plain (name v) qs) t ts v
           (h .is .here)))
           (goes-past (plain (name v) qs) qs (t :: ts) (Name v) refl refl h (single t) ts refl _
           (bind e v (s .place .node) (single t))
@@ -249,39 +255,39 @@ module _ (table : List ℕ) (small : length table ≤ 200) (bytes : List ℕ) (s
       on-name (some w) x =
           on-assigned (plain (name v) qs) qs (t :: ts) (Name v) refl refl h v refl name-low w x (name-step (some w) x ∙ name-assigned w x)
           (λ us b.
-          let o = one-behind w t ts us (h .is .shown .one v w (name-below (h .is .here .patterns-limited)) x) b in
-          step-name table (s .place .node) fs e ds left i v qs t ts e
-          (ap (λ (p : Option Terms). sameOr p (single t) e (bind e v (s .place .node) (single t))) (x ∙ ap some (o .0))
-          ∙ ap (λ (m : Bool). cond m (some e) none) (same-terms (single t)))
-          ∙ ap₂ (λ (k : ℕ) (r : Terms). meter (left - 1) (machine table (frame qs r (s .place .node + k) ∷ fs) e ds))
-          (sym (sizes-single table t) ∙ ap (sizes table) (sym (o .0))) (o .1))
+          let o = one-behind classes w t ts us (h .is .shown .one v w (name-below (h .is .here .patterns-limited)) x) b in
+          step-name table classes (s .place .node) fs e ds left i v qs t ts e
+          (ap (λ (p : Option Terms). sameOr classes p (single t) e (bind e v (s .place .node) (single t))) x
+          ∙ ap (λ (m : Bool). cond m (some e) none) (o .0))
+          ∙ ap₂ (λ (k : ℕ) (r : Terms). meter (left - 1) (machine table classes (frame qs r (s .place .node + k) ∷ fs) e ds))
+          (sym (sizes-single table t) ∙ sym (same-sizes table classes alike w (single t) (o .0))) (o .1))
           (λ b.
-          step-name-differs table (s .place .node) fs e ds left i v qs t ts
-          (ap (λ (p : Option Terms). sameOr p (single t) e (bind e v (s .place .node) (single t))) x
-          ∙ ap (λ (m : Bool). cond m (some e) none) (none-behind w t ts b)))
+          step-name-differs table classes (s .place .node) fs e ds left i v qs t ts
+          (ap (λ (p : Option Terms). sameOr classes p (single t) e (bind e v (s .place .node) (single t))) x
+          ∙ ap (λ (m : Bool). cond m (some e) none) (none-behind classes w t ts b)))
 
     -- a run name
     module _ (v : ℕ) (qs : Children) (ts : Terms) (h : Ready (suc turns) s (run v qs) ts fs e ds) where
       run-step : (o : Option Terms) → e .value v ≡ o
-          → step turns s left ≡ runStep bytes v (partOf table o (e .offset v)) (drop (s .place .node) bytes) (s .place .elements) left
+          → step turns s left ≡ runStep table classes bytes v (partOf table o (e .offset v)) (drop (s .place .node) bytes) (s .place .elements) left
       unfolding codeStep listCode
       run-step o x =
-          does-code table pattern bytes (s .place) (s .frames) fs (run v qs) qs (branch (Run v) empty) ts refl (h .is .here) _ left
-          ∙ ap (λ (p : Part). runStep bytes v p (drop (s .place .node) bytes) (s .place .elements) left)
+          does-code table classes pattern bytes (s .place) (s .frames) fs (run v qs) qs (branch (Run v) empty) ts refl (h .is .here) _ left
+          ∙ ap (λ (p : Part). runStep table classes bytes v p (drop (s .place .node) bytes) (s .place .elements) left)
           (part-here (run v qs) qs ts (Run v) refl refl h v refl (run-within (h .is .here .patterns-limited) .1) o x)
 
-      run-fresh : runStep bytes v absent (drop (s .place .node) bytes) (s .place .elements) left ≡ Stops (RunName v)
+      run-fresh : runStep table classes bytes v absent (drop (s .place .node) bytes) (s .place .elements) left ≡ Stops (RunName v)
       unfolding runStep
       run-fresh = refl
 
       run-spent : (w : Terms) → e .value v ≡ some w → left ≡ 0
-          → runStep bytes v (part (e .offset v) (sizes table w) (count w)) (drop (s .place .node) bytes) (s .place .elements) left ≡ Stops NoAllowance
+          → runStep table classes bytes v (part (e .offset v) (sizes table w) (count w)) (drop (s .place .node) bytes) (s .place .elements) left ≡ Stops NoAllowance
       unfolding runStep
       run-spent w x i = rw (assigned-present table bytes short (e .offset v) w (h .is .shown .stands v w x), eq-eqb left 0 i)
 
       run-assigned : (w : Terms) → e .value v ≡ some w → 0 < left
-          → runStep bytes v (part (e .offset v) (sizes table w) (count w)) (drop (s .place .node) bytes) (s .place .elements) left
-          ≡ assignedStep bytes (part (e .offset v) (sizes table w) (count w)) (drop (s .place .node) bytes) (s .place .elements)
+          → runStep table classes bytes v (part (e .offset v) (sizes table w) (count w)) (drop (s .place .node) bytes) (s .place .elements) left
+          ≡ assignedStep table classes bytes (part (e .offset v) (sizes table w) (count w)) (drop (s .place .node) bytes) (s .place .elements)
       unfolding runStep
       run-assigned w x i = rw (assigned-present table bytes short (e .offset v) w (h .is .shown .stands v w x), ne-eqb left 0 (λ k. omega arith))
 
@@ -289,87 +295,91 @@ module _ (table : List ℕ) (small : length table ≤ 200) (bytes : List ℕ) (s
       unfolding listCode
       on-run-assigned w x (enough i) =
           let k : left ≡ 0 = omega arith in
-          carry (ap (λ (m : ℕ). meter m (machine table (frame (run v qs) ts (s .place .node) ∷ fs) e ds)) k
-          ∙ run-used-up table (s .place .node) fs e ds v qs ts w x)
+          carry (ap (λ (m : ℕ). meter m (machine table classes (frame (run v qs) ts (s .place .node) ∷ fs) e ds)) k
+          ∙ run-used-up table classes (s .place .node) fs e ds v qs ts w x)
           (stops turns s left NoAllowance (run-step (some w) x ∙ run-spent w x k)) is-spent
       on-run-assigned w x (over i) =
           on-assigned (run v qs) qs ts (Run v) refl refl h v refl (run-within (h .is .here .patterns-limited) .1) w x
           (run-step (some w) x ∙ run-assigned w x i)
-          (λ us b. step-run table (s .place .node) fs e ds left i v qs ts w us x b)
-          (λ b. step-run-differs table (s .place .node) fs e ds left i v qs ts w x b)
+          (λ us b. step-run table classes (s .place .node) fs e ds left i v qs ts w us x b)
+          (λ b. step-run-differs table classes (s .place .node) fs e ds left i v qs ts w x b)
 
       on-run : (o : Option Terms) → e .value v ≡ o → Agreed (run v qs) ts
       unfolding listCode
       on-run (some w) x = on-run-assigned w x (split left 0)
       on-run none x =
           let r = run-within (h .is .here .patterns-limited) in
-          carry (ap (meter left) (machine-run-fresh table (s .place .node) fs e ds v qs ts x))
+          carry (ap (meter left) (machine-run-fresh table classes (s .place .node) fs e ds v qs ts x))
           (stops turns s left (RunName v) (run-step none x ∙ run-fresh))
-          (lengths-agree table bytes n lv searches pattern narrow small short s v qs ts fs e ds (h .is) (r .0) (r .1)
+          (lengths-agree table classes bytes n lv searches pattern narrow small short s v qs ts fs e ds (h .is) (r .0) (r .1)
           (omega (arith, h .few, here (run v qs) qs ts (Run v) refl refl h)) left)
 
     -- a symbol
     module _ (r : ℕ) (qs : Children) (ts : Terms) (i : 0 < left) where
       symbol-step : (ps : Children) (k : ℕ) (us : Terms) → Ready (suc turns) s (plain (symbol r ps) qs) (node k us :: ts) fs e ds
-          → step turns s left ≡ symbolStep table (drop (s .place .at) pattern) (drop (s .place .node) bytes) r
+          → step turns s left ≡ symbolStep table classes (drop (s .place .at) pattern) (drop (s .place .node) bytes) r
       unfolding pairStep
-      symbol-step ps k us h = does-pair table pattern bytes (s .place) (s .frames) fs (symbol r ps) qs _ left (node k us) ts (h .is .here) i
+      symbol-step ps k us h = does-pair table classes pattern bytes (s .place) (s .frames) fs (symbol r ps) qs _ left (node k us) ts (h .is .here) i
 
-      on-open : (ps : Children) (us : Terms) → Ready (suc turns) s (plain (symbol r ps) qs) (node r us :: ts) fs e ds → 0 < getD table r 0
-          → Agreed (plain (symbol r ps) qs) (node r us :: ts)
-      on-open ps us h x =
-          let low = child-here table pattern bytes (s .place) (s .frames) fs (plain (symbol r ps) qs) qs (patternTree (symbol r ps)) (node r us :: ts) refl
-          (h .is .here) in
-          let wide = some-width (isList table r) in
-          carry (step-symbol table (s .place .node) fs e ds left i r r qs ps us ts (eq-eqb r r refl))
-          (opens turns s left _ _ _
-          (symbol-step ps r us h ∙ symbol-opens table small pattern bytes (s .place) (s .frames) fs r ps qs us ts (h .is .here) x))
-          (goes _ ps us (frame qs ts (s .place .node + size table (node r us)) ∷ fs) e ds (left - 1)
-          (record {
-            is = record {
-              here = here-open table pattern bytes (s .place) (s .frames) r ps qs us ts fs (h .is .here);
-              shown = h .is .shown;
-              waiting = h .is .waiting;
-            };
-            few = omega (arith, h .few);
-            long = omega (arith, h .long);
-          }))
+      -- one of the same class, whose table byte is alike
+      module _ (k : ℕ) (same : sameByte classes false r k ≡ true) where
+        byte : getD table r 0 ≡ getD table k 0
+        byte = entry-alike table classes alike r k (eqb-true (classOf classes r) (classOf classes k) same)
 
-      -- without children its frame is over at once
-      on-leaf : (ps : Children) (us : Terms) → Ready (suc turns) s (plain (symbol r ps) qs) (node r us :: ts) fs e ds → getD table r 0 ≡ 0
-          → Agreed (plain (symbol r ps) qs) (node r us :: ts)
-      unfolding listCode
-      on-leaf end nil h x =
-          carry
-          (step-symbol table (s .place .node) fs e ds left i r r qs end nil ts (eq-eqb r r refl)
-          ∙ ap (meter (left - 1)) (machine-end table _ (frame qs ts (s .place .node + size table (node r nil)) ∷ fs) e ds
-          ∙ ap (λ (k : ℕ). machine table (frame qs ts (s .place .node + k) ∷ fs) e ds) (sym (sizes-single table (node r nil)))))
-          (passes turns s left _ _
-          (symbol-step end r nil h ∙ symbol-passes table small pattern bytes (s .place) (s .frames) fs r qs ts (h .is .here) x))
-          (goes-past (plain (symbol r end) qs) qs (node r nil :: ts) (Symbol r) refl (ap (λ (k : ℕ). eqb k 255) x) h (single (node r nil)) ts refl
-          (s .parts) e (h .is .shown))
-      on-leaf end (u :: us) h x = absurd (omega (arith, childless (h .is .here .elements-limited) x, number-terms (u :: us)))
-      on-leaf (plain p ps) us h x = absurd (omega (arith, childless (h .is .here .patterns-limited) x, number-children (plain p ps)))
-      on-leaf (run v ps) us h x = absurd (omega (arith, childless (h .is .here .patterns-limited) x, number-children (run v ps)))
+        on-open : (ps : Children) (us : Terms) → Ready (suc turns) s (plain (symbol r ps) qs) (node k us :: ts) fs e ds → 0 < getD table r 0
+            → Agreed (plain (symbol r ps) qs) (node k us :: ts)
+        on-open ps us h x =
+            let low = child-here table classes pattern bytes (s .place) (s .frames) fs (plain (symbol r ps) qs) qs (patternTree (symbol r ps))
+            (node k us :: ts) refl (h .is .here) in
+            let wide = some-width (isList table r) in
+            carry (step-symbol table classes (s .place .node) fs e ds left i r k qs ps us ts same
+            ∙ ap (λ (b : ℕ). meter (left - 1) (machine table classes
+            (frame ps us (s .place .node + cond (eqb b 255) 2 1) ∷ frame qs ts (s .place .node + size table (node k us)) ∷ fs) e ds)) (sym byte))
+            (opens turns s left _ _ _
+            (symbol-step ps k us h ∙ symbol-opens table small classes pattern bytes (s .place) (s .frames) fs r k same byte ps qs us ts (h .is .here) x))
+            (goes _ ps us (frame qs ts (s .place .node + size table (node k us)) ∷ fs) e ds (left - 1)
+            (record {
+              is = record {
+                here = here-open table pattern bytes (s .place) (s .frames) r k byte ps qs us ts fs (h .is .here);
+                shown = h .is .shown;
+                waiting = h .is .waiting;
+              };
+              few = omega (arith, h .few);
+              long = omega (arith, h .long);
+            }))
 
-      on-same : (ps : Children) (us : Terms) → Ready (suc turns) s (plain (symbol r ps) qs) (node r us :: ts) fs e ds
-          → Split (getD table r 0) 0 → Agreed (plain (symbol r ps) qs) (node r us :: ts)
-      on-same ps us h (enough x) = on-leaf ps us h (omega arith)
-      on-same ps us h (over x) = on-open ps us h x
+        -- without children its frame is over at once
+        on-leaf : (ps : Children) (us : Terms) → Ready (suc turns) s (plain (symbol r ps) qs) (node k us :: ts) fs e ds → getD table r 0 ≡ 0
+            → Agreed (plain (symbol r ps) qs) (node k us :: ts)
+        unfolding listCode
+        on-leaf end nil h x =
+            carry
+            (step-symbol table classes (s .place .node) fs e ds left i r k qs end nil ts same
+            ∙ ap (meter (left - 1)) (machine-end table classes _ (frame qs ts (s .place .node + size table (node k nil)) ∷ fs) e ds
+            ∙ ap (λ (m : ℕ). machine table classes (frame qs ts (s .place .node + m) ∷ fs) e ds) (sym (sizes-single table (node k nil)))))
+            (passes turns s left _ _
+            (symbol-step end k nil h ∙ symbol-passes table small classes pattern bytes (s .place) (s .frames) fs r k same byte qs ts (h .is .here) x))
+            (goes-past (plain (symbol r end) qs) qs (node k nil :: ts) (Symbol r) refl (ap (λ (b : ℕ). eqb b 255) x) h (single (node k nil)) ts refl
+            (s .parts) e (h .is .shown))
+        on-leaf end (u :: us) h x = absurd (omega (arith, childless (h .is .here .elements-limited) (sym byte ∙ x), number-terms (u :: us)))
+        on-leaf (plain p ps) us h x = absurd (omega (arith, childless (h .is .here .patterns-limited) x, number-children (plain p ps)))
+        on-leaf (run v ps) us h x = absurd (omega (arith, childless (h .is .here .patterns-limited) x, number-children (run v ps)))
+
+        on-same : (ps : Children) (us : Terms) → Ready (suc turns) s (plain (symbol r ps) qs) (node k us :: ts) fs e ds
+            → Split (getD table r 0) 0 → Agreed (plain (symbol r ps) qs) (node k us :: ts)
+        on-same ps us h (enough x) = on-leaf ps us h (omega arith)
+        on-same ps us h (over x) = on-open ps us h x
 
       on-symbol : (k : ℕ) (ps : Children) (us : Terms) → Ready (suc turns) s (plain (symbol r ps) qs) (node k us :: ts) fs e ds
           → Agreed (plain (symbol r ps) qs) (node k us :: ts)
-      on-symbol k ps us h = go (eqb r k) refl
+      on-symbol k ps us h = go (sameByte classes false r k) refl
         where
-          go : (m : Bool) → eqb r k ≡ m → Agreed (plain (symbol r ps) qs) (node k us :: ts)
-          go true x =
-              subst (λ (j : ℕ). Ready (suc turns) s (plain (symbol r ps) qs) (node j us :: ts) fs e ds → Agreed (plain (symbol r ps) qs)
-              (node j us :: ts))
-              (eqb-true r k x) (λ g. on-same ps us g (split (getD table r 0) 0)) h
+          go : (m : Bool) → sameByte classes false r k ≡ m → Agreed (plain (symbol r ps) qs) (node k us :: ts)
+          go true x = on-same k x ps us h (split (getD table r 0) 0)
           go false x =
-              carry (step-symbol-differs table (s .place .node) fs e ds left i r k qs ps us ts x)
+              carry (step-symbol-differs table classes (s .place .node) fs e ds left i r k qs ps us ts x)
               (fails turns s left
-              (symbol-step ps k us h ∙ symbol-fails table small pattern bytes (s .place) (s .frames) fs r k (plain (symbol r ps) qs) us ts (h .is .here) x))
+              (symbol-step ps k us h ∙ symbol-fails table small classes pattern bytes (s .place) (s .frames) fs r k (plain (symbol r ps) qs) us ts (h .is .here) x))
               is-failed
 
     -- a complement
@@ -388,15 +398,15 @@ module _ (table : List ℕ) (small : length table ≤ 200) (bytes : List ℕ) (s
 
       on-complement : Agreed (plain (complement q) qs) (t :: ts)
       on-complement =
-          let low = child-here table pattern bytes (s .place) (s .frames) fs (plain (complement q) qs) qs (patternTree (complement q)) (t :: ts) refl
+          let low = child-here table classes pattern bytes (s .place) (s .frames) fs (plain (complement q) qs) qs (patternTree (complement q)) (t :: ts) refl
           (h .is .here) in
           let wide = branch-some table (patternTree (complement q)) [] in
-          carry (step-complement table (s .place .node) fs e ds left i q qs t ts
-          ∙ ap (λ (x : ℕ). meter (left - 1) (machine table (frame qs ts (s .place .node + x) ∷ fs) e (ds ++ (pending q t (s .place .node) ∷ []))))
+          carry (step-complement table classes (s .place .node) fs e ds left i q qs t ts
+          ∙ ap (λ (x : ℕ). meter (left - 1) (machine table classes (frame qs ts (s .place .node + x) ∷ fs) e (ds ++ (pending q t (s .place .node) ∷ []))))
           (sym (sizes-single table t)))
           (puts-by turns s left _ _
-          (does-pair table pattern bytes (s .place) (s .frames) fs (complement q) qs _ left t ts (h .is .here) i
-          ∙ complement-put-by table small pattern bytes (s .place) (s .frames) fs q qs t ts _ (h .is .here))
+          (does-pair table classes pattern bytes (s .place) (s .frames) fs (complement q) qs _ left t ts (h .is .here) i
+          ∙ complement-put-by table small classes pattern bytes (s .place) (s .frames) fs q qs t ts _ (h .is .here))
           ∙ past-last turns (s .parts) (s .frames) _ (s .place) _ (sizes table (single t)) (left - 1))
           (goes _ qs ts fs e (ds ++ (pending q t (s .place .node) ∷ [])) (left - 1)
           (record {
@@ -426,9 +436,9 @@ module _ (table : List ℕ) (small : length table ≤ 200) (bytes : List ℕ) (s
         go c cs x =
             let g = subst (λ (l : List Counts). Here table pattern bytes (s .place) l end nil (f ∷ fs)) x (h .is .here) in
             carry
-            (ap (meter left) (machine-end table (s .place .node) (f ∷ fs) e ds
-            ∙ ap (λ (k : ℕ). machine table (frame (f .patterns) (f .elements) k ∷ fs) e ds) (close-at table pattern bytes (s .place) cs c f fs g)))
-            (closes turns s left (turn-end table pattern bytes _ (s .place) left (alone (s .frames)) (h .is .here .children) (h .is .here .elements)
+            (ap (meter left) (machine-end table classes (s .place .node) (f ∷ fs) e ds
+            ∙ ap (λ (k : ℕ). machine table classes (frame (f .patterns) (f .elements) k ∷ fs) e ds) (close-at table pattern bytes (s .place) cs c f fs g)))
+            (closes turns s left (turn-end table classes pattern bytes _ (s .place) left (alone (s .frames)) (h .is .here .children) (h .is .here .elements)
             ∙ ap (λ (l : List Counts). cond (alone l) (Stops NoPair) Closes) x)
             ∙ ap (λ (l : List Counts). searched turns (closedBy l s) left) x)
             (goes (closedBy (c ∷ cs) s) (f .patterns) (f .elements) fs e ds left
@@ -441,10 +451,10 @@ module _ (table : List ℕ) (small : length table ≤ 200) (bytes : List ℕ) (s
     -- the end of a level
     on-end : Ready (suc turns) s end nil [] e ds → Agreed turns goes s [] e ds left end nil
     on-end h =
-        carry (ap (meter left) (machine-end table (s .place .node) [] e ds))
-        (stops turns s left NoPair (turn-end table pattern bytes _ (s .place) left (alone (s .frames)) (h .is .here .children) (h .is .here .elements)
+        carry (ap (meter left) (machine-end table classes (s .place .node) [] e ds))
+        (stops turns s left NoPair (turn-end table classes pattern bytes _ (s .place) left (alone (s .frames)) (h .is .here .children) (h .is .here .elements)
         ∙ ap (λ (l : List Counts). cond (alone l) (Stops NoPair) Closes) (stacked-alone table (s .frames) _ (h .is .here .around))))
-        (complements-agree table bytes n lv searches pattern narrow (s .parts) e (s .waiting) ds left (h .is .shown) (h .is .waiting) (omega (arith, h .few)))
+        (complements-agree table classes bytes n lv searches pattern narrow (s .parts) e (s .waiting) ds left (h .is .shown) (h .is .waiting) (omega (arith, h .few)))
 
   turn : (turns : ℕ) → Goes turns → Goes (suc turns)
   turn turns goes s end nil [] e ds left h = on-end turns goes s e ds left h

@@ -1,10 +1,12 @@
 -- The call: what the match of one pattern against one record answers, and what it leaves in the answer buffer, on all inputs.
-use Prim.Native.Nat.{ℕ, zero}
+use Prim.Native.Nat.{ℕ, zero, _-_}
 use mathlib.Core.Path.{_≡_}
 use mathlib.Core.List.{List, [], _++_}
-use mathlib.Core.Bool.{true, cond}
+use mathlib.Core.Bool.{Bool, true, false, cond}
+use mathlib.Core.Option.{Option, none, some}
 use lib.ListN.{length, drop}
 use lib.Dec.{ltb}
+use Rattle.term.specs.Class.{classesAccepted}
 use Rattle.term.specs.Table.{tableAccepted}
 use Rattle.term.specs.Term.{Term, termBytes}
 use Rattle.term.specs.Pattern.{Pattern, patternBytes}
@@ -12,9 +14,14 @@ use Rattle.term.specs.Limits.{TermAccepted, PatternAccepted}
 use Rattle.term.specs.Refusal.{numberOf}
 use Rattle.term.specs.Reading.{Answer as Reading, refused, read, readPattern, readRecord}
 use Rattle.term.specs.declared.Refusal.{Refusal}
-use Rattle.term.specs.declared.Refusal.the-variants.{Table, Narrow}
+use Rattle.term.specs.declared.Refusal.the-variants.{Table, Narrow, Class}
+use Rattle.anti_pattern.specs.Language.{Language, language}
 use Rattle.anti_pattern.specs.Answer.{Answer as Outcome, bound, nothing, spent, answer}
-pub use Rattle.search.specs.Shown.{numbers}
+use Rattle.term.specs.declared.Part.{Part}
+use Rattle.search.specs.Level.{Reply, searchOf}
+pub use Rattle.search.specs.Shown.{numbers, answerWidth}
+use Rattle.search.specs.declared.Outcome.{Outcome as Ending}
+use Rattle.search.specs.declared.Outcome.the-variants.{Found, Failed as Missed, Spent as UsedUp}
 use Rattle.matcher.specs.declared.Answer.{Answer}
 use Rattle.matcher.specs.declared.Answer.the-variants.{Bound, None, Spent, Refused}
 use Rattle.matcher.specs.declared.Check.{Check}
@@ -32,6 +39,23 @@ answerCount (Bound count) = count
 answerCount (None count) = count
 answerCount (Spent count) = count
 answerCount (Refused r) = zero
+
+-- "A call may bring a class list". One that brings none has the empty one, and nothing to check
+abbrev pub broughtBy : Bool → List ℕ → Option (List ℕ)
+broughtBy true classes = some classes
+broughtBy false classes = none
+
+abbrev pub classesOf : Option (List ℕ) → List ℕ
+classesOf none = []
+classesOf (some classes) = classes
+
+-- the language of the call
+abbrev pub languageOf : List ℕ → Option (List ℕ) → Language
+languageOf table brought = language table (classesOf brought)
+
+abbrev pub broughtAccepted : List ℕ → Option (List ℕ) → Bool
+broughtAccepted table none = true
+broughtAccepted table (some classes) = classesAccepted table classes
 
 -- Accepted input: a table, and the bytes of a pattern and of a record, that pass every check
 pub record Input (table pattern bytes : List ℕ) (q : Pattern) (t : Term) : Type 0 where
@@ -51,11 +75,12 @@ checkedBy (refused r) y = fault r
 checkedBy (read q n) (refused r) = fault r
 checkedBy (read q n) (read t m) = trees q t
 
--- in order: 8, 1, the pattern's, the record's
-unfoldable pub checked : List ℕ → List ℕ → List ℕ → ℕ → Checked
-checked table pattern bytes width =
-    cond (ltb width 96) (fault Narrow)
-    (cond (tableAccepted table) (checkedBy (readPattern table pattern) (readRecord table bytes)) (fault Table))
+-- in order: 8, 1, 14, the pattern's, the record's
+unfoldable pub checked : List ℕ → Option (List ℕ) → List ℕ → List ℕ → ℕ → Checked
+checked table brought pattern bytes width =
+    cond (ltb width answerWidth) (fault Narrow)
+    (cond (tableAccepted table)
+    (cond (broughtAccepted table brought) (checkedBy (readPattern table pattern) (readRecord table bytes)) (fault Class)) (fault Table))
 
 -- passed, or the refusal
 abbrev pub checkOf : Checked → Check
@@ -69,24 +94,46 @@ told (bound parts count) = Bound count
 told (nothing count) = None count
 told (spent allowance) = Spent allowance
 
-abbrev pub answerBy : Checked → List ℕ → ℕ → Answer
-answerBy (fault r) table allowance = Refused r
-answerBy (trees q t) table allowance = told (answer table q t allowance)
+abbrev pub answerBy : Checked → List ℕ → Option (List ℕ) → ℕ → Answer
+answerBy (fault r) table brought allowance = Refused r
+answerBy (trees q t) table brought allowance = told (answer (languageOf table brought) q t allowance)
 
-unfoldable pub answerOf : List ℕ → List ℕ → List ℕ → ℕ → ℕ → Answer
-answerOf table pattern bytes allowance width = answerBy (checked table pattern bytes width) table allowance
+unfoldable pub answerOf : List ℕ → Option (List ℕ) → List ℕ → List ℕ → ℕ → ℕ → Answer
+answerOf table brought pattern bytes allowance width = answerBy (checked table brought pattern bytes width) table brought allowance
 
 -- The answer buffer
 
 -- "What lies past 96 stays."; "All but bound leave the answer buffer untouched."
 abbrev pub written : Outcome → List ℕ → List ℕ
-written (bound parts count) before = numbers parts ++ drop 96 before
+written (bound parts count) before = numbers parts ++ drop answerWidth before
 written (nothing count) before = before
 written (spent allowance) before = before
 
-abbrev pub bufferBy : Checked → List ℕ → ℕ → List ℕ → List ℕ
-bufferBy (fault r) table allowance before = before
-bufferBy (trees q t) table allowance before = written (answer table q t allowance) before
+abbrev pub bufferBy : Checked → List ℕ → Option (List ℕ) → ℕ → List ℕ → List ℕ
+bufferBy (fault r) table brought allowance before = before
+bufferBy (trees q t) table brought allowance before = written (answer (languageOf table brought) q t allowance) before
 
-unfoldable pub bufferOf : List ℕ → List ℕ → List ℕ → ℕ → List ℕ → List ℕ
-bufferOf table pattern bytes allowance before = bufferBy (checked table pattern bytes (length before)) table allowance before
+unfoldable pub bufferOf : List ℕ → Option (List ℕ) → List ℕ → List ℕ → ℕ → List ℕ → List ℕ
+bufferOf table brought pattern bytes allowance before = bufferBy (checked table brought pattern bytes (length before)) table brought allowance before
+
+-- The match of any bytes, without the checks but for the buffer's: what the search on bytes comes to. On accepted input it is the answer above
+-- (proofs/Linked).
+
+abbrev pub repliedBy : Ending → ℕ → ℕ → List Part → Outcome
+repliedBy Found allowance left parts = bound parts (allowance - left)
+repliedBy Missed allowance left parts = nothing (allowance - left)
+repliedBy UsedUp allowance left parts = spent allowance
+
+abbrev pub replied : ℕ → Reply → Outcome
+replied allowance r = repliedBy (r .outcome) allowance (r .left) (r .parts)
+
+unfoldable pub outcomeOnBytes : List ℕ → List ℕ → List ℕ → List ℕ → ℕ → Outcome
+outcomeOnBytes table classes pattern bytes allowance = replied allowance (searchOf table classes pattern bytes allowance)
+
+unfoldable pub answerOnBytes : List ℕ → List ℕ → List ℕ → List ℕ → ℕ → ℕ → Answer
+answerOnBytes table classes pattern bytes allowance width =
+    cond (ltb width answerWidth) (Refused Narrow) (told (outcomeOnBytes table classes pattern bytes allowance))
+
+unfoldable pub bufferOnBytes : List ℕ → List ℕ → List ℕ → List ℕ → ℕ → List ℕ → List ℕ
+bufferOnBytes table classes pattern bytes allowance before =
+    cond (ltb (length before) answerWidth) before (written (outcomeOnBytes table classes pattern bytes allowance) before)

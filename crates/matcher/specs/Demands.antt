@@ -4,22 +4,23 @@ use mathlib.Core.Path.{_≡_}
 use mathlib.Core.Logic.{_↔_}
 use mathlib.Core.List.{List, []}
 use mathlib.Core.Bool.{true, false}
-use mathlib.Core.Option.{none, some}
+use mathlib.Core.Option.{Option, none, some}
 use lib.ListN.{length, getD, take, drop}
 use Rattle.term.specs.Term.{Term, Terms, termsBytes}
 use Rattle.term.specs.Pattern.{Pattern}
+use Rattle.term.specs.Refusal.{numberOf}
 use Rattle.term.specs.declared.Refusal.{Refusal}
-use Rattle.term.specs.declared.Refusal.the-variants.{Narrow}
 use Rattle.anti_pattern.specs.AntiTerm.{Substitution}
-use Rattle.anti_pattern.specs.Answer.{countOf, answer}
+use Rattle.anti_pattern.specs.Answer.{countOf}
 use Rattle.anti_pattern.specs.Demands.{First, Unsatisfied}
-use Rattle.anti_pattern.specs.Meaning.{Assignment}
+use Rattle.anti_pattern.specs.Language.{Language}
+use Rattle.anti_pattern.specs.Meaning.{Assignment, CountAsOne}
 use Rattle.anti_pattern.specs.Place.{place}
 use Rattle.anti_pattern.specs.Published.{Solution, NoRuns, anti, assignment}
 use Rattle.anti_pattern.specs.Variables.{free, among}
-use Rattle.matcher.specs.Call.{answerNumber, answerCount, Input, told, answerOf, written, bufferOf}
+use Rattle.matcher.specs.Call.{answerNumber, answerCount, languageOf, broughtAccepted, Input, answerOf, bufferOf}
 use Rattle.matcher.specs.declared.Answer.{Answer}
-use Rattle.matcher.specs.declared.Answer.the-variants.{Refused}
+use Rattle.search.specs.Shown.{answerWidth}
 
 -- the pair that a buffer has for a variable
 abbrev pub offsetIn : List ℕ → ℕ → ℕ
@@ -37,46 +38,48 @@ pub record Shows (table bytes : List ℕ) (q : Pattern) (t : Term) (x : Assignme
   -- "A name that is not free shows the absent mark, 65,535 and 0."
   pub absent-mark : (v : ℕ) → v < 48 → among v (free q) ≡ false → (offsetIn buffer v ≡ 65535) × (lengthIn buffer v ≡ 0)
 
--- Demand 3, for the trees of accepted input
-pub record Answered (table pattern bytes before : List ℕ) (allowance : ℕ) (q : Pattern) (t : Term) (a : Answer) (after : List ℕ) : Type 0 where
-  -- spent exactly when the count is over the allowance, which it then shows
-  pub spent-exactly : (answerNumber a ≡ 11) ↔ (allowance < countOf table q t)
-  pub spent-shows : allowance < countOf table q t → answerCount a ≡ allowance
-  -- otherwise the count
-  pub shows-count : countOf table q t ≤ allowance → answerCount a ≡ countOf table q t
-  -- none exactly when no assignment satisfies
-  pub none-exactly : (answerNumber a ≡ 10) ↔ ((countOf table q t ≤ allowance) × Unsatisfied q t)
-  -- bound exactly when one does, and then the buffer shows the first
-  pub bound-exactly : (answerNumber a ≡ 0) ↔ ((countOf table q t ≤ allowance) × ((x : Assignment) × First q t x))
-  pub bound-shows : answerNumber a ≡ 0 → (x : Assignment) × First q t x × Shows table bytes q t x after
-  -- every larger allowance gives the same answer and final buffer
-  pub larger-allowance : (more : ℕ) → countOf table q t ≤ allowance → allowance ≤ more
-      → (answerOf table pattern bytes more (length before) ≡ a) × (bufferOf table pattern bytes more before ≡ after)
+module _ (table : List ℕ) (brought : Option (List ℕ)) where
+  abbrev l : Language
+  l = languageOf table brought
 
--- Demand 2, for a pattern without run names, by the published definition
-pub record Published (table bytes : List ℕ) (allowance : ℕ) (q : Pattern) (n : NoRuns q) (t : Term) (a : Answer) (after : List ℕ) : Type 0 where
-  pub none-exactly : (answerNumber a ≡ 10) ↔ ((countOf table q t ≤ allowance) × ((σ : Substitution) → Solution (anti q n) t σ → ⊥))
-  pub bound-exactly : (answerNumber a ≡ 0) ↔ ((countOf table q t ≤ allowance) × ((σ : Substitution) × Solution (anti q n) t σ))
-  pub bound-shows : answerNumber a ≡ 0 → (σ : Substitution) × Solution (anti q n) t σ × Shows table bytes q t (assignment σ) after
+  -- Demand 3, for the trees of accepted input
+  pub record Answered (pattern bytes before : List ℕ) (allowance : ℕ) (q : Pattern) (t : Term) (a : Answer) (after : List ℕ) : Type 0 where
+    -- spent exactly when the count is over the allowance, which it then shows
+    pub spent-exactly : (answerNumber a ≡ 11) ↔ (allowance < countOf l q t)
+    pub spent-shows : allowance < countOf l q t → answerCount a ≡ allowance
+    -- otherwise the count
+    pub shows-count : countOf l q t ≤ allowance → answerCount a ≡ countOf l q t
+    -- none exactly when no assignment satisfies
+    pub none-exactly : (answerNumber a ≡ 10) ↔ ((countOf l q t ≤ allowance) × Unsatisfied l q t)
+    -- bound exactly when one does, and then the buffer shows the first
+    pub bound-exactly : (answerNumber a ≡ 0) ↔ ((countOf l q t ≤ allowance) × ((x : Assignment) × First l q t x))
+    pub bound-shows : answerNumber a ≡ 0 → (x : Assignment) × First l q t x × Shows table bytes q t x after
+    -- every larger allowance gives the same answer and final buffer
+    pub larger-allowance : (more : ℕ) → countOf l q t ≤ allowance → allowance ≤ more
+        → (answerOf table brought pattern bytes more (length before) ≡ a) × (bufferOf table brought pattern bytes more before ≡ after)
 
--- Past 96 numbers the buffer stays, and all of it unless the answer is bound
-pub record Kept (before : List ℕ) (a : Answer) (after : List ℕ) : Type 0 where
-  pub past : drop 96 after ≡ drop 96 before
+  -- Demand 2, for a pattern without run names, by the published definition
+  pub record Published (bytes : List ℕ) (allowance : ℕ) (q : Pattern) (n : NoRuns q) (t : Term) (a : Answer) (after : List ℕ) : Type 0 where
+    pub none-exactly : (answerNumber a ≡ 10) ↔ ((countOf l q t ≤ allowance) × ((σ : Substitution) → Solution l (anti q n) t σ → ⊥))
+    pub bound-exactly : (answerNumber a ≡ 0) ↔ ((countOf l q t ≤ allowance) × ((σ : Substitution) × Solution l (anti q n) t σ))
+    pub bound-shows : answerNumber a ≡ 0 → (σ : Substitution) × Solution l (anti q n) t σ × Shows table bytes q t (assignment σ) after
+    -- it is the only substitution there is
+    pub only-one : (σ ρ : Substitution) → Solution l (anti q n) t σ → Solution l (anti q n) t ρ → CountAsOne l (assignment σ) (assignment ρ)
+
+-- Demand 1: any input gets an answer or a numbered refusal; the order of the checks is that of `checked` (Call)
+pub record Handled (table : List ℕ) (brought : Option (List ℕ)) (pattern bytes before : List ℕ) (a : Answer) (after : List ℕ) : Type 0 where
+  -- refused exactly when the buffer is narrow, or the class list or the input is not accepted; a refusal shows count 0
+  pub refused-exactly : ((r : Refusal) × (answerNumber a ≡ numberOf r))
+      ↔ (answerWidth ≤ length before → broughtAccepted table brought ≡ true → (q : Pattern) (t : Term) → Input table pattern bytes q t → ⊥)
+  pub refused-shows : (r : Refusal) → answerNumber a ≡ numberOf r → answerCount a ≡ 0
+  -- "Unless a rule was bound the answer buffer is untouched"; "What lies past 96 stays."
   pub untouched : (answerNumber a ≡ 0 → ⊥) → after ≡ before
+  pub past-stays : drop answerWidth after ≡ drop answerWidth before
 
--- All that is demanded
-pub record Demanded (table pattern bytes before : List ℕ) (allowance : ℕ) (a : Answer) (after : List ℕ) : Type 0 where
-  pub answered : 96 ≤ length before → (q : Pattern) (t : Term) → Input table pattern bytes q t
-      → Answered table pattern bytes before allowance q t a after
-  pub published : 96 ≤ length before → (q : Pattern) (t : Term) → Input table pattern bytes q t → (n : NoRuns q)
-      → Published table bytes allowance q n t a after
-  -- refused exactly when the buffer is narrow or the input is not accepted
-  pub refused-exactly : ((r : Refusal) × (a ≡ Refused r)) ↔ (96 ≤ length before → (q : Pattern) (t : Term) → Input table pattern bytes q t → ⊥)
-  pub kept : Kept before a after
-
--- The match of input that was checked before. What it answers on other bytes no definition decides
-pub record Matched (table pattern bytes before : List ℕ) (allowance : ℕ) (a : Answer) (after : List ℕ) : Type 0 where
-  pub narrow : length before < 96 → (a ≡ Refused Narrow) × (after ≡ before)
-  pub answered : 96 ≤ length before → (q : Pattern) (t : Term) → Input table pattern bytes q t
-      → (a ≡ told (answer table q t allowance)) × (after ≡ written (answer table q t allowance) before)
-  pub kept : Kept before a after
+-- All three
+pub record Demanded (table : List ℕ) (brought : Option (List ℕ)) (pattern bytes before : List ℕ) (allowance : ℕ) (a : Answer) (after : List ℕ) : Type 0 where
+  pub handled : Handled table brought pattern bytes before a after
+  pub published : answerWidth ≤ length before → broughtAccepted table brought ≡ true → (q : Pattern) (t : Term) → Input table pattern bytes q t → (n : NoRuns q)
+      → Published table brought bytes allowance q n t a after
+  pub answered : answerWidth ≤ length before → broughtAccepted table brought ≡ true → (q : Pattern) (t : Term) → Input table pattern bytes q t
+      → Answered table brought pattern bytes before allowance q t a after

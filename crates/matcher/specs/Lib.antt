@@ -1,4 +1,3 @@
--- The match of one pattern against one record: the call, what is demanded of it, and what the search's state stands for.
+-- The match of one pattern against one record: the call, and what is demanded of it.
 pub mod Call
 pub mod Demands
-pub mod Represents

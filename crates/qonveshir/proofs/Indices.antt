@@ -4,6 +4,7 @@ use native.Mathlib.Omega.{arith}
 use mathlib.Core.Path.{_≡_, refl, sym, ap, _∙_}
 use mathlib.Core.List.{List, [], _∷_}
 use mathlib.Core.Bool.{Bool, true, false, cond}
+use mathlib.Core.Option.{Option}
 use lib.ListN.{length}
 use lib.Dec.{leb, ltb}
 use borrow.Author.Tests.{leb-true}
@@ -13,7 +14,7 @@ use Rattle.term.specs.Table.{tableAccepted}
 use Rattle.term.specs.Reading.{Answer as Reading, refused, read, readPattern, readRecord}
 use Rattle.term.specs.declared.Read.{Read}
 use Rattle.term.specs.declared.Read.the-variants.{Ends}
-use Rattle.term.specs.declared.Refusal.the-variants.{Table, Narrow, Long, Directory, Full}
+use Rattle.term.specs.declared.Refusal.the-variants.{Table, Narrow, Long, Directory, Full, Class}
 use Rattle.anti_pattern.specs.Answer.{Answer as Outcome, bound, nothing, spent, answer}
 use Rattle.sheet.specs.Answer.{checkedIndex, writingIndex}
 use Rattle.sheet.specs.Check.{longestSheet, entryCount, directoryAccepted, checkSheet, andThen}
@@ -28,9 +29,11 @@ use Rattle.sheet.proofs.Checks.{accepted-directed}
 use Rattle.sheet.proofs.Contents.{contents-passed}
 use Rattle.sheet.proofs.Entries.{entries-count}
 use Rattle.sheet.proofs.Lengths.{split-length}
+use Rattle.matcher.specs.Call.{languageOf, broughtAccepted}
 use Rattle.rules.specs.Answer.{ruleIndex}
-use Rattle.rules.specs.Call.{fault, withRule, rulesOf, checkedBy, checked, told, answerBy, answerOf}
-use Rattle.rules.specs.Trial.{tryOne, tryFrom}
+use Rattle.rules.specs.Call.{fault, rulesOf, checkedBy, checked, told, answerBy, answerOf}
+use Rattle.rules.proofs.Rules.{rules-few}
+use Rattle.rules.specs.Trial.{tryOne, tryEach}
 
 -- entries and records, which are checked one by one
 
@@ -100,35 +103,36 @@ writing-index table bs ns room = go (checkRecords table bs ns) (records-index ta
 
 -- the rules of a sheet, which are tried one by one
 
-rules-few : (table : List ℕ) (es : List (List ℕ)) → length (rulesOf table es) ≤ length es
-unfolding rulesOf
-rules-few table [] = omega arith
-rules-few table (e ∷ es) = go (readPattern table e) (rules-few table es)
+trial-index : {A : Type 0} (own : A → Outcome) (i sum : ℕ) (qs : List A) → ruleIndex (told (tryEach own i sum qs)) ≤ i + length qs
+unfolding tryEach
+trial-index own i sum [] = omega arith
+trial-index own i sum (q ∷ qs) = go (own q) (λ s. trial-index own (i + 1) s qs)
   where
-    go : (x : Reading Pattern) → length (rulesOf table es) ≤ length es → length (withRule x (rulesOf table es)) ≤ suc (length es)
-    go (refused r) rest = omega arith
-    go (read q n) rest = omega arith
-
-trial-index : (table : List ℕ) (t : Term) (allowance i sum : ℕ) (qs : List Pattern) → ruleIndex (told (tryFrom table t allowance i sum qs)) ≤ i + length qs
-unfolding tryFrom
-trial-index table t allowance i sum [] = omega arith
-trial-index table t allowance i sum (q ∷ qs) = go (answer table q t allowance) (λ s. trial-index table t allowance (i + 1) s qs)
-  where
-    go : (x : Outcome) → ((s : ℕ) → ruleIndex (told (tryFrom table t allowance (i + 1) s qs)) ≤ i + 1 + length qs)
-        → ruleIndex (told (tryOne i sum x (λ s. tryFrom table t allowance (i + 1) s qs))) ≤ i + suc (length qs)
+    go : (x : Outcome) → ((s : ℕ) → ruleIndex (told (tryEach own (i + 1) s qs)) ≤ i + 1 + length qs)
+        → ruleIndex (told (tryOne i sum x (λ s. tryEach own (i + 1) s qs))) ≤ i + suc (length qs)
     go (bound parts n) rest = omega arith
     go (nothing n) rest = omega (arith, rest (sum + n))
     go (spent n) rest = omega arith
 
-pub rules-index : (table sheet bytes : List ℕ) (allowance width : ℕ) → ruleIndex (answerOf table sheet bytes allowance width) ≤ longestSheet
+pub rules-index : (table : List ℕ) (brought : Option (List ℕ)) (sheet bytes : List ℕ) (allowance width : ℕ)
+    → ruleIndex (answerOf table brought sheet bytes allowance width) ≤ longestSheet
 unfolding answerOf checked
-rules-index table sheet bytes allowance width = go (ltb width 96) (checkRules table sheet) refl (readRecord table bytes)
+rules-index table brought sheet bytes allowance width =
+    go (ltb width 96) (tableAccepted table) (broughtAccepted table brought) (checkRules table sheet) refl (readRecord table bytes)
   where
-    go : (a : Bool) (x : Checked) → checkRules table sheet ≡ x → (y : Reading Term)
-        → ruleIndex (answerBy (cond a (fault Narrow 0) (checkedBy x (rulesOf table (entries sheet)) y)) table allowance) ≤ longestSheet
-    go true x e y = omega arith
-    go false (Checked.Refused r i) e y = omega (arith, rw e at (contents-index false table sheet))
-    go false (Accepted n) e (refused r) = omega arith
-    go false (Accepted n) e (read t m) =
+    go : (a p d : Bool) (x : Checked) → checkRules table sheet ≡ x → (y : Reading Term)
+        → ruleIndex (answerBy (cond a (fault Narrow 0) (cond p (cond d (checkedBy x (rulesOf table (entries sheet)) y) (fault Class 0)) (fault Table 0)))
+        table brought allowance) ≤ longestSheet
+    go true p d x e y = omega arith
+    go false false d x e y = omega arith
+    go false true false x e y = omega arith
+    go false true true (Checked.Refused r i) e y = omega (arith, rw e at (contents-index false table sheet))
+    go false true true (Accepted n) e (refused r) = omega arith
+    go false true true (Accepted n) e (read t m) =
         let s = contents-passed false table sheet n e .sheet in
-        omega (arith, trial-index table t allowance 0 0 (rulesOf table (entries sheet)), rules-few table (entries sheet), entries-few sheet n s)
+        omega (
+          arith,
+          trial-index (λ q. answer (languageOf table brought) q t allowance) 0 0 (rulesOf table (entries sheet)),
+          rules-few table (entries sheet),
+          entries-few sheet n s,
+        )

@@ -1,10 +1,14 @@
 // The C interface, `include/qonveshir.h`: the library's calls, with their answers as numbers.
+use matcher::Answer;
+use rules::RuleAnswer;
 use sheet::Checked;
 ghost use mathlib.Core.Path.{_≡_};
+ghost use mathlib.Core.Option.{none, some};
 ghost use Prim.Native.Nat.{_≤_};
 ghost use lib.ListN.{length};
 ghost use Rattle.matcher.specs.Call.{answerOf, bufferOf};
 ghost use Rattle.matcher.specs.Demands.{Demanded};
+ghost use Rattle.rules.specs.Answer.{ruleIndex};
 ghost use Rattle.rules.specs.Call.{answerOf as rulesAnswer, bufferOf as rulesBuffer};
 ghost use Rattle.rules.specs.Demands.{Demanded as RulesDemanded};
 ghost use Rattle.sheet.specs.Answer.{checkedIndex};
@@ -41,6 +45,19 @@ fn shown(number: u8, index: usize, count: u64) -> Outcome
     }
 }
 
+fn answer_shown(a: Answer) -> Outcome
+    ensures { λ r. ⌜ r ≡ answerShown a ⌝ }
+{
+    shown(a.number(), 0, a.count() as u64)
+}
+
+fn rules_shown(a: RuleAnswer) -> Outcome
+    requires { ⌜ ruleIndex a ≤ largest ⌝ }
+    ensures { λ r. ⌜ r ≡ rulesShown a ⌝ }
+{
+    shown(a.number(), a.index(), a.count())
+}
+
 fn part_shown(number: u8, offset: u16, length: u16) -> Part
     ensures { λ r. ⌜ r ≡ part number offset length ⌝ }
 {
@@ -67,12 +84,30 @@ pub extern "C" fn qonveshir_match(
     allowance: u32,
     answer: &mut [u16],
 ) -> Outcome
-    ensures shown { λ r. ⌜ r ≡ answerShown (answerOf (now (table .entry)) (now (pattern .entry)) (now («record» .entry)) allowance (length (now (answer .entry)))) ⌝ }
-    ensures buffer { λ _. ⌜ now (answer .exit) ≡ bufferOf (now (table .entry)) (now (pattern .entry)) (now («record» .entry)) allowance (now (answer .entry)) ⌝ }
-    ensures demand { λ _. ⌜ Demanded (now (table .entry)) (now (pattern .entry)) (now («record» .entry)) (now (answer .entry)) allowance (answerOf (now (table .entry)) (now (pattern .entry)) (now («record» .entry)) allowance (length (now (answer .entry)))) (now (answer .exit)) ⌝ }
+    ensures shown { λ r. ⌜ r ≡ answerShown (answerOf (now (table .entry)) none (now (pattern .entry)) (now («record» .entry)) allowance (length (now (answer .entry)))) ⌝ }
+    ensures buffer { λ _. ⌜ now (answer .exit) ≡ bufferOf (now (table .entry)) none (now (pattern .entry)) (now («record» .entry)) allowance (now (answer .entry)) ⌝ }
+    ensures demand { λ _. ⌜ Demanded (now (table .entry)) none (now (pattern .entry)) (now («record» .entry)) (now (answer .entry)) allowance (answerOf (now (table .entry)) none (now (pattern .entry)) (now («record» .entry)) allowance (length (now (answer .entry)))) (now (answer .exit)) ⌝ }
 {
     let a = matcher::match_one(table, pattern, record, allowance, answer);
-    shown(a.number(), 0, a.count() as u64)
+    answer_shown(a)
+}
+
+// One pattern against one record, up to class.
+#[no_mangle]
+pub extern "C" fn qonveshir_match_with_classes(
+    table: &[u8],
+    classes: &[u8],
+    pattern: &[u8],
+    record: &[u8],
+    allowance: u32,
+    answer: &mut [u16],
+) -> Outcome
+    ensures shown { λ r. ⌜ r ≡ answerShown (answerOf (now (table .entry)) (some (now (classes .entry))) (now (pattern .entry)) (now («record» .entry)) allowance (length (now (answer .entry)))) ⌝ }
+    ensures buffer { λ _. ⌜ now (answer .exit) ≡ bufferOf (now (table .entry)) (some (now (classes .entry))) (now (pattern .entry)) (now («record» .entry)) allowance (now (answer .entry)) ⌝ }
+    ensures demand { λ _. ⌜ Demanded (now (table .entry)) (some (now (classes .entry))) (now (pattern .entry)) (now («record» .entry)) (now (answer .entry)) allowance (answerOf (now (table .entry)) (some (now (classes .entry))) (now (pattern .entry)) (now («record» .entry)) allowance (length (now (answer .entry)))) (now (answer .exit)) ⌝ }
+{
+    let a = matcher::match_one_with_classes(table, classes, pattern, record, allowance, answer);
+    answer_shown(a)
 }
 
 // A rule sheet against one record.
@@ -84,12 +119,29 @@ pub extern "C" fn qonveshir_match_rules(
     allowance: u32,
     answer: &mut [u16],
 ) -> Outcome
-    ensures shown { λ r. ⌜ r ≡ rulesShown (rulesAnswer (now (table .entry)) (now (rules .entry)) (now («record» .entry)) allowance (length (now (answer .entry)))) ⌝ }
-    ensures buffer { λ _. ⌜ now (answer .exit) ≡ rulesBuffer (now (table .entry)) (now (rules .entry)) (now («record» .entry)) allowance (now (answer .entry)) ⌝ }
-    ensures demand { λ _. ⌜ RulesDemanded (now (table .entry)) (now (rules .entry)) (now («record» .entry)) (now (answer .entry)) allowance (rulesAnswer (now (table .entry)) (now (rules .entry)) (now («record» .entry)) allowance (length (now (answer .entry)))) (now (answer .exit)) ⌝ }
+    ensures shown { λ r. ⌜ r ≡ rulesShown (rulesAnswer (now (table .entry)) none (now (rules .entry)) (now («record» .entry)) allowance (length (now (answer .entry)))) ⌝ }
+    ensures buffer { λ _. ⌜ now (answer .exit) ≡ rulesBuffer (now (table .entry)) none (now (rules .entry)) (now («record» .entry)) allowance (now (answer .entry)) ⌝ }
+    ensures demand { λ _. ⌜ RulesDemanded (now (table .entry)) none (now (rules .entry)) (now («record» .entry)) (now (answer .entry)) allowance (rulesAnswer (now (table .entry)) none (now (rules .entry)) (now («record» .entry)) allowance (length (now (answer .entry)))) (now (answer .exit)) ⌝ }
 {
     let a = rules::match_rules(table, rules, record, allowance, answer);
-    shown(a.number(), a.index(), a.count())
+    rules_shown(a)
+}
+
+// A rule sheet against one record, up to class.
+#[no_mangle]
+pub extern "C" fn qonveshir_match_rules_with_classes(
+    table: &[u8],
+    classes: &[u8],
+    rules: &[u8],
+    record: &[u8],
+    allowance: u32,
+    answer: &mut [u16],
+) -> Outcome
+    ensures shown { λ r. ⌜ r ≡ rulesShown (rulesAnswer (now (table .entry)) (some (now (classes .entry))) (now (rules .entry)) (now («record» .entry)) allowance (length (now (answer .entry)))) ⌝ }
+    ensures buffer { λ _. ⌜ now (answer .exit) ≡ rulesBuffer (now (table .entry)) (some (now (classes .entry))) (now (rules .entry)) (now («record» .entry)) allowance (now (answer .entry)) ⌝ }
+    ensures demand { λ _. ⌜ RulesDemanded (now (table .entry)) (some (now (classes .entry))) (now (rules .entry)) (now («record» .entry)) (now (answer .entry)) allowance (rulesAnswer (now (table .entry)) (some (now (classes .entry))) (now (rules .entry)) (now («record» .entry)) allowance (length (now (answer .entry)))) (now (answer .exit)) ⌝ }
+{
+    rules_shown(rules::match_rules_with_classes(table, classes, rules, record, allowance, answer))
 }
 
 // Writes a sheet of joined records.

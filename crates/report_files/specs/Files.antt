@@ -3,13 +3,14 @@
 use Prim.Native.Nat.{ℕ, _+_}
 use mathlib.Core.List.{List}
 use lib.ListN.{take, drop}
+use Rattle.term.specs.Table.{largestTable}
 use Rattle.sheet.specs.Check.{longestSheet}
 use Rattle.report_lines.specs.declared.File.{File}
 use Rattle.report_lines.specs.declared.File.the-variants.{Table, Rules, States}
 
--- the bytes that a file may have: a table 200
+-- the bytes that a file may have
 abbrev pub longestOf : File → ℕ
-longestOf Table = 200
+longestOf Table = largestTable
 longestOf Rules = longestSheet
 longestOf States = longestSheet
 

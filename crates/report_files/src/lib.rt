@@ -10,9 +10,9 @@ ghost use Rattle.report_files.specs.Files.{roomOf, startOf, nameOf, byte
 ghost use Rattle.report_files.specs.Loading.{Holds, Loads, loadedReport, Reported};
 
 // One byte more than a table or a sheet may have, so that a longer file is refused by its own check.
-const TABLE_ROOM: usize = 201;
+const TABLE_ROOM: usize = term::LARGEST_TABLE + 1;
 
-const SHEET_ROOM: usize = 32769;
+const SHEET_ROOM: usize = sheet::LONGEST_SHEET + 1;
 
 // The room for all files.
 const FILES_ROOM: usize = TABLE_ROOM + SHEET_ROOM + SHEET_ROOM;

@@ -4,6 +4,7 @@ use native.Mathlib.Omega.{arith}
 use mathlib.Core.Path.{_≡_, refl, _∙_}
 use mathlib.Core.List.{List, [], _∷_}
 use mathlib.Core.Bool.{Bool, true, false}
+use mathlib.Core.Option.{none}
 use lib.ListN.{length, length-append}
 use lib.Seq.{sets}
 use lib.Dec.{ltb}
@@ -13,18 +14,20 @@ use Rattle.term.specs.Pattern.{Pattern}
 use Rattle.term.specs.Refusal.{numberOf}
 use Rattle.term.specs.Reading.{Answer as Reading, refused, read, readPattern, readRecord}
 use Rattle.term.specs.declared.Refusal.{Refusal}
+use Rattle.anti_pattern.specs.Language.{Language, language}
 use Rattle.anti_pattern.specs.Search.{Outcome, found, failed, whole}
 use Rattle.anti_pattern.specs.Answer.{Answer, bound, nothing, spent, countOf, shown, limit, answer}
 use Rattle.sheet.specs.Check.{lengthAt, followed, checkSheet}
 use Rattle.sheet.specs.Entry.{entries}
-use Rattle.sheet.specs.Contents.{checkRules}
+use Rattle.sheet.specs.Contents.{mostRules, checkRules}
 use Rattle.sheet.specs.declared.Checked.the-variants.{Accepted}
 use Rattle.sheet.proofs.Checks.{accepted-directed, follow-true, follow-within}
 use Rattle.sheet.proofs.Contents.{contents-passed}
 use Rattle.sheet.proofs.Entries.{entries-count}
 use Rattle.sheet.proofs.Stores.{sets-front}
-use Rattle.rules.specs.Trial.{Trial, boundAt, noneOf, spentAt, tryOne, tryFrom}
-use Rattle.rules.specs.Call.{withRule, rulesOf, checkedBy, checked, told, answerBy, answerOf}
+use Rattle.rules.proofs.Rules.{rules-few}
+use Rattle.rules.specs.Trial.{Trial, boundAt, noneOf, spentAt, tryOne, tryEach, tryRules}
+use Rattle.rules.specs.Call.{rulesOf, checkedBy, checked, told, answerBy, answerOf}
 use Rattle.report_lines.specs.Decimal.{decimal}
 use Rattle.report_lines.specs.Line.{header, boundWord, noneWord, spentWord, dash, answerLine, refusedWord, fileWord, refusalLine}
 use Rattle.report_lines.specs.Verdict.{verdict}
@@ -44,34 +47,30 @@ Counted (bound ps n) = n ≤ allowance
 Counted (nothing n) = n ≤ allowance
 Counted (spent n) = n ≤ allowance
 
-answer-counted : (table : List ℕ) (q : Pattern) (t : Term) → Counted (answer table q t allowance)
+answer-counted : (l : Language) (q : Pattern) (t : Term) → Counted (answer l q t allowance)
 unfolding answer
-answer-counted table q t = go (whole table q t .out) (countOf table q t) (ltb allowance (countOf table q t)) refl
+answer-counted l q t = go (whole l q t .out) (countOf l q t) (ltb allowance (countOf l q t)) refl
   where
-    go : (o : Outcome) (n : ℕ) (b : Bool) → ltb allowance n ≡ b → Counted (limit b allowance (shown table o n))
+    go : (o : Outcome) (n : ℕ) (b : Bool) → ltb allowance n ≡ b → Counted (limit b allowance (shown (l .table) o n))
     go o n true e = omega arith
     go (found x) n false e = ltb-false allowance n e
     go failed n false e = ltb-false allowance n e
 
 -- of the rules that a sheet holds at most: the index shown has 2 digits, the sum 7
 
-abbrev mostRules : ℕ
-mostRules = 64
-
 abbrev Small : Trial → Type 0
 Small (boundAt i ps n) = (i < mostRules) × (n ≤ mostRules * allowance)
 Small (noneOf n) = n ≤ mostRules * allowance
 Small (spentAt i n) = (i < mostRules) × (n ≤ mostRules * allowance)
 
-trial-small : (table : List ℕ) (t : Term) (i sum : ℕ) (qs : List Pattern) → i + length qs ≤ mostRules → sum ≤ i * allowance
-    → Small (tryFrom table t allowance i sum qs)
-unfolding tryFrom
-trial-small table t i sum [] h l = omega arith
-trial-small table t i sum (q ∷ qs) h l =
-    go (answer table q t allowance) (answer-counted table q t) (λ s m. trial-small table t (i + 1) s qs (omega arith) m)
+trial-small : {A : Type 0} (own : A → Answer) → ((q : A) → Counted (own q)) → (i sum : ℕ) (qs : List A) → i + length qs ≤ mostRules → sum ≤ i * allowance
+    → Small (tryEach own i sum qs)
+unfolding tryEach
+trial-small own counted i sum [] h l = omega arith
+trial-small own counted i sum (q ∷ qs) h l = go (own q) (counted q) (λ s m. trial-small own counted (i + 1) s qs (omega arith) m)
   where
-    go : (a : Answer) → Counted a → ((s : ℕ) → s ≤ (i + 1) * allowance → Small (tryFrom table t allowance (i + 1) s qs))
-        → Small (tryOne i sum a (λ s. tryFrom table t allowance (i + 1) s qs))
+    go : (a : Answer) → Counted a → ((s : ℕ) → s ≤ (i + 1) * allowance → Small (tryEach own (i + 1) s qs))
+        → Small (tryOne i sum a (λ s. tryEach own (i + 1) s qs))
     go (bound ps n) c rest = (omega arith, omega arith)
     go (nothing n) c rest = rest (sum + n) (omega arith)
     go (spent n) c rest = (omega arith, omega arith)
@@ -87,15 +86,6 @@ told-short k h (noneOf n) s =
 told-short k h (spentAt i n) s =
     omega (arith, line-length (decimal k) (decimal i) spentWord (decimal n), few-length 3 20 k h, few-length 1 20 i (omega arith), few-length 6 20 n (omega arith))
 
-rules-few : (table : List ℕ) (es : List (List ℕ)) → length (rulesOf table es) ≤ length es
-unfolding rulesOf
-rules-few table [] = omega arith
-rules-few table (e ∷ es) = go (readPattern table e) (rules-few table es)
-  where
-    go : (x : Reading Pattern) → length (rulesOf table es) ≤ length es → length (withRule x (rulesOf table es)) ≤ suc (length es)
-    go (refused r) rest = omega arith
-    go (read q n) rest = omega arith
-
 module _ (table rules : List ℕ) (m : ℕ) (p : checkRules table rules ≡ Accepted m) where
   rules-within : 0 + length (rulesOf table (entries rules)) ≤ mostRules
   rules-within =
@@ -104,11 +94,14 @@ module _ (table rules : List ℕ) (m : ℕ) (p : checkRules table rules ≡ Acce
 
   line-short : (k : ℕ) → k < 10000 → (e : List ℕ) → length (stateLine table rules k e) ≤ lineRoom
   unfolding stateLine answerOf checked answerLine
-  line-short k h e = rw p (go (readRecord table e))
+  line-short k h e = rw (contents-passed false table rules m p .tabled, p) (go (readRecord table e))
     where
-      go : (x : Reading Term) → length (answerLine k (answerBy (checkedBy (Accepted m) (rulesOf table (entries rules)) x) table allowance)) ≤ lineRoom
+      go : (x : Reading Term) → length (answerLine k (answerBy (checkedBy (Accepted m) (rulesOf table (entries rules)) x) table none allowance)) ≤ lineRoom
       go (refused r) = omega arith
-      go (read t n) = told-short k h (tryFrom table t allowance 0 0 (rulesOf table (entries rules))) (trial-small table t 0 0 (rulesOf table (entries rules)) rules-within (omega arith))
+      go (read t n) =
+          told-short k h (tryRules (language table []) (rulesOf table (entries rules)) t allowance)
+          (trial-small (λ q. answer (language table []) q t allowance) (λ q. answer-counted (language table []) q t) 0 0
+          (rulesOf table (entries rules)) rules-within (omega arith))
 
   lines-short : (k : ℕ) (es : List (List ℕ)) → k + length es ≤ 10000 → length (linesFrom table rules k es) ≤ lineRoom * length es
   unfolding linesFrom

@@ -3,22 +3,26 @@ use Prim.Native.Nat.{ℕ, zero, suc, _+_, _≤_, _<_}
 use native.Mathlib.Omega.{arith}
 use mathlib.Core.Path.{_≡_, refl, sym, ap, _∙_}
 use mathlib.Core.List.{List, [], _∷_}
-use mathlib.Core.Bool.{true}
+use mathlib.Core.Bool.{true, false}
+use mathlib.Core.Option.{none}
 use lib.ListN.{length, getD}
 use Rattle.term.specs.Term.{Term}
 use Rattle.term.specs.Limits.{Octets}
 use Rattle.term.specs.Reading.{Answer as Reading, refused, read, shown, readRecord}
+use Rattle.term.proofs.Classes.{none-alike}
+use Rattle.anti_pattern.specs.Language.{language}
 use Rattle.sheet.specs.Check.{checkSheet}
 use Rattle.sheet.specs.Entry.{entries, entryOf, partAt}
 use Rattle.sheet.specs.Contents.{readEntry, checkEach, checkRules}
 use Rattle.sheet.specs.declared.Checked.the-variants.{Accepted}
 use Rattle.sheet.proofs.Contents.{contents-passed}
 use Rattle.sheet.proofs.Entries.{part-is-entry, entry-of-entries, entries-count, entries-octets}
-use Rattle.rules.specs.Call.{Input, Checked as Inputs, trees, rulesOf, checked, told, answerOf, answerBy}
+use Rattle.matcher.specs.Call.{answerWidth}
+use Rattle.rules.specs.Call.{Input, Checked as Inputs, trees, rulesOf, checked, told, answerOf, answerBy, answerOnBytes}
 use Rattle.rules.specs.Trial.{tryRules}
-use Rattle.rules.specs.Demands.{Matched}
 use Rattle.rules.specs.declared.RuleAnswer.{RuleAnswer}
 use Rattle.rules.proofs.Checks.{checked-input}
+use Rattle.rules.proofs.Turns.{answer-answered}
 use Rattle.report_lines.specs.Verdict.{AllAccepted}
 use Rattle.report_lines.specs.Report.{allowance}
 use Rattle.report_lines.proofs.Verdicts.{lines-accepted}
@@ -40,9 +44,9 @@ each-read table (e ∷ es) i n k a h = go (readRecord table e) refl k h (each-re
 
 -- accepted rules and a record that is read are checked input
 checked-trees : (table rules bytes : List ℕ) (m : ℕ) → checkRules table rules ≡ Accepted m → (t : Term) (k : ℕ) → readRecord table bytes ≡ read t k
-    → checked table rules bytes 96 ≡ trees (rulesOf table (entries rules)) t
+    → checked table none rules bytes answerWidth ≡ trees (rulesOf table (entries rules)) t
 unfolding checked
-checked-trees table rules bytes m p t k e = rw (p, e)
+checked-trees table rules bytes m p t k e = rw (contents-passed false table rules m p .tabled, p, e)
 
 -- the record of a state, with the rules, is accepted input
 
@@ -53,7 +57,7 @@ module _ (table rules states : List ℕ) (n k : ℕ) (v : AllAccepted table rule
   pub record-entry : entryOf states k ≡ getD (entries states) k []
   record-entry = entry-of-entries states n (states-sheet table rules states n v) k h
 
-  state-checked : (t : Term) × (checked table rules (entryOf states k) 96 ≡ trees (rulesOf table (entries rules)) t)
+  state-checked : (t : Term) × (checked table none rules (entryOf states k) answerWidth ≡ trees (rulesOf table (entries rules)) t)
   state-checked =
       let both = lines-accepted true table true rules true states n v in
       let c = contents-passed true table states n (both .1) in
@@ -62,20 +66,22 @@ module _ (table rules states : List ℕ) (n k : ℕ) (v : AllAccepted table rule
 
   pub state-input : Octets rules → Octets states
       → (t : Term) × Input table rules (entryOf states k) (rulesOf table (entries rules)) t
-      × (answerOf table rules (entryOf states k) allowance 96 ≡ told (tryRules table (rulesOf table (entries rules)) t allowance))
+      × (answerOf table none rules (entryOf states k) allowance answerWidth ≡ told (tryRules (language table []) (rulesOf table (entries rules)) t allowance))
   unfolding answerOf
   state-input ro so =
       let c = state-checked in
       let octets : Octets (entryOf states k) = rw record-entry (entries-octets states so k) in (
         c .0,
-        checked-input table rules (entryOf states k) 96 ro octets (rulesOf table (entries rules)) (c .0) (c .1) .1,
-        ap (λ (y : Inputs). answerBy y table allowance) (c .1),
+        checked-input table none rules (entryOf states k) answerWidth ro octets (rulesOf table (entries rules)) (c .0) (c .1) .2,
+        ap (λ (y : Inputs). answerBy y table none allowance) (c .1),
       )
 
   -- matching without the checks answers as with them
-  pub matched-answer : Octets rules → Octets states → (part before : List ℕ) → part ≡ partAt states k → 96 ≤ length before → (a : RuleAnswer) (after : List ℕ)
-      → Matched table rules part before allowance a after → a ≡ answerOf table rules (entryOf states k) allowance 96
-  matched-answer ro so part before is-part wide a after matched =
+  pub matched-answer : Octets rules → Octets states → (part : List ℕ) (width : ℕ) → part ≡ partAt states k → answerWidth ≤ width → (a : RuleAnswer)
+      → a ≡ answerOnBytes table [] rules part allowance width → a ≡ answerOf table none rules (entryOf states k) allowance answerWidth
+  matched-answer ro so part width is-part wide a matched =
       let x = state-input ro so in
-      let there : Matched table rules (entryOf states k) before allowance a after = rw (← part-is-entry states n k (states-sheet table rules states n v) h, ← is-part) matched in
-      there .answered wide (rulesOf table (entries rules)) (x .0) (x .1) .0 ∙ sym (x .2)
+      let e = is-part ∙ part-is-entry states n k (states-sheet table rules states n v) h in
+      matched ∙ ap (λ (p : List ℕ). answerOnBytes table [] rules p allowance width) e
+      ∙ answer-answered table [] rules (entryOf states k) allowance width wide (none-alike table) (rulesOf table (entries rules)) (x .0) (x .1)
+      ∙ sym (x .2)

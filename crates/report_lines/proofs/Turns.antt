@@ -4,6 +4,7 @@ use native.Mathlib.Numerals.{add-one}
 use native.Mathlib.Omega.{arith}
 use mathlib.Core.Path.{_≡_, refl, sym, ap, _∙_}
 use mathlib.Core.List.{List, [], _∷_, _++_}
+use mathlib.Core.Option.{none}
 use mathlib.Core.Bool.{true}
 use lib.ListN.{length, drop, length-append, drop-of-length-le}
 use lib.Seq.{sets, length-sets, drop-cons}
@@ -12,6 +13,7 @@ use Rattle.sheet.specs.Entry.{entries, entryOf}
 use Rattle.sheet.proofs.Checks.{accepted-directed}
 use Rattle.sheet.proofs.Entries.{entries-count}
 use Rattle.sheet.proofs.Stores.{sets-append}
+use Rattle.matcher.specs.Call.{answerWidth}
 use Rattle.rules.specs.Call.{answerOf}
 use Rattle.rules.specs.declared.RuleAnswer.{RuleAnswer}
 use Rattle.report_lines.specs.Line.{header, answerLine}
@@ -68,7 +70,7 @@ module _ (table rules states : List ℕ) (n : ℕ) (v : AllAccepted table rules 
     unfolding lines
     whole-length = simp length-append (omega arith)
 
-    module _ (a : RuleAnswer) (h : state < n) (answers : a ≡ answerOf table rules (entryOf states state) allowance 96) where
+    module _ (a : RuleAnswer) (h : state < n) (answers : a ≡ answerOf table none rules (entryOf states state) allowance answerWidth) where
       answer-next : linesLeft table rules states state ≡ answerLine state a ++ linesLeft table rules states (state + 1)
       unfolding stateLine
       answer-next = next-line state h ∙ ap (λ (b : RuleAnswer). answerLine state b ++ linesLeft table rules states (state + 1)) (sym answers)

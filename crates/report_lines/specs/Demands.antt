@@ -1,11 +1,12 @@
 -- What is demanded of the lines of accepted files. The theorem is in proofs/Demands.
 use Prim.Native.Nat.{ℕ, _+_, _<_}
 use mathlib.Core.Path.{_≡_}
-use mathlib.Core.List.{List, _++_}
+use mathlib.Core.List.{List, [], _++_}
 use mathlib.Core.Bool.{true}
 use lib.ListN.{take, drop}
 use Rattle.term.specs.Term.{Term}
 use Rattle.term.specs.Pattern.{Pattern}
+use Rattle.anti_pattern.specs.Language.{language}
 use Rattle.sheet.specs.Entry.{entries, entryOf}
 use Rattle.rules.specs.Trial.{tryRules}
 use Rattle.rules.specs.Call.{Input, told}
@@ -24,7 +25,7 @@ pub record StateShown (table rules states : List ℕ) (k : ℕ) : Type 0 where
   pub placed : report true table true rules true states ≡ withLine table rules states k (stateLine table rules k (entryOf states k))
   -- it shows what trying the rules on the record's term gives
   pub shown : (qs : List Pattern) × (t : Term) × Input table rules (entryOf states k) qs t
-      × (stateLine table rules k (entryOf states k) ≡ answerLine k (told (tryRules table qs t allowance)))
+      × (stateLine table rules k (entryOf states k) ≡ answerLine k (told (tryRules (language table []) qs t allowance)))
   -- it depends on its index, the table, the rules and that record only: the report on other accepted states with this record there has
   -- the same line there
   pub own : (others : List ℕ) (m : ℕ) → AllAccepted table rules others m → k < m → entryOf others k ≡ entryOf states k

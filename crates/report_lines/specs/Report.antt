@@ -2,8 +2,10 @@
 use Prim.Native.Nat.{ℕ, _+_, _*_}
 use mathlib.Core.List.{List, [], _∷_, _++_}
 use mathlib.Core.Bool.{Bool}
+use mathlib.Core.Option.{none}
 use lib.ListN.{length, drop}
 use Rattle.sheet.specs.Entry.{entries}
+use Rattle.matcher.specs.Call.{answerWidth}
 use Rattle.rules.specs.Call.{answerOf}
 use Rattle.report_lines.specs.Line.{header, answerLine, refusalLine}
 use Rattle.report_lines.specs.Verdict.{verdict}
@@ -13,9 +15,9 @@ use Rattle.report_lines.specs.declared.Verdict.the-variants.{Lines}
 abbrev pub allowance : ℕ
 allowance = 100000
 
--- the line of a state: its index, and what the rules answer on its record, with an answer buffer of 96 numbers
+-- the line of a state: its index, and what the rules answer on its record, without a class list and with a buffer of an answer's width
 unfoldable pub stateLine : List ℕ → List ℕ → ℕ → List ℕ → List ℕ
-stateLine table rules k «record» = answerLine k (answerOf table rules «record» allowance 96)
+stateLine table rules k «record» = answerLine k (answerOf table none rules «record» allowance answerWidth)
 
 -- the lines of these records, the first of which has index k
 unfoldable pub linesFrom : List ℕ → List ℕ → ℕ → List (List ℕ) → List ℕ

@@ -3,12 +3,14 @@ use rules::RuleAnswer;
 use sheet::Checked;
 use term::Refusal;
 ghost use mathlib.Core.Path.{_≡_};
+ghost use mathlib.Core.Option.{none};
 ghost use Prim.Native.Nat.{_+_, _≤_, _<_};
 ghost use lib.ListN.{length};
 ghost use lib.Seq.{sets};
 ghost use Rattle.sheet.specs.Check.{entryCount};
 ghost use Rattle.sheet.specs.Entry.{entryOf};
 ghost use Rattle.sheet.specs.Contents.{checkContents};
+ghost use Rattle.matcher.specs.Call.{answerWidth};
 ghost use Rattle.rules.specs.Call.{answerOf};
 ghost use Rattle.report_lines.specs.Line.{field, line, answerLine, refusalLine};
 ghost use Rattle.report_lines.specs.Verdict.{readable, verdict, AllAccepted};
@@ -141,11 +143,12 @@ fn put_answer(out: &mut [u8], at: usize, state: usize, answer: RuleAnswer) -> us
 fn match_state(table: &[u8], rules: &[u8], states: &[u8], state: usize) -> RuleAnswer
     requires { ⌜ AllAccepted (now table) (now rules) (now states) (entryCount (now states)) ⌝ }
     requires { ⌜ state < entryCount (now states) ⌝ }
-    ensures { λ r. ⌜ r ≡ answerOf (now (table .entry)) (now (rules .entry)) (entryOf (now (states .entry)) state) allowance 96 ⌝ }
+    ensures { λ r. ⌜ r ≡ answerOf (now (table .entry)) none (now (rules .entry)) (entryOf (now (states .entry)) state) allowance answerWidth ⌝ }
 {
-    let mut answer = [0u16; 96];
+    let mut answer = [0u16; matcher::ANSWER_WIDTH];
     rules::match_rules_checked(
         table,
+        &table[..0],
         rules,
         sheet::part_at(states, state),
         ALLOWANCE,

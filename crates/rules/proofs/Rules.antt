@@ -1,5 +1,5 @@
 -- The rules of accepted input, and the sheet's entries that are their bytes.
-use Prim.Native.Nat.{ℕ, zero, suc, _+_, _<_}
+use Prim.Native.Nat.{ℕ, zero, suc, _+_, _≤_, _<_}
 use native.Mathlib.Omega.{arith}
 use mathlib.Core.Path.{_≡_, refl, sym, _∙_, ap}
 use mathlib.Core.List.{List, [], _∷_}
@@ -8,6 +8,7 @@ use Rattle.term.specs.Tree.{own, encode}
 use Rattle.term.specs.Term.{Term}
 use Rattle.term.specs.Pattern.{Pattern, name, symbol, complement, patternBytes}
 use Rattle.term.specs.Limits.{Octets, PatternAccepted}
+use Rattle.term.specs.Reading.{Answer as Reading, refused, read, readPattern}
 use Rattle.sheet.specs.Sheet.{NoneEmpty}
 use Rattle.sheet.specs.Check.{entryCount}
 use Rattle.sheet.specs.Entry.{entryAt, entries, partAt}
@@ -15,7 +16,7 @@ use Rattle.sheet.proofs.Checks.{Directed}
 use Rattle.sheet.proofs.Entries.{part-entry, entry-octets, entries-at}
 use Rattle.sheet.proofs.Readings.{written-read, written-directed}
 use Rattle.matcher.specs.Call.{Input as PatternInput}
-use Rattle.rules.specs.Call.{AllAccepted, rulesBytes, Input}
+use Rattle.rules.specs.Call.{AllAccepted, rulesBytes, Input, withRule, rulesOf}
 
 -- the rule of an index
 
@@ -74,3 +75,13 @@ module _ (table sheet bytes : List ℕ) (qs : List Pattern) (t : Term) (i : Inpu
 
   pub part-octets : Octets sheet → (k : ℕ) → k < length qs → Octets (partAt sheet k)
   part-octets o k h = rw (part-entry sheet (length qs) k input-directed h) (entry-octets sheet o k)
+
+-- no more rules than entries
+pub rules-few : (table : List ℕ) (es : List (List ℕ)) → length (rulesOf table es) ≤ length es
+unfolding rulesOf
+rules-few table [] = omega arith
+rules-few table (e ∷ es) = go (readPattern table e) (rules-few table es)
+  where
+    go : (x : Reading Pattern) → length (rulesOf table es) ≤ length es → length (withRule x (rulesOf table es)) ≤ suc (length es)
+    go (refused r) rest = omega arith
+    go (read q n) rest = omega arith

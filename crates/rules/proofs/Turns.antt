@@ -1,60 +1,134 @@
--- A turn of the loop tries one rule more.
-use Prim.Native.Nat.{ℕ, _+_, _*_, _<_, _≤_}
+-- A turn of the loop tries one part of the sheet more; on accepted input the parts are the rules.
+use Prim.Native.Nat.{ℕ, zero, suc, _+_, _*_, _<_, _≤_}
 use native.Mathlib.Omega.{arith}
 use native.Mathlib.Numerals.{add-one}
-use mathlib.Core.Path.{_≡_, refl, sym, _∙_, ap, subst}
-use mathlib.Core.List.{List, _∷_}
-use lib.ListN.{length, drop, drop-of-length-le}
+use mathlib.Core.Path.{_≡_, refl, sym, _∙_, ap, ap₂}
+use mathlib.Core.List.{List, [], _∷_}
+use lib.ListN.{length, getD, drop, drop-of-length-le}
 use lib.Seq.{drop-cons}
+use borrow.Author.Tests.{lt-ltb, le-ltb}
+use Rattle.term.specs.Class.{Alike}
 use Rattle.term.specs.Term.{Term}
 use Rattle.term.specs.Pattern.{Pattern, name}
 use Rattle.term.specs.declared.Refusal.the-variants.{Narrow}
 use Rattle.anti_pattern.specs.Answer.{Answer as Outcome, bound, nothing, spent, answer}
+use Rattle.anti_pattern.specs.Language.{language}
 use Rattle.sheet.specs.Check.{entryCount}
 use Rattle.sheet.specs.Entry.{partAt}
-use Rattle.matcher.specs.Call.{answerNumber, told as ownTold, written as ownWritten}
-use Rattle.matcher.specs.Demands.{Matched as OwnMatched}
+use Rattle.matcher.specs.Call.{answerWidth, told as ownTold, written as ownWritten, outcomeOnBytes, answerOnBytes as ownAnswer, bufferOnBytes as ownBuffer}
 use Rattle.matcher.specs.declared.Answer.{Answer}
-use Rattle.rules.specs.Answer.{ruleNumber}
-use Rattle.rules.specs.Trial.{Trial, noneOf, tryOne, tryFrom, tryRules}
-use Rattle.rules.specs.Call.{Input, told, written}
-use Rattle.rules.specs.Demands.{Matched}
+use Rattle.matcher.proofs.Linked.{linked}
+use Rattle.rules.specs.Trial.{Trial, noneOf, tryOne, tryEach, tryRules}
+use Rattle.rules.specs.Call.{Input, told, written, partsFrom, tryParts, answerOnBytes, bufferOnBytes}
 use Rattle.rules.specs.declared.RuleAnswer.{RuleAnswer}
 use Rattle.rules.specs.declared.RuleAnswer.the-variants.{Bound, None, Spent, Refused}
 use Rattle.rules.proofs.Rules.{ruleAt, input-directed, rule-input}
 
-pub narrow-matched : (table sheet bytes before : List ℕ) (allowance : ℕ) → length before < 96 → Matched table sheet bytes before allowance (Refused Narrow 0) before
-narrow-matched table sheet bytes before allowance h = record {
-  narrow = λ k. (refl, refl);
-  answered = λ wide qs t i. absurd (omega arith);
-  past-stays = refl;
-  rest-untouched = λ k. refl;
-}
+-- the parts of a sheet
 
--- After k turns over so many rules: the trial of all rules is that of the rules from index k on, with the sum of the counts so far; the
--- buffer is as it was.
-pub record Turn (table sheet bytes : List ℕ) (allowance : ℕ) (before : List ℕ) (rules : ℕ) (buffer : List ℕ) (sum k : ℕ) : Type 0 where
-  pub wide : 96 ≤ length before
-  pub counted : rules ≡ entryCount sheet
-  pub few : rules ≤ 65535
-  pub reached : k ≤ rules
-  pub fits : sum ≤ k * 4294967295
-  pub untouched : buffer ≡ before
-  pub trying : (qs : List Pattern) (t : Term) → Input table sheet bytes qs t → tryRules table qs t allowance ≡ tryFrom table t allowance k sum (drop k qs)
+parts-length : (sheet : List ℕ) (k i : ℕ) → length (partsFrom sheet k i) ≡ k
+unfolding partsFrom
+parts-length sheet zero i = refl
+parts-length sheet (suc k) i = ap suc (parts-length sheet k (i + 1))
 
-pub turn-starts : (table sheet bytes : List ℕ) (allowance : ℕ) (before : List ℕ) (rules : ℕ) → 96 ≤ length before
-    → rules ≡ entryCount sheet → rules ≤ 65535 → Turn table sheet bytes allowance before rules before 0 0
-turn-starts table sheet bytes allowance before rules wide counted few = record {
-  wide = wide;
-  counted = counted;
-  few = few;
-  reached = omega arith;
-  fits = omega arith;
-  untouched = refl;
-  trying = λ qs t i. refl;
-}
+parts-at : (sheet : List ℕ) (k i j : ℕ) → j < k → getD (partsFrom sheet k i) j [] ≡ partAt sheet (i + j)
+unfolding partsFrom
+parts-at sheet zero i j h = absurd (omega arith)
+parts-at sheet (suc k) i zero h = ap (partAt sheet) (omega arith)
+parts-at sheet (suc k) i (suc j) h = parts-at sheet k (i + 1) j (omega arith) ∙ ap (partAt sheet) (omega arith)
 
--- what the own answer of rule k comes to
+-- lists whose elements answer alike are tried alike
+same-trial : {A B : Type 0} (f : A → Outcome) (g : B → Outcome) (d : A) (e : B) (xs : List A) (ys : List B) (i sum : ℕ) → length xs ≡ length ys
+    → ((k : ℕ) → k < length xs → f (getD xs k d) ≡ g (getD ys k e)) → tryEach f i sum xs ≡ tryEach g i sum ys
+unfolding tryEach
+same-trial f g d e [] [] i sum l h = refl
+same-trial f g d e [] (y ∷ ys) i sum l h = absurd (omega arith)
+same-trial f g d e (x ∷ xs) [] i sum l h = absurd (omega arith)
+same-trial f g d e (x ∷ xs) (y ∷ ys) i sum l h =
+    go (f x) (g y) (h 0 (omega arith)) (λ s. same-trial f g d e xs ys (i + 1) s (omega arith) (λ k b. h (suc k) (omega arith)))
+  where
+    go : (o p : Outcome) → o ≡ p → ((s : ℕ) → tryEach f (i + 1) s xs ≡ tryEach g (i + 1) s ys)
+        → tryOne i sum o (λ s. tryEach f (i + 1) s xs) ≡ tryOne i sum p (λ s. tryEach g (i + 1) s ys)
+    go (bound ps n) p z r = rw (← z)
+    go (nothing n) p z r = rw (← z) (r (sum + n))
+    go (spent n) p z r = rw (← z)
+
+module _ (table classes sheet bytes : List ℕ) (allowance : ℕ) where
+  -- what a part answers as a rule, and all parts
+  abbrev own : List ℕ → Outcome
+  own part = outcomeOnBytes table classes part bytes allowance
+
+  abbrev parts : List (List ℕ)
+  parts = partsFrom sheet (entryCount sheet) 0
+
+  abbrev trial : Trial
+  trial = tryParts table classes sheet bytes allowance
+
+  -- on accepted input trying the parts is trying the rules
+  trial-accepted : Alike table classes → (qs : List Pattern) (t : Term) → Input table sheet bytes qs t
+      → trial ≡ tryRules (language table classes) qs t allowance
+  trial-accepted alike qs t i =
+      let d = input-directed table sheet bytes qs t i in
+      same-trial own (λ q. answer (language table classes) q t allowance) [] (name 0) parts qs 0 0
+      (parts-length sheet (entryCount sheet) 0 ∙ d .counted)
+      (λ k h.
+      let low : k < length qs = omega (arith, parts-length sheet (entryCount sheet) 0, d .counted) in
+      ap own (parts-at sheet (entryCount sheet) 0 k (omega (arith, d .counted)) ∙ ap (partAt sheet) (omega arith))
+      ∙ sym (linked table classes (partAt sheet k) bytes alike (ruleAt qs k) t (rule-input table sheet bytes qs t i k low) allowance))
+
+  pub answer-answered : (width : ℕ) → answerWidth ≤ width → Alike table classes → (qs : List Pattern) (t : Term) → Input table sheet bytes qs t
+      → answerOnBytes table classes sheet bytes allowance width ≡ told (tryRules (language table classes) qs t allowance)
+  unfolding answerOnBytes
+  answer-answered width wide alike qs t i = rw (le-ltb width answerWidth wide) (ap told (trial-accepted alike qs t i))
+
+  module _ (before : List ℕ) where
+    -- answer and final buffer on any bytes
+    abbrev OnBytes : RuleAnswer → List ℕ → Type 0
+    OnBytes a after =
+        (a ≡ answerOnBytes table classes sheet bytes allowance (length before)) × (after ≡ bufferOnBytes table classes sheet bytes allowance before)
+
+    pub narrow-matched : length before < answerWidth → OnBytes (Refused Narrow 0) before
+    unfolding answerOnBytes bufferOnBytes
+    narrow-matched h = rw (lt-ltb (length before) answerWidth h) (refl, refl)
+
+    -- by what trying the parts comes to
+    tried : answerWidth ≤ length before → (x : Trial) → trial ≡ x → (a : RuleAnswer) (after : List ℕ) → a ≡ told x → after ≡ written x before → OnBytes a after
+    unfolding answerOnBytes bufferOnBytes
+    tried wide x z a after e f =
+        rw (le-ltb (length before) answerWidth wide) (e ∙ ap told (sym z), f ∙ ap (λ (y : Trial). written y before) (sym z))
+
+    pub bytes-answered : answerWidth ≤ length before → Alike table classes → (qs : List Pattern) (t : Term) → Input table sheet bytes qs t
+        → (answerOnBytes table classes sheet bytes allowance (length before) ≡ told (tryRules (language table classes) qs t allowance))
+        × (bufferOnBytes table classes sheet bytes allowance before ≡ written (tryRules (language table classes) qs t allowance) before)
+    unfolding bufferOnBytes
+    bytes-answered wide alike qs t i = (
+      answer-answered (length before) wide alike qs t i,
+      rw (le-ltb (length before) answerWidth wide) (ap (λ (y : Trial). written y before) (trial-accepted alike qs t i)),
+    )
+
+    -- After k turns over so many parts: the trial of all is that of the parts from index k on, with the sum of the counts so far; the buffer is
+    -- as it was.
+    pub record Turn (rules : ℕ) (buffer : List ℕ) (sum k : ℕ) : Type 0 where
+      pub wide : answerWidth ≤ length before
+      pub counted : rules ≡ entryCount sheet
+      pub few : rules ≤ 65535
+      pub reached : k ≤ rules
+      pub fits : sum ≤ k * 4294967295
+      pub untouched : buffer ≡ before
+      pub trying : trial ≡ tryEach own k sum (drop k parts)
+
+    pub turn-starts : (rules : ℕ) → answerWidth ≤ length before → rules ≡ entryCount sheet → rules ≤ 65535 → Turn rules before 0 0
+    turn-starts rules wide counted few = record {
+      wide = wide;
+      counted = counted;
+      few = few;
+      reached = omega arith;
+      fits = omega arith;
+      untouched = refl;
+      trying = refl;
+    }
+
+-- what the own answer of the part of index k comes to
 abbrev stopOf : ℕ → ℕ → Answer → RuleAnswer
 stopOf k sum (Answer.Bound n) = Bound k (sum + n)
 stopOf k sum (Answer.None n) = None (sum + n)
@@ -74,77 +148,71 @@ stop-told k sum (bound parts n) next before h = (refl, refl)
 stop-told k sum (nothing n) next before h = absurd h
 stop-told k sum (spent n) next before h = (refl, refl)
 
-none-told : (k sum : ℕ) (o : Outcome) (next : ℕ → Trial) (n : ℕ) → ownTold o ≡ Answer.None n → tryOne k sum o next ≡ next (sum + n)
-none-told k sum (bound parts m) next n e = let z : _≡_ {A = ℕ} 0 1 = cc in absurd (omega arith)
-none-told k sum (nothing m) next n e = let z : m ≡ n = cc in ap (λ (x : ℕ). next (sum + x)) z
-none-told k sum (spent m) next n e = let z : _≡_ {A = ℕ} 0 1 = cc in absurd (omega arith)
+none-told : (k sum : ℕ) (o : Outcome) (next : ℕ → Trial) (n : ℕ) (before : List ℕ) → ownTold o ≡ Answer.None n
+    → (tryOne k sum o next ≡ next (sum + n)) × (ownWritten o before ≡ before)
+none-told k sum (bound parts m) next n before e = let z : _≡_ {A = ℕ} 0 1 = cc in absurd (omega arith)
+none-told k sum (nothing m) next n before e = let z : m ≡ n = cc in (ap (λ (x : ℕ). next (sum + x)) z, refl)
+none-told k sum (spent m) next n before e = let z : _≡_ {A = ℕ} 0 1 = cc in absurd (omega arith)
 
-stop-number : (k sum : ℕ) (a : Answer) → ruleNumber (stopOf k sum a) ≡ answerNumber a
-stop-number k sum (Answer.Bound n) = refl
-stop-number k sum (Answer.None n) = refl
-stop-number k sum (Answer.Spent n) = refl
-stop-number k sum (Answer.Refused r) = refl
+module _ {table classes sheet bytes : List ℕ} {allowance : ℕ} {before : List ℕ} {rules : ℕ} {buffer : List ℕ} {sum k : ℕ}
+    (turn : Turn table classes sheet bytes allowance before rules buffer sum k) where
+  all-counted : length (parts table classes sheet bytes allowance) ≡ rules
+  all-counted = parts-length sheet (entryCount sheet) 0 ∙ sym (turn .counted)
 
-module _ {table sheet bytes : List ℕ} {allowance : ℕ} {before : List ℕ} {rules : ℕ} {buffer : List ℕ} {sum k : ℕ}
-    (turn : Turn table sheet bytes allowance before rules buffer sum k) where
-  rules-counted : (qs : List Pattern) (t : Term) → Input table sheet bytes qs t → rules ≡ length qs
-  rules-counted qs t i = let d = input-directed table sheet bytes qs t i in turn .counted ∙ d .counted
+  -- one count more is within 64 bits
+  pub turn-room : sum + 4294967295 < 18446744073709551616
+  turn-room = omega (arith, turn .fits, turn .reached, turn .few)
 
-  -- past the last rule
-  pub turn-ends : rules ≤ k → Matched table sheet bytes before allowance (None sum) buffer
-  unfolding tryFrom
-  turn-ends h = record {
-    narrow = λ l. absurd (omega (arith, turn .wide));
-    answered = λ w qs t i.
-        let z : tryRules table qs t allowance ≡ noneOf sum =
-        turn .trying qs t i ∙ ap (tryFrom table t allowance k sum) (drop-of-length-le qs {i = k} (omega (arith, rules-counted qs t i))) in
-        (ap told (sym z), turn .untouched ∙ ap (λ (x : Trial). written x before) (sym z));
-    past-stays = ap (drop 96) (turn .untouched);
-    rest-untouched = λ l. turn .untouched;
-  }
+  -- past the last
+  pub turn-ends : rules ≤ k → OnBytes table classes sheet bytes allowance before (None sum) buffer
+  unfolding tryEach
+  turn-ends h =
+      tried table classes sheet bytes allowance before (turn .wide) (noneOf sum)
+      (turn .trying ∙ ap (tryEach (own table classes sheet bytes allowance) k sum)
+      (drop-of-length-le (parts table classes sheet bytes allowance) {i = k} (omega (arith, all-counted))))
+      (None sum) buffer refl (turn .untouched)
 
-  module _ (part : List ℕ) (is-part : part ≡ partAt sheet k) (a : Answer) (after : List ℕ) (called : OwnMatched table part bytes buffer allowance a after)
+  module _ (part : List ℕ) (is-part : part ≡ partAt sheet k) (a : Answer) (after : List ℕ)
+      (called : (a ≡ ownAnswer table classes part bytes allowance (length buffer)) × (after ≡ ownBuffer table classes part bytes allowance buffer))
       (below : k < rules) where
-    own : OwnMatched table (partAt sheet k) bytes before allowance a after
-    own = rw (← is-part, ← turn .untouched) called
+    -- the own answer of the part, and the parts past it
+    abbrev outcome : Outcome
+    outcome = own table classes sheet bytes allowance (partAt sheet k)
 
-    -- the rules past index k
-    abbrev later : List Pattern → Term → ℕ → Trial
-    later qs t s = tryFrom table t allowance (k + 1) s (drop (k + 1) qs)
+    abbrev later : ℕ → Trial
+    later s = tryEach (own table classes sheet bytes allowance) (k + 1) s (drop (k + 1) (parts table classes sheet bytes allowance))
 
-    next-rule : (qs : List Pattern) (t : Term) → Input table sheet bytes qs t
-        → (tryRules table qs t allowance ≡ tryOne k sum (answer table (ruleAt qs k) t allowance) (later qs t))
-        × ((a ≡ ownTold (answer table (ruleAt qs k) t allowance)) × (after ≡ ownWritten (answer table (ruleAt qs k) t allowance) before))
-    unfolding tryFrom
-    next-rule qs t i =
-        let h : k < length qs = omega (arith, rules-counted qs t i) in
-        let d : drop k qs ≡ ruleAt qs k ∷ drop (k + 1) qs = rw add-one (drop-cons qs k (name 0) h) in (
-          turn .trying qs t i ∙ ap (tryFrom table t allowance k sum) d,
-          own .answered (turn .wide) (ruleAt qs k) t (rule-input table sheet bytes qs t i k h),
-        )
+    answers : (a ≡ ownTold outcome) × (after ≡ ownWritten outcome before)
+    unfolding ownAnswer ownBuffer
+    answers =
+        let c = rw (is-part, turn .untouched, le-ltb (length before) answerWidth (turn .wide)) at called in
+        c
 
-    -- a rule that is none
-    pub turn-next : (n : ℕ) → n ≤ 4294967295 → a ≡ Answer.None n → Turn table sheet bytes allowance before rules after (sum + n) (k + 1)
-    turn-next n small e = record {
-      wide = turn .wide;
-      counted = turn .counted;
-      few = turn .few;
-      reached = omega arith;
-      fits = omega (arith, turn .fits);
-      untouched = own .kept .untouched (λ z. let y : 10 ≡ 0 = sym (ap answerNumber e) ∙ z in omega arith);
-      trying = λ qs t i. let r = next-rule qs t i in
-          r .0 ∙ none-told k sum (answer table (ruleAt qs k) t allowance) (later qs t) n (sym (r .1 .0) ∙ e);
-    }
+    next-part : trial table classes sheet bytes allowance ≡ tryOne k sum outcome later
+    unfolding tryEach
+    next-part =
+        let ps = parts table classes sheet bytes allowance in
+        let at : getD ps k [] ≡ partAt sheet k = parts-at sheet (entryCount sheet) 0 k (omega (arith, turn .counted)) ∙ ap (partAt sheet) (omega arith) in
+        let d : drop k ps ≡ partAt sheet k ∷ drop (k + 1) ps = rw (← at, add-one) (drop-cons ps k [] (omega (arith, all-counted))) in
+        turn .trying ∙ ap (tryEach (own table classes sheet bytes allowance) k sum) d
 
-    -- the first rule that is not
-    pub turn-stops : (b : Answer) → a ≡ b → Stops b → Matched table sheet bytes before allowance (stopOf k sum b) after
-    turn-stops b e stops = record {
-      narrow = λ l. absurd (omega (arith, turn .wide));
-      answered = λ w qs t i.
-          let r = next-rule qs t i in
-          let z = sym e ∙ r .1 .0 in
-          let s = stop-told k sum (answer table (ruleAt qs k) t allowance) (later qs t) before (subst Stops z stops) in
-          (ap (stopOf k sum) z ∙ s .0 ∙ ap told (sym (r .0)), r .1 .1 ∙ s .1 ∙ ap (λ (x : Trial). written x before) (sym (r .0)));
-      past-stays = own .kept .past;
-      rest-untouched = λ l. own .kept .untouched (λ z. l (stop-number k sum b ∙ ap answerNumber (sym e) ∙ z));
-    }
+    -- a part that is none
+    pub turn-next : (n : ℕ) → n ≤ 4294967295 → a ≡ Answer.None n → Turn table classes sheet bytes allowance before rules after (sum + n) (k + 1)
+    turn-next n small e =
+        let z = none-told k sum outcome later n before (sym (answers .0) ∙ e) in
+        record {
+          wide = turn .wide;
+          counted = turn .counted;
+          few = turn .few;
+          reached = omega arith;
+          fits = omega (arith, turn .fits);
+          untouched = answers .1 ∙ z .1;
+          trying = next-part ∙ z .0;
+        }
+
+    -- the first that is not
+    pub turn-stops : (b : Answer) → a ≡ b → Stops b → OnBytes table classes sheet bytes allowance before (stopOf k sum b) after
+    turn-stops b e stops =
+        let z = sym e ∙ answers .0 in
+        let s = stop-told k sum outcome later before (rw z at stops) in
+        tried table classes sheet bytes allowance before (turn .wide) _ next-part (stopOf k sum b) after (ap (stopOf k sum) z ∙ s .0) (answers .1 ∙ s .1)

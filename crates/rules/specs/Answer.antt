@@ -1,5 +1,6 @@
 -- The answer of a rule sheet, and what it shows: document 01's number, the rule's index and the sum of the counts.
 use Prim.Native.Nat.{ℕ}
+use mathlib.Core.Path.{_≡_}
 use Rattle.term.specs.Refusal.{numberOf}
 use Rattle.rules.specs.declared.RuleAnswer.{RuleAnswer}
 use Rattle.rules.specs.declared.RuleAnswer.the-variants.{Bound, None, Spent, Refused}
@@ -24,3 +25,7 @@ ruleCount (Bound index sum) = sum
 ruleCount (None sum) = sum
 ruleCount (Spent index sum) = sum
 ruleCount (Refused r index) = 0
+
+-- an answer shows this number, index and count
+abbrev pub ShownAs : RuleAnswer → ℕ → ℕ → ℕ → Type 0
+ShownAs a number index count = (ruleNumber a ≡ number) × (ruleIndex a ≡ index) × (ruleCount a ≡ count)

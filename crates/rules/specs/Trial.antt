@@ -1,10 +1,11 @@
--- A term tried against rules: "rule by rule, each with the whole allowance; it stops at the first that is bound or spent".
+-- Rules tried in order: "rule by rule, each with the whole allowance; it stops at the first that is bound or spent".
 use Prim.Native.Nat.{ℕ, _+_}
 use mathlib.Core.List.{List, [], _∷_}
 use Rattle.term.specs.Term.{Term}
 use Rattle.term.specs.Pattern.{Pattern}
 use Rattle.term.specs.declared.Part.{Part}
 use Rattle.anti_pattern.specs.Answer.{Answer, bound, nothing, spent, answer}
+use Rattle.anti_pattern.specs.Language.{Language}
 
 -- bound at the rule of an index, with the part of each variable; none; or spent at the rule of an index; each with "the sum of counts
 -- so far"
@@ -19,11 +20,11 @@ tryOne i sum (bound parts n) next = boundAt i parts (sum + n)
 tryOne i sum (nothing n) next = next (sum + n)
 tryOne i sum (spent n) next = spentAt i (sum + n)
 
--- the rules from index i on
-unfoldable pub tryFrom : List ℕ → Term → ℕ → ℕ → ℕ → List Pattern → Trial
-tryFrom table t allowance i sum [] = noneOf sum
-tryFrom table t allowance i sum (q ∷ qs) = tryOne i sum (answer table q t allowance) (λ s. tryFrom table t allowance (i + 1) s qs)
+-- rules from index i on, by what each answers
+unfoldable pub tryEach : {A : Type 0} → (A → Answer) → ℕ → ℕ → List A → Trial
+tryEach own i sum [] = noneOf sum
+tryEach own i sum (q ∷ qs) = tryOne i sum (own q) (λ s. tryEach own (i + 1) s qs)
 
--- all rules
-abbrev pub tryRules : List ℕ → List Pattern → Term → ℕ → Trial
-tryRules table qs t allowance = tryFrom table t allowance 0 0 qs
+-- all rules on a term
+abbrev pub tryRules : Language → List Pattern → Term → ℕ → Trial
+tryRules l qs t allowance = tryEach (λ q. answer l q t allowance) 0 0 qs

@@ -4,11 +4,12 @@ use sheet::Checked;
 use term::Read;
 use term::Refusal;
 ghost use mathlib.Core.Path.{_≡_};
+ghost use mathlib.Core.Option.{none, some};
 ghost use Prim.Native.Nat.{_+_, _*_, _≤_};
 ghost use lib.ListN.{length};
 ghost use Rattle.rules.specs.Answer.{ruleNumber, ruleIndex, ruleCount};
-ghost use Rattle.rules.specs.Call.{checked, checkOf, answerOf, bufferOf};
-ghost use Rattle.rules.specs.Demands.{Demanded, Matched};
+ghost use Rattle.rules.specs.Call.{checked, classFault, checkOf, answerOf, bufferOf, answerOnBytes, bufferOnBytes};
+ghost use Rattle.rules.specs.Demands.{Demanded};
 
 // Bound at a rule, none, or spent at a rule, with the sum of counts so far; or why the input is refused, with the index of the entry, 0
 // where no entry is meant.
@@ -57,11 +58,24 @@ impl RuleAnswer {
     }
 }
 
-// The checks in order, for a buffer of so many numbers: the number of rules, or the refusal.
-fn check_input(table: &[u8], sheet: &[u8], record: &[u8], width: usize) -> Checked
-    ensures { λ r. ⌜ r ≡ checkOf (checked (now (table .entry)) (now (sheet .entry)) (now («record» .entry)) width) ⌝ }
+// Whether a class list is at fault, where a buffer of so many numbers and the table are not.
+fn refuses_classes(table: &[u8], classes: &[u8], width: usize) -> bool
+    ensures { λ r. ⌜ r ≡ classFault (now (table .entry)) (now (classes .entry)) width ⌝ }
 {
-    if width < 96 {
+    if width < matcher::ANSWER_WIDTH {
+        return false;
+    }
+    if !term::check_table(table) {
+        return false;
+    }
+    !term::check_classes(table, classes)
+}
+
+// The checks in order, without a class list and for a buffer of so many numbers: the number of rules, or the refusal.
+fn check_input(table: &[u8], sheet: &[u8], record: &[u8], width: usize) -> Checked
+    ensures { λ r. ⌜ r ≡ checkOf (checked (now (table .entry)) none (now (sheet .entry)) (now («record» .entry)) width) ⌝ }
+{
+    if width < matcher::ANSWER_WIDTH {
         return Checked::Refused(Refusal::Narrow, 0);
     }
     let rules = sheet::check_rules(table, sheet);
@@ -75,17 +89,20 @@ fn check_input(table: &[u8], sheet: &[u8], record: &[u8], width: usize) -> Check
     rules
 }
 
-// A rule sheet and a record that passed their checks by this table. Only the buffer is checked here.
+// The match of bytes as they are: of a rule sheet and a record that passed their checks by this table, with a class list that did, or an empty
+// one, it is the match with every check. Only the buffer is checked here.
 pub fn match_rules_checked(
     table: &[u8],
+    classes: &[u8],
     sheet: &[u8],
     record: &[u8],
     allowance: u32,
     answer: &mut [u16],
 ) -> RuleAnswer
-    ensures { λ r. ⌜ Matched (now (table .entry)) (now (sheet .entry)) (now («record» .entry)) (now (answer .entry)) allowance r (now (answer .exit)) ⌝ }
+    ensures is { λ r. ⌜ r ≡ answerOnBytes (now (table .entry)) (now (classes .entry)) (now (sheet .entry)) (now («record» .entry)) allowance (length (now (answer .entry))) ⌝ }
+    ensures buffer { λ r. ⌜ now (answer .exit) ≡ bufferOnBytes (now (table .entry)) (now (classes .entry)) (now (sheet .entry)) (now («record» .entry)) allowance (now (answer .entry)) ⌝ }
 {
-    if answer.len() < 96 {
+    if answer.len() < matcher::ANSWER_WIDTH {
         return RuleAnswer::Refused(Refusal::Narrow, 0);
     }
     let rules = sheet::count(sheet) as usize;
@@ -94,14 +111,21 @@ pub fn match_rules_checked(
     while i < rules {
         let own = matcher::match_checked(
             table,
+            classes,
             sheet::part_at(sheet, i),
             record,
             allowance,
             answer,
         );
         match own {
-            Answer::Bound(n) => return RuleAnswer::Bound(i, sum + n as u64),
-            Answer::Spent(n) => return RuleAnswer::Spent(i, sum + n as u64),
+            Answer::Bound(n) => {
+                let total = sum + n as u64;
+                return RuleAnswer::Bound(i, total);
+            }
+            Answer::Spent(n) => {
+                let total = sum + n as u64;
+                return RuleAnswer::Spent(i, total);
+            }
             Answer::Refused(r) => return RuleAnswer::Refused(r, i),
             Answer::None(n) => {
                 sum = sum + n as u64;
@@ -120,13 +144,50 @@ pub fn match_rules(
     allowance: u32,
     answer: &mut [u16],
 ) -> RuleAnswer
-    ensures is { λ r. ⌜ r ≡ answerOf (now (table .entry)) (now (sheet .entry)) (now («record» .entry)) allowance (length (now (answer .entry))) ⌝ }
-    ensures buffer { λ r. ⌜ now (answer .exit) ≡ bufferOf (now (table .entry)) (now (sheet .entry)) (now («record» .entry)) allowance (now (answer .entry)) ⌝ }
-    ensures demand { λ r. ⌜ Demanded (now (table .entry)) (now (sheet .entry)) (now («record» .entry)) (now (answer .entry)) allowance r (now (answer .exit)) ⌝ }
+    ensures is { λ r. ⌜ r ≡ answerOf (now (table .entry)) none (now (sheet .entry)) (now («record» .entry)) allowance (length (now (answer .entry))) ⌝ }
+    ensures buffer { λ r. ⌜ now (answer .exit) ≡ bufferOf (now (table .entry)) none (now (sheet .entry)) (now («record» .entry)) allowance (now (answer .entry)) ⌝ }
+    ensures demand { λ r. ⌜ Demanded (now (table .entry)) none (now (sheet .entry)) (now («record» .entry)) (now (answer .entry)) allowance r (now (answer .exit)) ⌝ }
 {
     let checks = check_input(table, sheet, record, answer.len());
     match checks {
         Checked::Refused(r, i) => RuleAnswer::Refused(r, i),
-        Checked::Accepted(_) => match_rules_checked(table, sheet, record, allowance, answer),
+        Checked::Accepted(_) => match_rules_checked(
+            table,
+            &table[..0],
+            sheet,
+            record,
+            allowance,
+            answer,
+        ),
+    }
+}
+
+// The same up to class, by a class list.
+pub fn match_rules_with_classes(
+    table: &[u8],
+    classes: &[u8],
+    sheet: &[u8],
+    record: &[u8],
+    allowance: u32,
+    answer: &mut [u16],
+) -> RuleAnswer
+    ensures is { λ r. ⌜ r ≡ answerOf (now (table .entry)) (some (now (classes .entry))) (now (sheet .entry)) (now («record» .entry)) allowance (length (now (answer .entry))) ⌝ }
+    ensures buffer { λ r. ⌜ now (answer .exit) ≡ bufferOf (now (table .entry)) (some (now (classes .entry))) (now (sheet .entry)) (now («record» .entry)) allowance (now (answer .entry)) ⌝ }
+    ensures demand { λ r. ⌜ Demanded (now (table .entry)) (some (now (classes .entry))) (now (sheet .entry)) (now («record» .entry)) (now (answer .entry)) allowance r (now (answer .exit)) ⌝ }
+{
+    if refuses_classes(table, classes, answer.len()) {
+        return RuleAnswer::Refused(Refusal::Class, 0);
+    }
+    let checks = check_input(table, sheet, record, answer.len());
+    match checks {
+        Checked::Refused(r, i) => RuleAnswer::Refused(r, i),
+        Checked::Accepted(_) => match_rules_checked(
+            table,
+            classes,
+            sheet,
+            record,
+            allowance,
+            answer,
+        ),
     }
 }

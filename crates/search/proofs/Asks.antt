@@ -12,13 +12,14 @@ use borrow.Author.Tests.{leb-true, leb-false, eqb-false, ltb-true}
 use Rattle.term.proofs.Answers.{cond-all}
 use Rattle.term.proofs.Codes.{decode-below}
 use Rattle.term.proofs.Extents.{extent-some}
-use Rattle.term.specs.Code.{decodeOf, VariableBelow}
+use Rattle.term.specs.Same.{sameByte}
+use Rattle.term.specs.Code.{variables, decodeOf, VariableBelow}
 use Rattle.term.specs.Extent.{entryOf, spanOf, extentOf}
 use Rattle.term.specs.Part.{isAbsent}
 use Rattle.term.specs.declared.Code.the-variants.{Symbol, Name, Run, Complement}
 use Rattle.term.specs.declared.Code.{Code}
 use Rattle.term.specs.declared.Part.{Part}
-use Rattle.search.specs.Bounds.{Ready}
+use Rattle.search.specs.Inner.Bounds.{Ready}
 use Rattle.search.specs.State.{standsOf, overStep, symbolStep, assignedStep, nameStep, runStep, complementStep, pairStep, plainStep, codeStep, stepOf, variableOf, variableAt}
 use Rattle.search.specs.declared.Place.{Place}
 use Rattle.search.specs.declared.Step.the-variants.{Stops, Fails, Closes, Opens, Passes, Binds, PutsBy}
@@ -36,7 +37,7 @@ pub record Takes (codes bytes : ℕ) (p : Place) (left k n size : ℕ) : Type 0 
 
 -- the variable of this place, which is not assigned
 pub record Free (pattern : List ℕ) (had : Part) (at v : ℕ) : Type 0 where
-  pub below : v < 48
+  pub below : v < variables
   pub here : v ≡ variableAt pattern at
   pub absent : isAbsent had ≡ true
 
@@ -74,29 +75,29 @@ both true b e = (refl, e)
 both false true e = (e, refl)
 both false false e = (e, e)
 
-stands-length : (bytes : List ℕ) (had : Part) (r : List ℕ) → standsOf bytes had r ≡ true → had .length ≤ length r
+stands-length : (table classes bytes : List ℕ) (had : Part) (r : List ℕ) → standsOf table classes bytes had r ≡ true → had .length ≤ length r
 unfolding standsOf
-stands-length bytes had r h = leb-true (had .length) (length r) (both _ _ h .0)
+stands-length table classes bytes had r h = leb-true (had .length) (length r) (both _ _ h .0)
 
 neither : (a b : Bool) → a || b ≡ false → (a ≡ false) × (b ≡ false)
 neither true true e = (e, e)
 neither true false e = (e, refl)
 neither false b e = (refl, e)
 
-pub variable-below : (pattern : List ℕ) (at : ℕ) → variableAt pattern at < 48
+pub variable-below : (pattern : List ℕ) (at : ℕ) → variableAt pattern at < variables
 unfolding variableAt VariableBelow
 variable-below pattern at =
-    cond-all (λ (v : ℕ). v < 48) (ltb at (length pattern)) (λ e. by (decodeOf (getD pattern at 0)) (decode-below (getD pattern at 0)))
+    cond-all (λ (v : ℕ). v < variables) (ltb at (length pattern)) (λ e. by (decodeOf (getD pattern at 0)) (decode-below (getD pattern at 0)))
     (λ e. omega arith)
   where
-    by : (c : Code) → VariableBelow c → variableOf c < 48
+    by : (c : Code) → VariableBelow c → variableOf c < variables
     by (Symbol b) h = omega arith
     by (Name v) h = h
     by (Run v) h = h
     by Complement h = omega arith
     by Code.Refused h = omega arith
 
-module _ (outermost : Bool) (table pattern bytes : List ℕ) (had : Part) (p : Place) (left : ℕ) (node : p .node ≤ length bytes) where
+module _ (outermost : Bool) (table classes pattern bytes : List ℕ) (had : Part) (p : Place) (left : ℕ) (node : p .node ≤ length bytes) where
   asks-over : Asks outermost pattern bytes had p left (overStep outermost (p .elements))
   unfolding overStep
   asks-over =
@@ -104,13 +105,13 @@ module _ (outermost : Bool) (table pattern bytes : List ℕ) (had : Part) (p : P
       (λ e. cond-all (Asks outermost pattern bytes had p left) outermost (λ o. tt) (λ o. o)) (λ e. tt)
 
   module _ (children : 0 < p .children) (at : p .at < length pattern) where
-    asks-assigned : 0 < left → Asks outermost pattern bytes had p left (assignedStep bytes had (drop (p .node) bytes) (p .elements))
+    asks-assigned : 0 < left → Asks outermost pattern bytes had p left (assignedStep table classes bytes had (drop (p .node) bytes) (p .elements))
     unfolding assignedStep
     asks-assigned l =
-        cond-all (Asks outermost pattern bytes had p left) (leb (had .elements) (p .elements) && standsOf bytes had (drop (p .node) bytes))
+        cond-all (Asks outermost pattern bytes had p left) (leb (had .elements) (p .elements) && standsOf table classes bytes had (drop (p .node) bytes))
         (λ e. takes (both _ _ e)) (λ e. l)
       where
-        takes : (leb (had .elements) (p .elements) ≡ true) × (standsOf bytes had (drop (p .node) bytes) ≡ true)
+        takes : (leb (had .elements) (p .elements) ≡ true) × (standsOf table classes bytes had (drop (p .node) bytes) ≡ true)
             → Takes (length pattern) (length bytes) p left (had .elements) 1 (had .length)
         takes e = record {
           allowed = l;
@@ -118,11 +119,11 @@ module _ (outermost : Bool) (table pattern bytes : List ℕ) (had : Part) (p : P
           elements = leb-true (had .elements) (p .elements) (e .0);
           some = omega arith;
           at = omega arith;
-          node = omega (arith, stands-length bytes had (drop (p .node) bytes) (e .1), length-drop (p .node) bytes);
+          node = omega (arith, stands-length table classes bytes had (drop (p .node) bytes) (e .1), length-drop (p .node) bytes);
         }
 
-    asks-run : (v : ℕ) → v < 48 → v ≡ variableAt pattern (p .at)
-        → Asks outermost pattern bytes had p left (runStep bytes v had (drop (p .node) bytes) (p .elements) left)
+    asks-run : (v : ℕ) → v < variables → v ≡ variableAt pattern (p .at)
+        → Asks outermost pattern bytes had p left (runStep table classes bytes v had (drop (p .node) bytes) (p .elements) left)
     unfolding runStep
     asks-run v low here =
         cond-all (Asks outermost pattern bytes had p left) (isAbsent had)
@@ -131,10 +132,10 @@ module _ (outermost : Bool) (table pattern bytes : List ℕ) (had : Part) (p : P
 
     -- a plain child pattern against an element
     module _ (elements : 0 < p .elements) (inside : p .node < length bytes) (l : 0 < left) where
-      asks-symbol : (b : ℕ) → Asks outermost pattern bytes had p left (symbolStep table (drop (p .at) pattern) (drop (p .node) bytes) b)
+      asks-symbol : (b : ℕ) → Asks outermost pattern bytes had p left (symbolStep table classes (drop (p .at) pattern) (drop (p .node) bytes) b)
       unfolding symbolStep
       asks-symbol b =
-          cond-all (Asks outermost pattern bytes had p left) (eqb b (getD (drop (p .node) bytes) 0 0))
+          cond-all (Asks outermost pattern bytes had p left) (sameByte classes false b (getD (drop (p .node) bytes) 0 0))
           (λ e. cond-all (Asks outermost pattern bytes had p left) (eqb (entryOf table b) 0) (λ z. one)
           (λ z. cond-all (Asks outermost pattern bytes had p left) (eqb (entryOf table b) 255)
           (λ y. cond-all (Asks outermost pattern bytes had p left) _ (λ f. two (both _ _ f)) (λ f. l)) (λ y. one)))
@@ -176,7 +177,7 @@ module _ (outermost : Bool) (table pattern bytes : List ℕ) (had : Part) (p : P
 
       asks-pair : (c : Code) → VariableBelow c → variableOf c ≡ variableAt pattern (p .at)
           → Asks outermost pattern bytes had p left
-          (pairStep (outermost && eqb (p .children) 1) c table bytes (drop (p .at) pattern) (drop (p .node) bytes) had (p .elements))
+          (pairStep (outermost && eqb (p .children) 1) c table classes bytes (drop (p .at) pattern) (drop (p .node) bytes) had (p .elements))
       unfolding pairStep nameStep VariableBelow
       asks-pair (Symbol b) low here = asks-symbol b
       asks-pair (Name v) low here =
@@ -198,7 +199,7 @@ module _ (outermost : Bool) (table pattern bytes : List ℕ) (had : Part) (p : P
       asks-pair Code.Refused low here = l
 
     asks-plain : (c : Code) → VariableBelow c → variableOf c ≡ variableAt pattern (p .at)
-        → Asks outermost pattern bytes had p left (plainStep outermost c table pattern bytes had p left)
+        → Asks outermost pattern bytes had p left (plainStep outermost c table classes pattern bytes had p left)
     unfolding plainStep
     asks-plain c low here =
         cond-all (Asks outermost pattern bytes had p left) _ (λ e. tt)
@@ -209,7 +210,7 @@ module _ (outermost : Bool) (table pattern bytes : List ℕ) (had : Part) (p : P
         (pos-of-ne-zero (eqb-false left 0 z)) c low here))
 
     asks-code : (c : Code) → VariableBelow c → variableOf c ≡ variableAt pattern (p .at)
-        → Asks outermost pattern bytes had p left (codeStep outermost c table pattern bytes had p left)
+        → Asks outermost pattern bytes had p left (codeStep outermost c table classes pattern bytes had p left)
     unfolding codeStep VariableBelow
     asks-code (Symbol b) low here = asks-plain (Symbol b) low here
     asks-code (Name v) low here = asks-plain (Name v) low here
@@ -217,7 +218,7 @@ module _ (outermost : Bool) (table pattern bytes : List ℕ) (had : Part) (p : P
     asks-code Complement low here = asks-plain Complement low here
     asks-code Code.Refused low here = tt
 
-  pub step-asks : Asks outermost pattern bytes had p left (stepOf outermost table pattern bytes had p left)
+  pub step-asks : Asks outermost pattern bytes had p left (stepOf outermost table classes pattern bytes had p left)
   unfolding stepOf variableAt
   step-asks =
       cond-all (Asks outermost pattern bytes had p left) (eqb (p .children) 0) (λ e. asks-over)

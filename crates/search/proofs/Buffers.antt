@@ -8,7 +8,7 @@ use lib.Dec.{eqb}
 use lib.ListN.{length, getD, set, length-set}
 use lib.Seq.{getD-set-same, getD-set-other}
 use borrow.Author.Tests.{eq-eqb, ne-eqb}
-use Rattle.search.specs.Memory.{frameIn, outer, Linked, putByIn, Queued, Inside, Insides, Sized}
+use Rattle.search.specs.Inner.Memory.{frameIn, outer, Linked, putByIn, Queued, Inside, Insides, Sized}
 use Rattle.search.specs.State.{Frame, PutBy, alone}
 use Rattle.search.specs.declared.Marks.{Marks}
 

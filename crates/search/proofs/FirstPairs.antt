@@ -3,19 +3,19 @@ use Prim.Native.Nat.{ℕ, _+_, _-_, _<_, _≤_}
 use native.Mathlib.Omega.{arith}
 use native.Mathlib.Nat.{pos-of-ne-zero}
 use mathlib.Core.Path.{_≡_, refl, sym, ap, _∙_}
-use mathlib.Core.Bool.{true}
+use mathlib.Core.Bool.{true, false}
 use mathlib.Core.List.{List, []}
 use lib.ListN.{length, getD, take, drop}
 use lib.Seq.{getD-drop}
-use borrow.Author.Tests.{ne-eqb}
+use Rattle.term.specs.Same.{sameByte}
 use Rattle.term.specs.Code.{decodeOf}
 use Rattle.term.specs.Extent.{entryOf}
 use Rattle.term.specs.declared.Code.{Code}
 use Rattle.term.specs.declared.Code.the-variants.{Symbol}
 use Rattle.term.specs.declared.Part.{Part}
-use Rattle.search.specs.State.{PutBy, place, state, passed, partAt, walked, symbolStep, pairStep, codeStep, overStep, stepOf, variableAt, nextOf, walkOf}
+use Rattle.search.specs.State.{turns, PutBy, place, state, passed, partAt, walked, symbolStep, pairStep, codeStep, overStep, stepOf, variableAt, nextOf, walkOf}
 use Rattle.search.specs.Level.{reply, failedAt, startOf, insideOf, complementsOf, levelOf, endOf}
-use Rattle.search.specs.Replies.{turned, EndsAtOnce, ComplementIs}
+use Rattle.search.specs.Inner.Replies.{turned, EndsAtOnce, ComplementIs}
 use Rattle.search.specs.declared.Marks.{Marks}
 use Rattle.search.specs.declared.Step.{Step}
 use Rattle.search.specs.declared.Step.the-variants.{Fails, Passes}
@@ -28,7 +28,7 @@ use Rattle.search.proofs.Walks.{walk-suc}
 use Rattle.search.proofs.Kept.{kept-all}
 use Rattle.search.proofs.Levels.{level-stops, taken, inside-is}
 
-module _ (table pattern bytes : List ℕ) (node left b : ℕ) (some : left ≡ 0 → ⊥) (codes : 0 < length pattern) (within : node < length bytes)
+module _ (table classes pattern bytes : List ℕ) (node left b : ℕ) (some : left ≡ 0 → ⊥) (codes : 0 < length pattern) (within : node < length bytes)
     (code : Code) (is-code : code ≡ decodeOf (getD pattern 0 0)) (is-symbol : code ≡ Symbol b) where
   -- pattern and record from the pair on, as the step takes them
   abbrev here : List ℕ
@@ -43,55 +43,55 @@ module _ (table pattern bytes : List ℕ) (node left b : ℕ) (some : left ≡ 0
       ap (λ (l : List ℕ). getD l 0 0) (rest-drop node bytes) ∙ getD-drop node bytes 0 0 ∙ ap (λ (i : ℕ). getD bytes i 0) z
 
   -- the first turn
-  first-step : (shown : List Part) (x : Step) → x ≡ symbolStep table here there b
-      → x ≡ stepOf true table pattern bytes (partAt (startOf shown node) (variableAt pattern 0)) (place 1 1 0 node) left
+  first-step : (shown : List Part) (x : Step) → x ≡ symbolStep table classes here there b
+      → x ≡ stepOf true table classes pattern bytes (partAt (startOf shown node) (variableAt pattern 0)) (place 1 1 0 node) left
   unfolding pairStep codeStep
   first-step shown x e =
-      step-at true table pattern bytes (partAt (startOf shown node)) (place 1 1 0 node) left (Symbol b) x (λ z. omega arith) codes
+      step-at true table classes pattern bytes (partAt (startOf shown node)) (place 1 1 0 node) left (Symbol b) x (λ z. omega arith) codes
       (sym is-symbol ∙ is-code)
-      (plain-pair true (Symbol b) table pattern bytes _ (place 1 1 0 node) left x (λ z. omega arith) within some e)
+      (plain-pair true (Symbol b) table classes pattern bytes _ (place 1 1 0 node) left x (λ z. omega arith) within some e)
 
-  walk-differs : (shown : List Part) → Fails ≡ symbolStep table here there b
-      → walkOf 1024 table pattern bytes (startOf shown node) left ≡ walked Failure (left - 1) (startOf shown node)
+  walk-differs : (shown : List Part) → Fails ≡ symbolStep table classes here there b
+      → walkOf turns table classes pattern bytes (startOf shown node) left ≡ walked Failure (left - 1) (startOf shown node)
   unfolding nextOf
   walk-differs shown e =
-      walk-suc table pattern bytes 1024 (startOf shown node) left (omega arith) ∙ rw (← first-step shown Fails e)
+      walk-suc table classes pattern bytes turns (startOf shown node) left (omega arith) ∙ rw (← first-step shown Fails e)
 
-  walk-agrees : (shown : List Part) → Passes 1 1 ≡ symbolStep table here there b
-      → walkOf 1024 table pattern bytes (startOf shown node) left
+  walk-agrees : (shown : List Part) → Passes 1 1 ≡ symbolStep table classes here there b
+      → walkOf turns table classes pattern bytes (startOf shown node) left
       ≡ walked NoPair (left - 1) (state shown [] [] (passed (place 1 1 0 node) 1 1 1))
   unfolding nextOf stepOf overStep
   walk-agrees shown e =
-      walk-suc table pattern bytes 1024 (startOf shown node) left (omega arith)
+      walk-suc table classes pattern bytes turns (startOf shown node) left (omega arith)
       ∙ rw (← first-step shown (Passes 1 1) e)
-      (walk-suc table pattern bytes (1024 - 1) (state shown [] [] (passed (place 1 1 0 node) 1 1 1)) (left - 1) (omega arith))
+      (walk-suc table classes pattern bytes (turns - 1) (state shown [] [] (passed (place 1 1 0 node) 1 1 1)) (left - 1) (omega arith))
 
-  pub symbol-differs : (b ≡ getD bytes node 0 → ⊥) → EndsAtOnce table pattern bytes node left Failed
+  pub symbol-differs : sameByte classes false b (getD bytes node 0) ≡ false → EndsAtOnce table classes pattern bytes node left Failed
   unfolding symbolStep
   symbol-differs n = record {
     some = pos-of-ne-zero some;
     ends = λ shown k h. ap endOf (sym (
-        level-stops k table pattern bytes (startOf shown node) left Failure (left - 1) (startOf shown node) (failedAt (left - 1)) h
-        (walk-differs shown (rw (there-first, ne-eqb b (getD bytes node 0) n))) refl));
+        level-stops k table classes pattern bytes (startOf shown node) left Failure (left - 1) (startOf shown node) (failedAt (left - 1)) h
+        (walk-differs shown (rw (there-first, n))) refl));
   }
 
-  pub symbol-agrees : b ≡ getD bytes node 0 → (e : ℕ) → e ≡ entryOf table b → e ≡ 0 → EndsAtOnce table pattern bytes node left Found
+  pub symbol-agrees : sameByte classes false b (getD bytes node 0) ≡ true → (e : ℕ) → e ≡ entryOf table b → e ≡ 0 → EndsAtOnce table classes pattern bytes node left Found
   unfolding complementsOf
   symbol-agrees s e entry z = record {
     some = pos-of-ne-zero some;
     ends = λ shown k h. ap endOf (sym (
-        level-stops k table pattern bytes (startOf shown node) left NoPair (left - 1) (state shown [] [] (passed (place 1 1 0 node) 1 1 1))
+        level-stops k table classes pattern bytes (startOf shown node) left NoPair (left - 1) (state shown [] [] (passed (place 1 1 0 node) 1 1 1))
         (reply Found (left - 1) shown) h
-        (walk-agrees shown (symbol-leaf table here there b (s ∙ sym there-first) e entry z)) refl));
+        (walk-agrees shown (symbol-leaf table classes here there b (rw there-first s) e entry z)) refl));
   }
 
 -- a complement whose inside ends at its first pair
 pub complement-ends : (pattern : List ℕ) (c : PutBy) (within : c .at + 1 + c .size ≤ length pattern)
-    (table bytes : List ℕ) (assigned left : ℕ) (parts stack : List ℕ) (m : Marks) {o o′ : Outcome}
-    → EndsAtOnce table (taken pattern c within) bytes (c .node) left o → o′ ≡ turned o
-    → ComplementIs table pattern bytes assigned left parts stack c m o′ (left - 1) parts stack
+    (table classes bytes : List ℕ) (assigned left : ℕ) (parts stack : List ℕ) (m : Marks) {o o′ : Outcome}
+    → EndsAtOnce table classes (taken pattern c within) bytes (c .node) left o → o′ ≡ turned o
+    → ComplementIs table classes pattern bytes assigned left parts stack c m o′ (left - 1) parts stack
 unfolding insideOf
-complement-ends pattern c within table bytes assigned left parts stack m {o} {o′} d e = record {
+complement-ends pattern c within table classes bytes assigned left parts stack m {o} {o′} d e = record {
   replies = λ shown h n l. let x = is shown n (omega arith) in (
     e ∙ ap (λ (y : Ended). turned (y .outcome)) (sym x),
     ap (λ (y : Ended). y .left) (sym x),
@@ -100,6 +100,6 @@ complement-ends pattern c within table bytes assigned left parts stack m {o} {o�
 }
   where
     is : (shown : List Part) (n : ℕ) → 0 < n
-        → endOf (levelOf n table bytes (take (c .size) (drop (c .at + 1) pattern)) (startOf shown (c .node)) left) ≡ record { outcome = o; left = left - 1 }
+        → endOf (levelOf n table classes bytes (take (c .size) (drop (c .at + 1) pattern)) (startOf shown (c .node)) left) ≡ record { outcome = o; left = left - 1 }
     is shown n h =
-        ap (λ (q : List ℕ). endOf (levelOf n table bytes q (startOf shown (c .node)) left)) (sym (inside-is pattern c within)) ∙ d .ends shown n h
+        ap (λ (q : List ℕ). endOf (levelOf n table classes bytes q (startOf shown (c .node)) left)) (sym (inside-is pattern c within)) ∙ d .ends shown n h

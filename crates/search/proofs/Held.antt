@@ -11,9 +11,11 @@ use lib.Dec.{eqb}
 use lib.ListN.{length, getD, set, length-set}
 use lib.Seq.{getD-set-same, getD-set-other}
 use borrow.Author.Tests.{eqb-true, eqb-false, ne-eqb}
-use Rattle.term.specs.Part.{part, isAbsent, boundPart}
+use Rattle.term.specs.Limits.{longestRecord}
+use Rattle.term.specs.Code.{variables}
+use Rattle.term.specs.Part.{nowhere, part, isAbsent, boundPart}
 use Rattle.term.specs.declared.Part.{Part}
-use Rattle.search.specs.Memory.{bit, packed, partIn, frameIn, outer, openedMarks, closedMarks, Linked, putByIn, putByMarks, Holds, Kept}
+use Rattle.search.specs.Inner.Memory.{bit, packed, partIn, frameIn, outer, openedMarks, closedMarks, Linked, putByIn, putByMarks, Holds, Kept}
 use Rattle.search.specs.State.{Frame, PutBy, State, frame, putBy, state, passed, entered, reopened}
 use Rattle.search.specs.declared.Marks.{Marks}
 use Rattle.search.specs.declared.Place.{Place}
@@ -24,8 +26,8 @@ use Rattle.search.proofs.Masks.{bit-new, bit-other, part-back}
 -- Variables: v is assigned n elements of so many bytes
 
 module _ (assigned v node size n : ℕ) (parts : List ℕ) (vs : List Part) where
-  shown-assigned : v < length parts → n < 256 → length vs ≡ 48
-      → ((w : ℕ) → w < 48 → getD vs w (part 0 0 0) ≡ partIn assigned parts w) → (w : ℕ) → w < 48
+  shown-assigned : v < length parts → n < 256 → length vs ≡ variables
+      → ((w : ℕ) → w < variables → getD vs w (part 0 0 0) ≡ partIn assigned parts w) → (w : ℕ) → w < variables
       → getD (set vs v (boundPart node size n)) w (part 0 0 0) ≡ partIn (bitOr assigned (2 ^ v)) (set parts v (packed (boundPart node size n))) w
   shown-assigned room small many h w low = by (eqb v w) refl
     where
@@ -40,15 +42,15 @@ module _ (assigned v node size n : ℕ) (parts : List ℕ) (vs : List Part) wher
           rw (bit-other assigned v w d, getD-set-other parts v w (packed (boundPart node size n)) 0 (λ i. d (sym i)))
           (getD-set-other vs v w (boundPart node size n) (part 0 0 0) (λ i. d (sym i)) ∙ h w low)
 
-  present-assigned : node ≤ 4096 → length vs ≡ 48
-      → ((w : ℕ) → w < 48 → bit assigned w ≡ true → isAbsent (getD vs w (part 0 0 0)) ≡ false) → (w : ℕ) → w < 48
+  present-assigned : node ≤ longestRecord → length vs ≡ variables
+      → ((w : ℕ) → w < variables → bit assigned w ≡ true → isAbsent (getD vs w (part 0 0 0)) ≡ false) → (w : ℕ) → w < variables
       → bit (bitOr assigned (2 ^ v)) w ≡ true → isAbsent (getD (set vs v (boundPart node size n)) w (part 0 0 0)) ≡ false
   present-assigned low-node many h w low b = by (eqb v w) refl
     where
       by : (c : Bool) → eqb v w ≡ c → isAbsent (getD (set vs v (boundPart node size n)) w (part 0 0 0)) ≡ false
       by true e =
           let i : v ≡ w = eqb-true v w e in
-          rw (← i, getD-set-same vs v (boundPart node size n) (part 0 0 0) (omega arith)) (ne-eqb (node % 65536) 65535 (λ z. omega arith))
+          rw (← i, getD-set-same vs v (boundPart node size n) (part 0 0 0) (omega arith)) (ne-eqb (node % 65536) nowhere (λ z. omega arith))
       by false e =
           let d = eqb-false v w e in
           rw (getD-set-other vs v w (boundPart node size n) (part 0 0 0) (λ i. d (sym i))) (h w low (sym (bit-other assigned v w d) ∙ b))
@@ -63,7 +65,7 @@ module _ {codes bytes assigned : ℕ} {parts stack : List ℕ} {m : Marks} {p : 
       record {
         sized = h .sized;
         place = refl;
-        variables = h .variables;
+        all-variables = h .all-variables;
         shown = h .shown;
         present = h .present;
         linked = h .linked;
@@ -75,7 +77,7 @@ module _ {codes bytes assigned : ℕ} {parts stack : List ℕ} {m : Marks} {p : 
         room = omega arith;
       }
 
-  pub holds-assigned : (v offset size n : ℕ) → v ≤ 48 → offset ≤ 4096 → n < 256
+  pub holds-assigned : (v offset size n : ℕ) → v ≤ variables → offset ≤ longestRecord → n < 256
       → Holds codes bytes (bitOr assigned (2 ^ v)) (set parts v (packed (boundPart offset size n))) stack m p
       (state (set (s .parts) v (boundPart offset size n)) (s .frames) (s .waiting) (s .place))
   holds-assigned v offset size n low offset-fits n-fits =
@@ -83,9 +85,9 @@ module _ {codes bytes assigned : ℕ} {parts stack : List ℕ} {m : Marks} {p : 
       record {
         sized = sized-part (h .sized) v (packed (boundPart offset size n));
         place = h .place;
-        variables = length-set (s .parts) v (boundPart offset size n) ∙ h .variables;
-        shown = shown-assigned assigned v offset size n parts (s .parts) (omega arith) n-fits (h .variables) (h .shown);
-        present = present-assigned assigned v offset size n parts (s .parts) offset-fits (h .variables) (h .present);
+        all-variables = length-set (s .parts) v (boundPart offset size n) ∙ h .all-variables;
+        shown = shown-assigned assigned v offset size n parts (s .parts) (omega arith) n-fits (h .all-variables) (h .shown);
+        present = present-assigned assigned v offset size n parts (s .parts) offset-fits (h .all-variables) (h .present);
         linked = h .linked;
         innermost = h .innermost;
         queued = h .queued;
@@ -100,7 +102,7 @@ module _ {codes bytes assigned : ℕ} {parts stack : List ℕ} {m : Marks} {p : 
 module _ (codes bytes assigned : ℕ) (parts stack : List ℕ) (m : Marks) (p : Place) (vs : List Part) (fs : List Frame) (cs : List PutBy)
     (h : Holds codes bytes assigned parts stack m p (state vs fs cs p)) where
   -- a variable whose part is the absent mark is not assigned
-  pub unassigned : (v : ℕ) → v < 48 → isAbsent (partIn assigned parts v) ≡ true → bit assigned v ≡ false
+  pub unassigned : (v : ℕ) → v < variables → isAbsent (partIn assigned parts v) ≡ true → bit assigned v ≡ false
   unassigned v low e = by (bit assigned v) refl
     where
       by : (b : Bool) → bit assigned v ≡ b → b ≡ false
@@ -114,7 +116,7 @@ module _ (codes bytes assigned : ℕ) (parts stack : List ℕ) (m : Marks) (p : 
   holds-closed gs l less = record {
     sized = h .sized;
     place = refl;
-    variables = h .variables;
+    all-variables = h .all-variables;
     shown = h .shown;
     present = h .present;
     linked = l;
@@ -138,7 +140,7 @@ module _ (codes bytes assigned : ℕ) (parts stack : List ℕ) (m : Marks) (p : 
       record {
         sized = sized-stack (h .sized) (m .frames) x;
         place = refl;
-        variables = h .variables;
+        all-variables = h .all-variables;
         shown = h .shown;
         present = h .present;
         linked = linked-push stack (m .inner) (m .frames) x (frame (p .children - 1) (p .elements - 1)) fs (h .innermost) (omega arith) (is .0)
@@ -164,7 +166,7 @@ module _ (codes bytes assigned : ℕ) (parts stack : List ℕ) (m : Marks) (p : 
       record {
         sized = sized-stack (h .sized) (255 - m .waiting) x;
         place = refl;
-        variables = h .variables;
+        all-variables = h .all-variables;
         shown = h .shown;
         present = h .present;
         linked = linked-kept stack (set stack (255 - m .waiting) x) (m .frames)
@@ -183,7 +185,7 @@ module _ (codes bytes assigned : ℕ) (parts stack : List ℕ) (m : Marks) (p : 
 
 module _ (assigned₀ assigned : ℕ) (m₀ m : Marks) (parts₀ stack₀ parts stack : List ℕ)
     (k : Kept assigned₀ m₀ parts₀ stack₀ parts stack) where
-  pub kept-part : ((v : ℕ) → bit assigned₀ v ≡ true → bit assigned v ≡ true) → (v x : ℕ) → (v < 48 → bit assigned v ≡ false)
+  pub kept-part : ((v : ℕ) → bit assigned₀ v ≡ true → bit assigned v ≡ true) → (v x : ℕ) → (v < variables → bit assigned v ≡ false)
       → Kept assigned₀ m₀ parts₀ stack₀ (set parts v x) stack
   kept-part still v x free = record {
     of-parts = λ w low b. getD-set-other parts v w x 0 (other w low b) ∙ k .of-parts w low b;
@@ -192,8 +194,8 @@ module _ (assigned₀ assigned : ℕ) (m₀ m : Marks) (parts₀ stack₀ parts 
     sized = λ z. sized-part (k .sized z) v x;
   }
     where
-      other : (w : ℕ) → w < 48 → bit assigned₀ w ≡ true → w ≡ v → ⊥
-      other w low b e = true≢false (sym (still w b) ∙ ap (bit assigned) e ∙ free (subst (λ (u : ℕ). u < 48) e low))
+      other : (w : ℕ) → w < variables → bit assigned₀ w ≡ true → w ≡ v → ⊥
+      other w low b e = true≢false (sym (still w b) ∙ ap (bit assigned) e ∙ free (subst (λ (u : ℕ). u < variables) e low))
 
   pub kept-frame : (x : ℕ) → m₀ .frames ≤ m .frames → m₀ .waiting ≤ m .waiting → m .frames + m .waiting < 256
       → Kept assigned₀ m₀ parts₀ stack₀ parts (set stack (m .frames) x)

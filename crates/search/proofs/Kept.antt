@@ -9,12 +9,14 @@ use mathlib.Core.Bool.{Bool, true, false, cond, true≢false}
 use lib.Bits.{bitOr}
 use lib.ListN.{length, getD, set, replicate, length-replicate, getD-replicate}
 use lib.Dec.{eqb}
+use Rattle.term.specs.Limits.{longestRecord}
+use Rattle.term.specs.Code.{variables}
 use Rattle.term.specs.Part.{part, absent, boundPart}
 use Rattle.term.specs.declared.Part.{Part}
 use Rattle.search.specs.State.{PutBy, State, place, state, passed}
 use Rattle.search.specs.Level.{startOf}
-use Rattle.search.specs.Memory.{marks, bit, packed, unpacked, partIn, Inside, Sized, Holds, Kept}
-use Rattle.search.specs.Replies.{partsIn, given, inside, Free}
+use Rattle.search.specs.Inner.Memory.{marks, bit, packed, unpacked, partIn, Inside, Sized, Holds, Kept}
+use Rattle.search.specs.Inner.Replies.{partsIn, given, inside, Free}
 use Rattle.search.specs.declared.Place.{Place}
 use Rattle.search.specs.declared.Marks.{Marks}
 use Rattle.search.proofs.Buffers.{linked-kept, queued-kept}
@@ -38,7 +40,7 @@ kept-then still f w k l = record {
 
 module _ {assigned : ℕ} {m : Marks} {parts stack parts′ stack′ : List ℕ}
     (k : Kept assigned m parts stack parts′ stack′) where
-  pub part-kept : (v : ℕ) → v < 48 → partIn assigned parts′ v ≡ partIn assigned parts v
+  pub part-kept : (v : ℕ) → v < variables → partIn assigned parts′ v ≡ partIn assigned parts v
   part-kept v h = by (bit assigned v) refl
     where
       by : (b : Bool) → bit assigned v ≡ b → cond b (unpacked (getD parts′ v 0)) absent ≡ cond b (unpacked (getD parts v 0)) absent
@@ -50,7 +52,7 @@ module _ {assigned : ℕ} {m : Marks} {parts stack parts′ stack′ : List ℕ}
       → Holds codes bytes assigned parts stack m p s → Holds codes bytes assigned parts′ stack′ m p s
   restored {s = s} h = record {
     place = h .place;
-    variables = h .variables;
+    all-variables = h .all-variables;
     shown = λ v l. h .shown v l ∙ sym (part-kept v l);
     present = h .present;
     linked = linked-kept stack stack′ (m .frames) (k .of-frames) (m .inner) (s .frames) (h .innermost) (h .linked);
@@ -73,11 +75,11 @@ past-holds {p = p} l h = rw (h .place) (holds-moved h (passed p 0 1 0) (omega ar
 
 -- One more variable is assigned
 
-pub none-free : {assigned : ℕ} → Free assigned 48
+pub none-free : {assigned : ℕ} → Free assigned variables
 none-free = record { below = omega arith; free = λ l. absurd (omega (arith, l)) }
 
 -- v is given n elements of so many bytes
-module _ (assigned v offset size n : ℕ) (offset-fits : offset ≤ 4096) (v-fits : v ≤ 48) (n-fits : n < 256) where
+module _ (assigned v offset size n : ℕ) (offset-fits : offset ≤ longestRecord) (v-fits : v ≤ variables) (n-fits : n < 256) where
   pub given-holds : {codes bytes : ℕ} {parts stack : List ℕ} {m : Marks} {s : State} → s .place .node ≡ offset → offset + size ≤ bytes
       → Holds codes bytes assigned parts stack m (s .place) s
       → Holds codes bytes (bitOr assigned (2 ^ v)) (set parts v (packed (boundPart offset size n))) stack m (given s v n size .place) (given s v n size)
@@ -92,7 +94,7 @@ pub start-holds : {codes bytes assigned : ℕ} {parts stack : List ℕ} {m : Mar
     → Holds (c .size) bytes assigned parts stack (inside m) (place 1 1 0 (c .node)) (startOf (s .parts) (c .node))
 start-holds c h i = record {
   place = refl;
-  variables = h .variables;
+  all-variables = h .all-variables;
   shown = h .shown;
   present = h .present;
   linked = refl;
@@ -107,11 +109,11 @@ start-holds c h i = record {
 
 -- and the whole pattern's, with nothing assigned
 pub first-holds : (codes bytes : ℕ) (parts stack : List ℕ) → codes ≤ 256 → Sized parts stack
-    → Holds codes bytes 0 parts stack (marks 0 0 0 0) (place 1 1 0 0) (startOf (replicate 48 absent) 0)
+    → Holds codes bytes 0 parts stack (marks 0 0 0 0) (place 1 1 0 0) (startOf (replicate variables absent) 0)
 first-holds codes bytes parts stack h z = record {
   place = refl;
-  variables = length-replicate 48 absent;
-  shown = λ v l. getD-replicate 48 v absent (part 0 0 0) l ∙ rw (none v);
+  all-variables = length-replicate variables absent;
+  shown = λ v l. getD-replicate variables v absent (part 0 0 0) l ∙ rw (none v);
   present = λ v l b. absurd (true≢false (sym b ∙ none v));
   linked = refl;
   innermost = omega arith;
@@ -144,6 +146,6 @@ parts-shown assigned parts v (suc k) (x ∷ xs) l h =
     next i j = let z : v + suc i ≡ v + 1 + i = omega arith in h (suc i) (omega arith) ∙ ap (partIn assigned parts) z
 
 pub state-shown : {codes bytes assigned : ℕ} {parts stack : List ℕ} {m : Marks} {p : Place} {s : State}
-    → Holds codes bytes assigned parts stack m p s → s .parts ≡ partsIn assigned parts 0 48
+    → Holds codes bytes assigned parts stack m p s → s .parts ≡ partsIn assigned parts 0 variables
 state-shown {assigned = assigned} {parts = parts} {s = s} h =
-    parts-shown assigned parts 0 48 (s .parts) (h .variables) (λ i l. let z : 0 + i ≡ i = omega arith in h .shown i l ∙ ap (partIn assigned parts) (sym z))
+    parts-shown assigned parts 0 variables (s .parts) (h .all-variables) (λ i l. let z : 0 + i ≡ i = omega arith in h .shown i l ∙ ap (partIn assigned parts) (sym z))

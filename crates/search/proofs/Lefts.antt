@@ -6,10 +6,12 @@ use mathlib.Core.List.{List, [], _∷_}
 use mathlib.Core.Bool.{Bool, true, false, cond, _&&_}
 use lib.ListN.{length, take, drop, replicate}
 use lib.Dec.{eqb, leb}
+use Rattle.term.specs.Limits.{longestRecord}
+use Rattle.term.specs.Code.{variables}
 use Rattle.term.specs.Extent.{extentOf}
 use Rattle.term.specs.Part.{absent}
 use Rattle.term.specs.declared.Part.{Part}
-use Rattle.search.specs.State.{PutBy, State, Walked, alone, variableAt, partAt, closed, stepOf, nextOf, walkOf}
+use Rattle.search.specs.State.{turns, PutBy, State, Walked, alone, variableAt, partAt, closed, stepOf, nextOf, walkOf}
 use Rattle.search.specs.Level.{Reply, failed, startOf, tried, orElse, lengthsOf, insideOf, refuted, complementsOf, stopBy, afterWalk, levelOf, levels, searchOf}
 use Rattle.search.specs.declared.Step.{Step}
 use Rattle.search.specs.declared.Step.the-variants.{Stops, Fails, Closes, Opens, Passes, Binds, PutsBy}
@@ -44,13 +46,13 @@ next-left (Passes elements size) f h s left = le-trans (h _ (left - 1)) (omega a
 next-left (Binds v size) f h s left = le-trans (h _ (left - 1)) (omega arith)
 next-left (PutsBy codes size) f h s left = le-trans (h _ (left - 1)) (omega arith)
 
-module _ (table bytes : List ℕ) where
-  walk-left : (n : ℕ) (pattern : List ℕ) (s : State) (left : ℕ) → walkOf n table pattern bytes s left .left ≤ left
+module _ (table classes bytes : List ℕ) where
+  walk-left : (n : ℕ) (pattern : List ℕ) (s : State) (left : ℕ) → walkOf n table classes pattern bytes s left .left ≤ left
   unfolding walkOf
   walk-left zero pattern s left = le-refl left
   walk-left (suc n) pattern s left =
-      next-left (stepOf (alone (s .frames)) table pattern bytes (partAt s (variableAt pattern (s .place .at))) (s .place) left)
-      (walkOf n table pattern bytes) (walk-left n pattern) s left
+      next-left (stepOf (alone (s .frames)) table classes pattern bytes (partAt s (variableAt pattern (s .place .at))) (s .place) left)
+      (walkOf n table classes pattern bytes) (walk-left n pattern) s left
 
   lengths-left : (lv : State → ℕ → Reply) → ((s : State) (l : ℕ) → lv s l .left ≤ l) → (v : ℕ) (s : State) (k n size left : ℕ)
       → lengthsOf lv table bytes v s k n size left .left ≤ left
@@ -77,15 +79,15 @@ module _ (table bytes : List ℕ) where
     stop-left NoPair s left = complements-left (s .parts) (s .waiting) left
     stop-left (RunName v) s left = lengths-left (lv pattern) (h pattern) v s (s .place .elements) 0 0 left
 
-  level-left : (n : ℕ) (pattern : List ℕ) (s : State) (left : ℕ) → levelOf n table bytes pattern s left .left ≤ left
+  level-left : (n : ℕ) (pattern : List ℕ) (s : State) (left : ℕ) → levelOf n table classes bytes pattern s left .left ≤ left
   unfolding levelOf afterWalk
   level-left zero pattern s left = le-refl left
   level-left (suc n) pattern s left =
-      let w = walkOf 1024 table pattern bytes s left in
-      le-trans (stop-left (levelOf n table bytes) (level-left n) pattern (w .stop) (w .state) (w .left)) (walk-left 1024 pattern s left)
+      let w = walkOf turns table classes pattern bytes s left in
+      le-trans (stop-left (levelOf n table classes bytes) (level-left n) pattern (w .stop) (w .state) (w .left)) (walk-left turns pattern s left)
 
-  pub search-left : (pattern : List ℕ) (allowance : ℕ) → searchOf table pattern bytes allowance .left ≤ allowance
+  pub search-left : (pattern : List ℕ) (allowance : ℕ) → searchOf table classes pattern bytes allowance .left ≤ allowance
   unfolding searchOf
   search-left pattern allowance =
-      either (leb (length pattern) 256 && leb (length bytes) 4096) _ _
-      (level-left (levels pattern 0) pattern (startOf (replicate 48 absent) 0) allowance) (le-refl allowance)
+      either (leb (length pattern) 256 && leb (length bytes) longestRecord) _ _
+      (level-left (levels pattern 0) pattern (startOf (replicate variables absent) 0) allowance) (le-refl allowance)

@@ -11,14 +11,16 @@ use lib.ListN.{length, getD, take, drop, set, replicate, length-drop}
 use lib.Seq.{length-take-le, set-out}
 use lib.Dec.{leb, eqb}
 use borrow.Author.Tests.{le-leb, eq-eqb, ne-eqb}
+use Rattle.term.specs.Limits.{longestRecord}
+use Rattle.term.specs.Code.{variables}
 use Rattle.term.specs.Extent.{extentOf}
 use Rattle.term.specs.Part.{absent, boundPart}
 use Rattle.term.specs.declared.Part.{Part}
-use Rattle.search.specs.State.{PutBy, State, place, passed, walked, walkOf}
+use Rattle.search.specs.State.{turns, PutBy, State, place, passed, walked, walkOf}
 use Rattle.search.specs.Level.{Reply, reply, failedAt, spentAt, failed, refuted, startOf, tried, lengthsOf, insideOf, complementsOf, stopBy, afterWalk, levelOf, levels, searchOf}
-use Rattle.search.specs.Memory.{marks, packed, putByIn, Queued, Insides, Sized, Holds, Holding, Kept}
-use Rattle.search.specs.Bounds.{Walks}
-use Rattle.search.specs.Replies.{failure, found, turned, partsIn, replyOf, given, triesOf, inside, Free, Resting, Testable, LevelIs, RestIs, FollowIs, ComplementIs, ComplementsAre}
+use Rattle.search.specs.Inner.Memory.{marks, packed, putByIn, Queued, Insides, Sized, Holds, Holding, Kept}
+use Rattle.search.specs.Inner.Bounds.{Walks}
+use Rattle.search.specs.Inner.Replies.{failure, found, turned, partsIn, replyOf, given, triesOf, inside, Free, Resting, Testable, LevelIs, RestIs, FollowIs, ComplementIs, ComplementsAre}
 use Rattle.search.specs.declared.Place.{Place}
 use Rattle.search.specs.declared.Marks.{Marks}
 use Rattle.search.specs.declared.Stop.{Stop}
@@ -91,24 +93,24 @@ module _ (lv : State → ℕ → Reply) (table bytes : List ℕ) (v : ℕ) (s : 
 
 -- The rest of a level, by the stop of its walk
 
-pub level-stops : (n : ℕ) (table pattern bytes : List ℕ) (s : State) (left : ℕ) (stop : Stop) (l : ℕ) (end : State) (r : Reply)
-    → 0 < n → walkOf 1024 table pattern bytes s left ≡ walked stop l end
-    → r ≡ stopBy stop (levelOf (n - 1) table bytes) table pattern bytes end l
-    → r ≡ levelOf n table bytes pattern s left
+pub level-stops : (n : ℕ) (table classes pattern bytes : List ℕ) (s : State) (left : ℕ) (stop : Stop) (l : ℕ) (end : State) (r : Reply)
+    → 0 < n → walkOf turns table classes pattern bytes s left ≡ walked stop l end
+    → r ≡ stopBy stop (levelOf (n - 1) table classes bytes) table pattern bytes end l
+    → r ≡ levelOf n table classes bytes pattern s left
 unfolding levelOf afterWalk
-level-stops zero table pattern bytes s left stop l end r h e g = absurd (omega arith)
-level-stops (suc n) table pattern bytes s left stop l end r h e g = let z : suc n - 1 ≡ n = omega arith in rw e (g ∙ rw z)
+level-stops zero table classes pattern bytes s left stop l end r h e g = absurd (omega arith)
+level-stops (suc n) table classes pattern bytes s left stop l end r h e g = let z : suc n - 1 ≡ n = omega arith in rw e (g ∙ rw z)
 
-pub rest-follows : {table pattern bytes : List ℕ} {assigned left : ℕ} {parts stack : List ℕ} {m : Marks} {p : Place} {r : Reached}
+pub rest-follows : {table classes pattern bytes : List ℕ} {assigned left : ℕ} {parts stack : List ℕ} {m : Marks} {p : Place} {r : Reached}
     {parts₁ stack₁ : List ℕ} {o : Outcome} {assigned₂ left₂ : ℕ} {parts₂ stack₂ : List ℕ}
     → Holding (length pattern) (length bytes) assigned parts stack m p
-    → Walks table pattern bytes assigned left parts stack m p parts₁ stack₁ r
-    → FollowIs table pattern bytes (r .assigned) (r .left) parts₁ stack₁ (r .stop) (r .marks) (r .place) o assigned₂ left₂ parts₂ stack₂
-    → RestIs table pattern bytes assigned left parts stack m p o assigned₂ left₂ parts₂ stack₂
-rest-follows {table} {pattern} {bytes} {left = left} {r = r} {o = o} {assigned₂ = assigned₂} {left₂ = left₂} {parts₂ = parts₂} holding walks follows = record {
+    → Walks table classes pattern bytes assigned left parts stack m p parts₁ stack₁ r
+    → FollowIs table classes pattern bytes (r .assigned) (r .left) parts₁ stack₁ (r .stop) (r .marks) (r .place) o assigned₂ left₂ parts₂ stack₂
+    → RestIs table classes pattern bytes assigned left parts stack m p o assigned₂ left₂ parts₂ stack₂
+rest-follows {table} {classes} {pattern} {bytes} {left = left} {r = r} {o = o} {assigned₂ = assigned₂} {left₂ = left₂} {parts₂ = parts₂} holding walks follows = record {
   replies = λ s h k l.
       let w = walks s h in
-      level-stops k table pattern bytes s left (r .stop) (r .left) (w .end) (replyOf o left₂ assigned₂ parts₂) (omega arith) (w .is)
+      level-stops k table classes pattern bytes s left (r .stop) (r .left) (w .end) (replyOf o left₂ assigned₂ parts₂) (omega arith) (w .is)
       (follows .replies (w .end) (w .holds) (k - 1) (omega (arith, w .further, l)));
   kept =
       let w = walks (holding .state) (holding .holds) in
@@ -121,12 +123,12 @@ place-is p q a b c d =
 
 -- The loop over lengths
 
-module _ (table pattern bytes : List ℕ) (assigned allowance : ℕ) (parts₀ stack₀ : List ℕ) (v most : ℕ) (m : Marks) (start : Place) where
+module _ (table classes pattern bytes : List ℕ) (assigned allowance : ℕ) (parts₀ stack₀ : List ℕ) (v most : ℕ) (m : Marks) (start : Place) where
   abbrev Starts : State → Type 0
   Starts s = Holds (length pattern) (length bytes) assigned parts₀ stack₀ m start s
 
   abbrev triesFrom : ℕ → State → ℕ → ℕ → ℕ → ℕ → Reply
-  triesFrom k s more n size left = triesOf (levelOf k table bytes pattern) table bytes v s more n size left
+  triesFrom k s more n size left = triesOf (levelOf k table classes bytes pattern) table bytes v s more n size left
 
   -- the search from length 0 on is the search from length n on, at the place p
   pub record Trying (left : ℕ) (parts stack : List ℕ) (p : Place) (n : ℕ) : Type 0 where
@@ -161,7 +163,7 @@ module _ (table pattern bytes : List ℕ) (assigned allowance : ℕ) (parts₀ s
     pub record Written (part seen : ℕ) : Type 0 where
       pub holding : Holding (length pattern) (length bytes) assigned parts₀ stack₀ m start
       pub free : Free assigned v
-      pub short : length bytes ≤ 4096
+      pub short : length bytes ≤ longestRecord
       pub byte : n < 256
       pub is-part : part ≡ packed (boundPart (start .node) size n)
       pub is-seen : seen ≡ bitOr assigned (2 ^ v)
@@ -193,12 +195,12 @@ module _ (table pattern bytes : List ℕ) (assigned allowance : ℕ) (parts₀ s
 
       -- what the rest of the level makes of it
       module _ {o : Outcome} {assigned₂ left₂ : ℕ} {parts₂ stack₂ : List ℕ}
-          (rest : RestIs table pattern bytes seen left (set parts v part) stack m p o assigned₂ left₂ parts₂ stack₂) where
+          (rest : RestIs table classes pattern bytes seen left (set parts v part) stack m p o assigned₂ left₂ parts₂ stack₂) where
         abbrev answer : Reply
         answer = replyOf o left₂ assigned₂ parts₂
 
         turn-is : (s : State) → Starts s → (k : ℕ) → levels pattern (start .at) ≤ k
-            → answer ≡ levelOf k table bytes pattern (given s v n size) left
+            → answer ≡ levelOf k table classes bytes pattern (given s v n size) left
         turn-is s h k l = rest .replies (given s v n size) (written-holds s h) k (omega (arith, t .at, l))
 
         turn-kept : Kept assigned m parts₀ stack₀ parts₂ stack₂
@@ -207,7 +209,7 @@ module _ (table pattern bytes : List ℕ) (assigned allowance : ℕ) (parts₀ s
             (kept-part assigned assigned m m parts₀ stack₀ parts stack (t .kept) (λ i b. b) v part (q .free .free)) (rest .kept)
 
         abbrev replied : (o′ : Outcome) → Type 0
-        replied o′ = LevelIs table pattern bytes assigned allowance parts₀ stack₀ v most m start o′ assigned₂ left₂ parts₂ stack₂
+        replied o′ = LevelIs table classes pattern bytes assigned allowance parts₀ stack₀ v most m start o′ assigned₂ left₂ parts₂ stack₂
 
         fails : failed o ≡ true → failed (answer .outcome) ≡ true
         fails f = ap failed (reply-outcome left₂ assigned₂ parts₂ o) ∙ f
@@ -215,14 +217,14 @@ module _ (table pattern bytes : List ℕ) (assigned allowance : ℕ) (parts₀ s
         pub try-last : most ≤ n → replied o
         try-last e = record {
           replies = λ s h k l. turn-is s h k l
-              ∙ tries-last (levelOf k table bytes pattern) table bytes v s (most - n) n size left (omega arith)
+              ∙ tries-last (levelOf k table classes bytes pattern) table bytes v s (most - n) n size left (omega arith)
               ∙ sym (t .same s h k l);
           kept = turn-kept;
         }
 
         pub try-hit : failed o ≡ false → replied o
         try-hit f = record {
-          replies = λ s h k l. tries-hit (levelOf k table bytes pattern) table bytes v s (most - n) n size left
+          replies = λ s h k l. tries-hit (levelOf k table classes bytes pattern) table bytes v s (most - n) n size left
               answer (turn-is s h k l) (ap failed (reply-outcome left₂ assigned₂ parts₂ o) ∙ f)
               ∙ sym (t .same s h k l);
           kept = turn-kept;
@@ -231,7 +233,7 @@ module _ (table pattern bytes : List ℕ) (assigned allowance : ℕ) (parts₀ s
         pub try-spent : failed o ≡ true → n < most → left₂ ≡ 0 → replied Spent
         try-spent f i z = record {
           replies = λ s h k l. ap spentAt (sym (reply-left left₂ assigned₂ parts₂ o))
-              ∙ tries-spent (levelOf k table bytes pattern) table bytes v s (most - n) n size left
+              ∙ tries-spent (levelOf k table classes bytes pattern) table bytes v s (most - n) n size left
               answer (omega arith) (turn-is s h k l) (fails f) (reply-left left₂ assigned₂ parts₂ o ∙ z)
               ∙ sym (t .same s h k l);
           kept = turn-kept;
@@ -254,69 +256,69 @@ module _ (table pattern bytes : List ℕ) (assigned allowance : ℕ) (parts₀ s
               let g : s .place .node + size ≡ p .node = omega (arith, ap (λ (x : Place). x .node) (h .place), t .further) in
               let x : p′ .node - start .node ≡ size + e = omega (arith, d, t .further) in
               t .same s h k l
-              ∙ tries-more (levelOf k table bytes pattern) table bytes v s (most - n) n size left
+              ∙ tries-more (levelOf k table classes bytes pattern) table bytes v s (most - n) n size left
               answer (omega arith) (turn-is s h k l) (fails f) (λ (y : answer .left ≡ 0). z (sym (reply-left left₂ assigned₂ parts₂ o) ∙ y))
               ∙ rw (reply-left left₂ assigned₂ parts₂ o, j, g, x, is-e, rest-drop (p .node) bytes);
         }
 
 -- A level's start gives no variable any element
 
-given-none : (s : State) → length (s .parts) ≡ 48 → given s 48 0 0 ≡ s
+given-none : (s : State) → length (s .parts) ≡ variables → given s variables 0 0 ≡ s
 given-none s h =
     let a : s .place .elements - 0 ≡ s .place .elements = omega arith in
     let b : s .place .node + 0 ≡ s .place .node = omega arith in
-    rw (set-out (s .parts) 48 (boundPart (s .place .node) 0 0) (omega (arith, h)), a, b)
+    rw (set-out (s .parts) variables (boundPart (s .place .node) 0 0) (omega (arith, h)), a, b)
 
-pub rest-starts : {table pattern bytes : List ℕ} {assigned left : ℕ} {parts stack : List ℕ} {m : Marks} {p : Place}
+pub rest-starts : {table classes pattern bytes : List ℕ} {assigned left : ℕ} {parts stack : List ℕ} {m : Marks} {p : Place}
     {o : Outcome} {assigned′ left′ : ℕ} {parts′ stack′ : List ℕ}
-    → LevelIs table pattern bytes assigned left parts stack 48 0 m p o assigned′ left′ parts′ stack′
-    → RestIs table pattern bytes assigned left parts stack m p o assigned′ left′ parts′ stack′
+    → LevelIs table classes pattern bytes assigned left parts stack variables 0 m p o assigned′ left′ parts′ stack′
+    → RestIs table classes pattern bytes assigned left parts stack m p o assigned′ left′ parts′ stack′
 unfolding triesOf
-rest-starts {table} {pattern} {bytes} {left = left} r = record {
-  replies = λ s h n l. r .replies s h n l ∙ ap (λ (x : State). levelOf n table bytes pattern x left) (given-none s (h .variables));
+rest-starts {table} {classes} {pattern} {bytes} {left = left} r = record {
+  replies = λ s h n l. r .replies s h n l ∙ ap (λ (x : State). levelOf n table classes bytes pattern x left) (given-none s (h .all-variables));
   kept = r .kept;
 }
 
 -- What follows the walk
 
-module _ (table pattern bytes : List ℕ) (assigned left : ℕ) (parts stack : List ℕ) (m : Marks) (p : Place) where
+module _ (table classes pattern bytes : List ℕ) (assigned left : ℕ) (parts stack : List ℕ) (m : Marks) (p : Place) where
   pub follow-fails : (stop : Stop) → stop ≡ Failure
-      → FollowIs table pattern bytes assigned left parts stack stop m p Failed assigned left parts stack
+      → FollowIs table classes pattern bytes assigned left parts stack stop m p Failed assigned left parts stack
   follow-fails stop e = rw e (record { replies = λ s h n l. refl; kept = kept-all })
 
   pub follow-spent : (stop : Stop) → stop ≡ NoAllowance
-      → FollowIs table pattern bytes assigned left parts stack stop m p Spent assigned left parts stack
+      → FollowIs table classes pattern bytes assigned left parts stack stop m p Spent assigned left parts stack
   follow-spent stop e = rw e (record { replies = λ s h n l. refl; kept = kept-all })
 
   pub follow-none : (v : ℕ) → left ≡ 0
-      → FollowIs table pattern bytes assigned left parts stack (RunName v) m p Spent assigned left parts stack
+      → FollowIs table classes pattern bytes assigned left parts stack (RunName v) m p Spent assigned left parts stack
   follow-none v z = record {
-    replies = λ s h n l. sym (lengths-tries (levelOf n table bytes pattern) table bytes v s (s .place .elements) 0 0 left ∙ rw (eq-eqb left 0 z));
+    replies = λ s h n l. sym (lengths-tries (levelOf n table classes bytes pattern) table bytes v s (s .place .elements) 0 0 left ∙ rw (eq-eqb left 0 z));
     kept = kept-all;
   }
 
   module _ {o : Outcome} {assigned′ left′ : ℕ} {parts′ stack′ : List ℕ} where
     pub follow-tests : (stop : Stop) → stop ≡ NoPair
-        → ComplementsAre table pattern bytes assigned left parts stack m o assigned′ left′ parts′ stack′
-        → FollowIs table pattern bytes assigned left parts stack stop m p o assigned′ left′ parts′ stack′
+        → ComplementsAre table classes pattern bytes assigned left parts stack m o assigned′ left′ parts′ stack′
+        → FollowIs table classes pattern bytes assigned left parts stack stop m p o assigned′ left′ parts′ stack′
     follow-tests stop e c = rw e (record { replies = λ s h n l. c .replies p s h n (omega arith); kept = c .kept })
 
     -- the level past the run name, with place and variable as the code has them
     pub follow-tries : (v w : ℕ) (q : Place) → w ≡ v → q ≡ passed p 0 1 0 → (left ≡ 0 → ⊥) → p .at < length pattern
-        → LevelIs table pattern bytes assigned (left - 1) parts stack w (p .elements) m q o assigned′ left′ parts′ stack′
-        → FollowIs table pattern bytes assigned left parts stack (RunName v) m p o assigned′ left′ parts′ stack′
+        → LevelIs table classes pattern bytes assigned (left - 1) parts stack w (p .elements) m q o assigned′ left′ parts′ stack′
+        → FollowIs table classes pattern bytes assigned left parts stack (RunName v) m p o assigned′ left′ parts′ stack′
     follow-tries v w q is-w is-q z i r = record {
       replies = λ s h n l. level-reply .replies (past s) (past-holds i h) n (omega arith)
-          ∙ sym (lengths-tries (levelOf n table bytes pattern) table bytes v s (s .place .elements) 0 0 left
+          ∙ sym (lengths-tries (levelOf n table classes bytes pattern) table bytes v s (s .place .elements) 0 0 left
           ∙ rw (ne-eqb left 0 z, h .place));
       kept = r .kept;
     }
       where
-        level-reply : LevelIs table pattern bytes assigned (left - 1) parts stack v (p .elements) m (passed p 0 1 0) o assigned′ left′ parts′ stack′
+        level-reply : LevelIs table classes pattern bytes assigned (left - 1) parts stack v (p .elements) m (passed p 0 1 0) o assigned′ left′ parts′ stack′
         level-reply =
-            subst (λ (x : ℕ). LevelIs table pattern bytes assigned (left - 1) parts stack x (p .elements) m (passed p 0 1 0) o
+            subst (λ (x : ℕ). LevelIs table classes pattern bytes assigned (left - 1) parts stack x (p .elements) m (passed p 0 1 0) o
             assigned′ left′ parts′ stack′) is-w
-            (subst (λ (x : Place). LevelIs table pattern bytes assigned (left - 1) parts stack w (p .elements) m x o
+            (subst (λ (x : Place). LevelIs table classes pattern bytes assigned (left - 1) parts stack w (p .elements) m x o
             assigned′ left′ parts′ stack′) is-q r)
 
 -- a walk that fails
@@ -327,14 +329,14 @@ failure-is NoAllowance e = absurd (true≢false (sym e))
 failure-is NoPair e = absurd (true≢false (sym e))
 failure-is (RunName v) e = absurd (true≢false (sym e))
 
-pub rest-fails : {table pattern bytes : List ℕ} {assigned left : ℕ} {parts stack : List ℕ} {m : Marks} {p : Place} {r : Reached}
+pub rest-fails : {table classes pattern bytes : List ℕ} {assigned left : ℕ} {parts stack : List ℕ} {m : Marks} {p : Place} {r : Reached}
     {parts₁ stack₁ : List ℕ} → Holding (length pattern) (length bytes) assigned parts stack m p
-    → Walks table pattern bytes assigned left parts stack m p parts₁ stack₁ r → failure (r .stop) ≡ true
-    → RestIs table pattern bytes assigned left parts stack m p Failed assigned (r .left) parts₁ stack₁
-rest-fails {table} {pattern} {bytes} {r = r} {parts₁ = parts₁} {stack₁ = stack₁} holding walks e =
+    → Walks table classes pattern bytes assigned left parts stack m p parts₁ stack₁ r → failure (r .stop) ≡ true
+    → RestIs table classes pattern bytes assigned left parts stack m p Failed assigned (r .left) parts₁ stack₁
+rest-fails {table} {classes} {pattern} {bytes} {r = r} {parts₁ = parts₁} {stack₁ = stack₁} holding walks e =
     let x =
     rest-follows holding walks
-    (follow-fails table pattern bytes (r .assigned) (r .left) parts₁ stack₁ (r .marks) (r .place) (r .stop) (failure-is (r .stop) e)) in
+    (follow-fails table classes pattern bytes (r .assigned) (r .left) parts₁ stack₁ (r .marks) (r .place) (r .stop) (failure-is (r .stop) e)) in
     record { replies = x .replies; kept = x .kept }
 
 -- Complements
@@ -354,10 +356,10 @@ module _ (pattern : List ℕ) (c : PutBy) (within : c .at + 1 + c .size ≤ leng
       → Holding (length taken) bytes assigned parts stack (inside m) (place 1 1 0 (c .node))
   inside-holding h = rw inside-length (h .holding)
 
-  module _ (table bytes : List ℕ) (assigned left : ℕ) (parts stack : List ℕ) (m : Marks) (short : length pattern ≤ 256) where
+  module _ (table classes bytes : List ℕ) (assigned left : ℕ) (parts stack : List ℕ) (m : Marks) (short : length pattern ≤ 256) where
     complement-turned : {o o′ : Outcome} {assigned′ left′ : ℕ} {parts′ stack′ : List ℕ}
-        → RestIs table taken bytes assigned left parts stack (inside m) (place 1 1 0 (c .node)) o assigned′ left′ parts′ stack′
-        → o′ ≡ turned o → ComplementIs table pattern bytes assigned left parts stack c m o′ left′ parts′ stack′
+        → RestIs table classes taken bytes assigned left parts stack (inside m) (place 1 1 0 (c .node)) o assigned′ left′ parts′ stack′
+        → o′ ≡ turned o → ComplementIs table classes pattern bytes assigned left parts stack c m o′ left′ parts′ stack′
     unfolding insideOf
     complement-turned {o} {o′} {assigned′} {left′} {parts′} r e = record {
       replies = λ shown h n l. let x = found-at shown h n l in (
@@ -369,17 +371,17 @@ module _ (pattern : List ℕ) (c : PutBy) (within : c .at + 1 + c .size ≤ leng
       where
         found-at : (shown : List Part) → Holds (c .size) (length bytes) assigned parts stack (inside m) (place 1 1 0 (c .node)) (startOf shown (c .node))
             → (n : ℕ) → levels pattern (length pattern) ≤ suc n
-            → replyOf o left′ assigned′ parts′ ≡ levelOf n table bytes (take (c .size) (drop (c .at + 1) pattern)) (startOf shown (c .node)) left
+            → replyOf o left′ assigned′ parts′ ≡ levelOf n table classes bytes (take (c .size) (drop (c .at + 1) pattern)) (startOf shown (c .node)) left
         found-at shown h n l =
             r .replies (startOf shown (c .node)) (rw inside-length h) n (omega (arith, inside-length)) ∙ rw inside-is
 
     -- with the marks as the code has them
     pub complement-tests : {k : Marks} {o o′ : Outcome} {assigned′ left′ : ℕ} {parts′ stack′ : List ℕ} → k ≡ inside m
-        → RestIs table taken bytes assigned left parts stack k (place 1 1 0 (c .node)) o assigned′ left′ parts′ stack′
-        → o′ ≡ turned o → ComplementIs table pattern bytes assigned left parts stack c m o′ left′ parts′ stack′
+        → RestIs table classes taken bytes assigned left parts stack k (place 1 1 0 (c .node)) o assigned′ left′ parts′ stack′
+        → o′ ≡ turned o → ComplementIs table classes pattern bytes assigned left parts stack c m o′ left′ parts′ stack′
     complement-tests {k} {o} {o′} {assigned′} {left′} {parts′} {stack′} is-k r e =
         complement-turned
-        (subst (λ (x : Marks). RestIs table taken bytes assigned left parts stack x (place 1 1 0 (c .node)) o assigned′ left′ parts′ stack′)
+        (subst (λ (x : Marks). RestIs table classes taken bytes assigned left parts stack x (place 1 1 0 (c .node)) o assigned′ left′ parts′ stack′)
         is-k r) e
 
 module _ (assigned left : ℕ) (parts : List ℕ) (next : ℕ → Reply) where
@@ -415,7 +417,7 @@ module _ (lv : List ℕ → State → ℕ → Reply) (pattern : List ℕ) (shown
       refuted-on 0 left′ [] (λ l. complementsOf lv pattern shown cs l) (insideOf lv pattern shown c left .outcome) o
       (insideOf lv pattern shown c left .left) (is .0) (is .1) f
 
-module _ (table pattern bytes : List ℕ) (assigned allowance : ℕ) (parts₀ stack₀ : List ℕ) (m : Marks) where
+module _ (table classes pattern bytes : List ℕ) (assigned allowance : ℕ) (parts₀ stack₀ : List ℕ) (m : Marks) where
   abbrev Ends : Place → State → Type 0
   Ends p s = Holds (length pattern) (length bytes) assigned parts₀ stack₀ m p s
 
@@ -425,7 +427,7 @@ module _ (table pattern bytes : List ℕ) (assigned allowance : ℕ) (parts₀ s
     pub queued : Queued stack₀ i (m .waiting) rest
     pub insides : Insides (length pattern) (length bytes) (p .at) m rest
     pub same : (n : ℕ) → levels pattern (length pattern) ≤ suc n
-        → complementsOf (levelOf n table bytes) pattern (s .parts) (s .waiting) allowance ≡ complementsOf (levelOf n table bytes) pattern (s .parts) rest left
+        → complementsOf (levelOf n table classes bytes) pattern (s .parts) (s .waiting) allowance ≡ complementsOf (levelOf n table classes bytes) pattern (s .parts) rest left
 
   pub record Testing (seen left : ℕ) (parts stack : List ℕ) (i : ℕ) : Type 0 where
     pub same-mask : seen ≡ assigned
@@ -440,12 +442,12 @@ module _ (table pattern bytes : List ℕ) (assigned allowance : ℕ) (parts₀ s
   }
 
   module _ {seen left : ℕ} {parts stack : List ℕ} {i : ℕ} (t : Testing seen left parts stack i) where
-    pub test-end : m .waiting ≤ i → ComplementsAre table pattern bytes assigned allowance parts₀ stack₀ m Found seen left parts stack
+    pub test-end : m .waiting ≤ i → ComplementsAre table classes pattern bytes assigned allowance parts₀ stack₀ m Found seen left parts stack
     test-end e = record {
       replies = λ p s h n l.
           let q = t .remains p s h in
-          ap (reply Found left) (ap (λ (x : ℕ). partsIn x parts 0 48) (t .same-mask) ∙ sym (state-shown (restored (t .kept) h)))
-          ∙ none (levelOf n table bytes) pattern (s .parts) stack₀ i (m .waiting) left e (q .rest) (q .queued)
+          ap (reply Found left) (ap (λ (x : ℕ). partsIn x parts 0 variables) (t .same-mask) ∙ sym (state-shown (restored (t .kept) h)))
+          ∙ none (levelOf n table classes bytes) pattern (s .parts) stack₀ i (m .waiting) left e (q .rest) (q .queued)
           ∙ sym (q .same n l);
       kept = t .kept;
     }
@@ -467,44 +469,44 @@ module _ (table pattern bytes : List ℕ) (assigned allowance : ℕ) (parts₀ s
           next p s (r .holding .holds) (q .rest) (q .queued) (q .insides)
 
       module _ {o : Outcome} {left′ : ℕ} {parts′ stack′ : List ℕ}
-          (c : ComplementIs table pattern bytes seen left parts stack (putByIn (getD stack (255 - i) 0)) m o left′ parts′ stack′) where
+          (c : ComplementIs table classes pattern bytes seen left parts stack (putByIn (getD stack (255 - i) 0)) m o left′ parts′ stack′) where
         test-kept : Kept assigned m parts₀ stack₀ parts′ stack′
         test-kept = kept-then {m₁ = m} (λ v b. rw (t .same-mask) b) (le-refl (m .frames)) (le-refl (m .waiting)) (t .kept) (c .kept)
 
         -- the first of the rest is the one that was searched
         told : (p : Place) (s : State) → Ends p s → (d : PutBy) (cs : List PutBy) → Queued stack₀ i (m .waiting) (d ∷ cs)
             → Insides (length pattern) (length bytes) (p .at) m (d ∷ cs) → (n : ℕ) → levels pattern (length pattern) ≤ suc n
-            → (o ≡ turned (insideOf (levelOf n table bytes) pattern (s .parts) d left .outcome))
-            × (left′ ≡ insideOf (levelOf n table bytes) pattern (s .parts) d left .left)
+            → (o ≡ turned (insideOf (levelOf n table classes bytes) pattern (s .parts) d left .outcome))
+            × (left′ ≡ insideOf (levelOf n table classes bytes) pattern (s .parts) d left .left)
         told p s e d cs q k n l =
-            let is : ComplementIs table pattern bytes assigned left parts stack d m o left′ parts′ stack′ =
-            subst (λ (x : PutBy). ComplementIs table pattern bytes assigned left parts stack x m o left′ parts′ stack′)
+            let is : ComplementIs table classes pattern bytes assigned left parts stack d m o left′ parts′ stack′ =
+            subst (λ (x : PutBy). ComplementIs table classes pattern bytes assigned left parts stack x m o left′ parts′ stack′)
             (ap putByIn (t .kept .of-waiting i h) ∙ q .1)
-            (subst (λ (x : ℕ). ComplementIs table pattern bytes x left parts stack (putByIn (getD stack (255 - i) 0)) m o left′ parts′ stack′)
+            (subst (λ (x : ℕ). ComplementIs table classes pattern bytes x left parts stack (putByIn (getD stack (255 - i) 0)) m o left′ parts′ stack′)
             (t .same-mask) c) in
             is .replies (s .parts) (start-holds d (restored (t .kept) e) (k .0)) n l
 
         module _ (p : Place) (s : State) (e : Ends p s) where
           stop : (n : ℕ) → levels pattern (length pattern) ≤ suc n → found o ≡ false → (cs : List PutBy) → Queued stack₀ i (m .waiting) cs
               → Insides (length pattern) (length bytes) (p .at) m cs
-              → replyOf o left′ assigned parts′ ≡ complementsOf (levelOf n table bytes) pattern (s .parts) cs left
+              → replyOf o left′ assigned parts′ ≡ complementsOf (levelOf n table classes bytes) pattern (s .parts) cs left
           stop n l f [] q k = absurd (omega (arith, q))
           stop n l f (d ∷ cs) q k =
-              complements-stop (levelOf n table bytes) pattern (s .parts) d cs left left′ o (told p s e d cs q k n l) assigned parts′ f
+              complements-stop (levelOf n table classes bytes) pattern (s .parts) d cs left left′ o (told p s e d cs q k n l) assigned parts′ f
 
           on : found o ≡ true → (cs : List PutBy) → Queued stack₀ i (m .waiting) cs → Insides (length pattern) (length bytes) (p .at) m cs
               → ((n : ℕ) → levels pattern (length pattern) ≤ suc n
-              → complementsOf (levelOf n table bytes) pattern (s .parts) (s .waiting) allowance ≡ complementsOf (levelOf n table bytes) pattern (s .parts) cs left)
+              → complementsOf (levelOf n table classes bytes) pattern (s .parts) (s .waiting) allowance ≡ complementsOf (levelOf n table classes bytes) pattern (s .parts) cs left)
               → Remains left′ (i + 1) p s
           on f [] q k same = absurd (omega (arith, q))
           on f (d ∷ cs) q k same = record {
             rest = cs;
             queued = let z : suc i ≡ i + 1 = omega arith in subst (λ (x : ℕ). Queued stack₀ x (m .waiting) cs) z (q .2);
             insides = k .1;
-            same = λ n l. same n l ∙ complements-on (levelOf n table bytes) pattern (s .parts) d cs left left′ o (told p s e d cs q k n l) f;
+            same = λ n l. same n l ∙ complements-on (levelOf n table classes bytes) pattern (s .parts) d cs left left′ o (told p s e d cs q k n l) f;
           }
 
-        pub test-stop : found o ≡ false → ComplementsAre table pattern bytes assigned allowance parts₀ stack₀ m o assigned left′ parts′ stack′
+        pub test-stop : found o ≡ false → ComplementsAre table classes pattern bytes assigned allowance parts₀ stack₀ m o assigned left′ parts′ stack′
         test-stop f = record {
           replies = λ p s e n l. let q = t .remains p s e in stop p s e n l f (q .rest) (q .queued) (q .insides) ∙ sym (q .same n l);
           kept = test-kept;
@@ -519,16 +521,16 @@ module _ (table pattern bytes : List ℕ) (assigned allowance : ℕ) (parts₀ s
 
 -- The whole search
 
-module _ (table pattern bytes : List ℕ) (allowance : ℕ) where
-  pub search-over : leb (length pattern) 256 && leb (length bytes) 4096 ≡ false → failedAt allowance ≡ searchOf table pattern bytes allowance
+module _ (table classes pattern bytes : List ℕ) (allowance : ℕ) where
+  pub search-over : leb (length pattern) 256 && leb (length bytes) longestRecord ≡ false → failedAt allowance ≡ searchOf table classes pattern bytes allowance
   unfolding searchOf
   search-over h = rw h
 
   pub search-within : (parts stack : List ℕ) {o : Outcome} {assigned left : ℕ} {parts′ stack′ : List ℕ}
-      → length pattern ≤ 256 → length bytes ≤ 4096 → Sized parts stack
-      → RestIs table pattern bytes 0 allowance parts stack (marks 0 0 0 0) (place 1 1 0 0) o assigned left parts′ stack′
-      → replyOf o left assigned parts′ ≡ searchOf table pattern bytes allowance
+      → length pattern ≤ 256 → length bytes ≤ longestRecord → Sized parts stack
+      → RestIs table classes pattern bytes 0 allowance parts stack (marks 0 0 0 0) (place 1 1 0 0) o assigned left parts′ stack′
+      → replyOf o left assigned parts′ ≡ searchOf table classes pattern bytes allowance
   unfolding searchOf
   search-within parts stack h k z r =
-      rw (le-leb (length pattern) 256 h, le-leb (length bytes) 4096 k)
-      (r .replies (startOf (replicate 48 absent) 0) (first-holds (length pattern) (length bytes) parts stack h z) (levels pattern 0) (omega arith))
+      rw (le-leb (length pattern) 256 h, le-leb (length bytes) longestRecord k)
+      (r .replies (startOf (replicate variables absent) 0) (first-holds (length pattern) (length bytes) parts stack h z) (levels pattern 0) (omega arith))

@@ -9,13 +9,14 @@ use lib.Bits.{bitOr, or-step, or-shr}
 use lib.Dec.{eqb, ltb}
 use lib.Pow.{pow-pos, pow-mono, pow-lt, pow-add, shl-shr, shr-lt, split, field, mod-mod-pow}
 use borrow.Author.Tests.{eqb-true, eqb-false, ltb-true, ltb-false, eq-eqb}
+use Rattle.term.specs.Code.{variables}
 use Rattle.term.specs.Part.{part, boundPart}
-use Rattle.search.specs.Memory.{bit, packed, unpacked, frameIn, outer, putByIn}
+use Rattle.search.specs.Inner.Memory.{bit, packed, unpacked, frameIn, outer, putByIn}
 use Rattle.search.specs.State.{frame, putBy}
 
 -- The mask
 
-pub power-fits : (v : ℕ) → v ≤ 48 → 1 * 2 ^ v % 18446744073709551616 ≡ 2 ^ v
+pub power-fits : (v : ℕ) → v ≤ variables → 1 * 2 ^ v % 18446744073709551616 ≡ 2 ^ v
 power-fits v h = by (2 ^ v) (pow-lt h′)
   where
     h′ : v < 64

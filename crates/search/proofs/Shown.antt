@@ -10,12 +10,14 @@ use lib.ListN.{length, getD, drop, set, replicate, length-set, getD-replicate}
 use lib.Seq.{getD-set-same, getD-set-other, set-append-left, drop-at, paste, paste-zero, paste-suc}
 use lib.Dec.{leb, eqb}
 use borrow.Author.Tests.{lt-ltb, le-ltb, eqb-true, eqb-false}
-use Rattle.term.specs.Part.{part, absent}
+use Rattle.term.specs.Limits.{longestRecord}
+use Rattle.term.specs.Code.{variables}
+use Rattle.term.specs.Part.{nowhere, part, absent}
 use Rattle.term.specs.declared.Part.{Part}
 use Rattle.search.specs.Level.{Reply, endOf, searchOf}
-use Rattle.search.specs.Shown.{numbers, shownBy, shownIn}
-use Rattle.search.specs.Memory.{partIn}
-use Rattle.search.specs.Replies.{found, partsIn, replyOf}
+use Rattle.search.specs.Shown.{answerWidth, numbers, shownBy, shownIn}
+use Rattle.search.specs.Inner.Memory.{partIn}
+use Rattle.search.specs.Inner.Replies.{found, partsIn, replyOf}
 use Rattle.search.specs.declared.Ended.{Ended}
 use Rattle.search.specs.declared.Outcome.{Outcome}
 use Rattle.search.specs.declared.Outcome.the-variants.{Found, Failed, Spent}
@@ -76,11 +78,11 @@ module _ (assigned : ℕ) (parts : List ℕ) where
 -- absent marks for all
 
 abbrev marks : List ℕ
-marks = numbers (replicate 48 absent)
+marks = numbers (replicate variables absent)
 
 -- the first i pairs are absent marks
 pub record Clearing (before b : List ℕ) (i : ℕ) : Type 0 where
-  pub few : i ≤ 48
+  pub few : i ≤ variables
   pub long : length b ≡ length before
   pub pairs : b ≡ paste before 0 marks (2 * i)
 
@@ -88,114 +90,114 @@ pub clear-first : (before : List ℕ) → Clearing before before 0
 clear-first before = record { few = omega arith; long = refl; pairs = paste-zero before 0 marks }
 
 module _ (before : List ℕ) where
-  mark-written : 96 ≤ length before → (n m : ℕ) → n < 96 → m ≡ getD marks n 0 → set (paste before 0 marks n) n m ≡ paste before 0 marks (suc n)
+  mark-written : answerWidth ≤ length before → (n m : ℕ) → n < answerWidth → m ≡ getD marks n 0 → set (paste before 0 marks n) n m ≡ paste before 0 marks (suc n)
   mark-written wide n m h e =
       let z : n ≡ 0 + n = omega arith in
       ap₂ (λ (k x : ℕ). set (paste before 0 marks n) k x) z e ∙ paste-suc before 0 marks n 0 (omega arith) (omega arith)
 
   module _ {b : List ℕ} {i : ℕ} (t : Clearing before b i) where
-    pub clear-next : 96 ≤ length before → i < 48 → Clearing before (set (set b (2 * i) 65535) (2 * i + 1) 0) (i + 1)
+    pub clear-next : answerWidth ≤ length before → i < variables → Clearing before (set (set b (2 * i) nowhere) (2 * i + 1) 0) (i + 1)
     clear-next wide h = record {
       few = omega arith;
-      long = length-set (set b (2 * i) 65535) (2 * i + 1) 0 ∙ length-set b (2 * i) 65535 ∙ t .long;
-      pairs = ap (λ (l : List ℕ). set (set l (2 * i) 65535) (2 * i + 1) 0) (t .pairs)
+      long = length-set (set b (2 * i) nowhere) (2 * i + 1) 0 ∙ length-set b (2 * i) nowhere ∙ t .long;
+      pairs = ap (λ (l : List ℕ). set (set l (2 * i) nowhere) (2 * i + 1) 0) (t .pairs)
           ∙ ap (λ (l : List ℕ). set l (2 * i + 1) 0) (first ∙ ap (paste before 0 marks) (sym (add-one (2 * i))))
           ∙ second ∙ ap (paste before 0 marks) last;
     }
       where
-        here : getD (replicate 48 absent) i (part 0 0 0) ≡ absent
-        here = getD-replicate 48 i absent (part 0 0 0) h
+        here : getD (replicate variables absent) i (part 0 0 0) ≡ absent
+        here = getD-replicate variables i absent (part 0 0 0) h
 
-        first : set (paste before 0 marks (2 * i)) (2 * i) 65535 ≡ paste before 0 marks (suc (2 * i))
-        first = mark-written wide (2 * i) 65535 (omega arith) (ap (λ (q : Part). q .offset) (sym here) ∙ sym (numbers-offset (replicate 48 absent) i h))
+        first : set (paste before 0 marks (2 * i)) (2 * i) nowhere ≡ paste before 0 marks (suc (2 * i))
+        first = mark-written wide (2 * i) nowhere (omega arith) (ap (λ (q : Part). q .offset) (sym here) ∙ sym (numbers-offset (replicate variables absent) i h))
 
         second : set (paste before 0 marks (2 * i + 1)) (2 * i + 1) 0 ≡ paste before 0 marks (suc (2 * i + 1))
-        second = mark-written wide (2 * i + 1) 0 (omega arith) (ap (λ (q : Part). q .length) (sym here) ∙ sym (numbers-size (replicate 48 absent) i h))
+        second = mark-written wide (2 * i + 1) 0 (omega arith) (ap (λ (q : Part). q .length) (sym here) ∙ sym (numbers-size (replicate variables absent) i h))
 
         last : suc (2 * i + 1) ≡ 2 * (i + 1)
         last = omega arith
 
-    pub clear-end : 48 ≤ i → b ≡ marks ++ drop 96 before
-    clear-end h = let z : 2 * i ≡ 96 = omega (arith, t .few) in t .pairs ∙ ap (paste before 0 marks) z
+    pub clear-end : variables ≤ i → b ≡ marks ++ drop answerWidth before
+    clear-end h = let z : 2 * i ≡ answerWidth = omega (arith, t .few) in t .pairs ∙ ap (paste before 0 marks) z
 
 -- what a mask shows
 
 module _ (parts : List ℕ) (a : ℕ) where
-  none-shown : replicate 48 absent ≡ partsIn (a % 2 ^ 0) parts 0 48
-  none-shown = parts-shown (a % 2 ^ 0) parts 0 48 (replicate 48 absent) refl at
+  none-shown : replicate variables absent ≡ partsIn (a % 2 ^ 0) parts 0 variables
+  none-shown = parts-shown (a % 2 ^ 0) parts 0 variables (replicate variables absent) refl at
     where
-      at : (v : ℕ) → v < 48 → getD (replicate 48 absent) v (part 0 0 0) ≡ partIn (a % 2 ^ 0) parts (0 + v)
-      at v h = getD-replicate 48 v absent (part 0 0 0) h ∙ rw (bit-past a 0 (0 + v) (omega arith))
+      at : (v : ℕ) → v < variables → getD (replicate variables absent) v (part 0 0 0) ≡ partIn (a % 2 ^ 0) parts (0 + v)
+      at v h = getD-replicate variables v absent (part 0 0 0) h ∙ rw (bit-past a 0 (0 + v) (omega arith))
 
-  all-shown : partsIn (a % 2 ^ 48) parts 0 48 ≡ partsIn a parts 0 48
-  all-shown = parts-shown a parts 0 48 (partsIn (a % 2 ^ 48) parts 0 48) (parts-length (a % 2 ^ 48) parts 0 48) at
+  all-shown : partsIn (a % 2 ^ variables) parts 0 variables ≡ partsIn a parts 0 variables
+  all-shown = parts-shown a parts 0 variables (partsIn (a % 2 ^ variables) parts 0 variables) (parts-length (a % 2 ^ variables) parts 0 variables) at
     where
-      at : (v : ℕ) → v < 48 → getD (partsIn (a % 2 ^ 48) parts 0 48) v (part 0 0 0) ≡ partIn a parts (0 + v)
-      at v h = parts-from (a % 2 ^ 48) parts 0 48 v h ∙ rw (bit-below a 48 (0 + v) (omega arith))
+      at : (v : ℕ) → v < variables → getD (partsIn (a % 2 ^ variables) parts 0 variables) v (part 0 0 0) ≡ partIn a parts (0 + v)
+      at v h = parts-from (a % 2 ^ variables) parts 0 variables v h ∙ rw (bit-below a variables (0 + v) (omega arith))
 
-  next-part : (i : ℕ) → i < 48 → set (partsIn (a % 2 ^ i) parts 0 48) i (partIn a parts i) ≡ partsIn (a % 2 ^ (i + 1)) parts 0 48
+  next-part : (i : ℕ) → i < variables → set (partsIn (a % 2 ^ i) parts 0 variables) i (partIn a parts i) ≡ partsIn (a % 2 ^ (i + 1)) parts 0 variables
   next-part i low =
-      parts-shown (a % 2 ^ (i + 1)) parts 0 48 (set (partsIn (a % 2 ^ i) parts 0 48) i (partIn a parts i))
-      (length-set (partsIn (a % 2 ^ i) parts 0 48) i (partIn a parts i) ∙ parts-length (a % 2 ^ i) parts 0 48) (λ v h. at v h (eqb v i) refl)
+      parts-shown (a % 2 ^ (i + 1)) parts 0 variables (set (partsIn (a % 2 ^ i) parts 0 variables) i (partIn a parts i))
+      (length-set (partsIn (a % 2 ^ i) parts 0 variables) i (partIn a parts i) ∙ parts-length (a % 2 ^ i) parts 0 variables) (λ v h. at v h (eqb v i) refl)
     where
-      at : (v : ℕ) → v < 48 → (b : Bool) → eqb v i ≡ b
-          → getD (set (partsIn (a % 2 ^ i) parts 0 48) i (partIn a parts i)) v (part 0 0 0) ≡ partIn (a % 2 ^ (i + 1)) parts (0 + v)
+      at : (v : ℕ) → v < variables → (b : Bool) → eqb v i ≡ b
+          → getD (set (partsIn (a % 2 ^ i) parts 0 variables) i (partIn a parts i)) v (part 0 0 0) ≡ partIn (a % 2 ^ (i + 1)) parts (0 + v)
       at v h true e =
           let z : v ≡ i = eqb-true v i e in
           let y : 0 + v ≡ i = omega arith in
           rw (y, z, bit-below a (i + 1) i (omega arith))
-          (getD-set-same (partsIn (a % 2 ^ i) parts 0 48) i (partIn a parts i) (part 0 0 0) (omega (arith, parts-length (a % 2 ^ i) parts 0 48)))
+          (getD-set-same (partsIn (a % 2 ^ i) parts 0 variables) i (partIn a parts i) (part 0 0 0) (omega (arith, parts-length (a % 2 ^ i) parts 0 variables)))
       at v h false e =
           let z : 0 + v ≡ v = omega arith in
-          getD-set-other (partsIn (a % 2 ^ i) parts 0 48) i v (partIn a parts i) (part 0 0 0) (eqb-false v i e) ∙ parts-from (a % 2 ^ i) parts 0 48 v h
+          getD-set-other (partsIn (a % 2 ^ i) parts 0 variables) i v (partIn a parts i) (part 0 0 0) (eqb-false v i e) ∙ parts-from (a % 2 ^ i) parts 0 variables v h
           ∙ rw (z, bit-next a i v (eqb-false v i e))
 
 -- the buffer shows the variables of the mask below i
 pub record Showing (parts : List ℕ) (a : ℕ) (before b : List ℕ) (i : ℕ) : Type 0 where
-  pub few : i ≤ 48
+  pub few : i ≤ variables
   pub long : length b ≡ length before
-  pub pairs : b ≡ numbers (partsIn (a % 2 ^ i) parts 0 48) ++ drop 96 before
+  pub pairs : b ≡ numbers (partsIn (a % 2 ^ i) parts 0 variables) ++ drop answerWidth before
 
 module _ (parts : List ℕ) (a : ℕ) (before : List ℕ) {b : List ℕ} {i : ℕ} (t : Showing parts a before b i) where
-  pub show-next : i < 48 → (k x y : ℕ) → k ≡ i → x ≡ partIn a parts i .offset → y ≡ partIn a parts i .length
+  pub show-next : i < variables → (k x y : ℕ) → k ≡ i → x ≡ partIn a parts i .offset → y ≡ partIn a parts i .length
       → Showing parts a before (set (set b (2 * k) x) (2 * k + 1) y) (i + 1)
   show-next h k x y e f g = record {
     few = omega arith;
     long = length-set (set b (2 * k) x) (2 * k + 1) y ∙ length-set b (2 * k) x ∙ t .long;
     pairs = rw (e, f, g, t .pairs)
-        (pair-shown (partsIn (a % 2 ^ i) parts 0 48) (drop 96 before) i (partIn a parts i) (omega (arith, parts-length (a % 2 ^ i) parts 0 48))
-        ∙ ap (λ (l : List Part). numbers l ++ drop 96 before) (next-part parts a i h));
+        (pair-shown (partsIn (a % 2 ^ i) parts 0 variables) (drop answerWidth before) i (partIn a parts i) (omega (arith, parts-length (a % 2 ^ i) parts 0 variables))
+        ∙ ap (λ (l : List Part). numbers l ++ drop answerWidth before) (next-part parts a i h));
   }
 
-  pub show-end : a / 2 ^ i ≡ 0 → b ≡ numbers (partsIn a parts 0 48) ++ drop 96 before
-  show-end e = t .pairs ∙ ap (λ (m : ℕ). numbers (partsIn m parts 0 48) ++ drop 96 before) (whole a i e)
+  pub show-end : a / 2 ^ i ≡ 0 → b ≡ numbers (partsIn a parts 0 variables) ++ drop answerWidth before
+  show-end e = t .pairs ∙ ap (λ (m : ℕ). numbers (partsIn m parts 0 variables) ++ drop answerWidth before) (whole a i e)
 
 -- a buffer that shows some parts shows the same parts, and the rest of it stays
-module _ (ps : List Part) (all : length ps ≡ 48) (before b : List ℕ) (e : b ≡ numbers ps ++ drop 96 before) where
-  rest-stays : drop 96 b ≡ drop 96 before
-  rest-stays = ap (drop 96) e ∙ drop-at (numbers ps) (drop 96 before) 96 (omega (arith, numbers-length ps))
+module _ (ps : List Part) (all : length ps ≡ variables) (before b : List ℕ) (e : b ≡ numbers ps ++ drop answerWidth before) where
+  rest-stays : drop answerWidth b ≡ drop answerWidth before
+  rest-stays = ap (drop answerWidth) e ∙ drop-at (numbers ps) (drop answerWidth before) answerWidth (omega (arith, numbers-length ps))
 
-  shown-same : (qs : List Part) → ps ≡ qs → b ≡ numbers qs ++ drop 96 b
+  shown-same : (qs : List Part) → ps ≡ qs → b ≡ numbers qs ++ drop answerWidth b
   shown-same qs h = e ∙ ap₂ (λ (l : List Part) (r : List ℕ). numbers l ++ r) h (sym rest-stays)
 
 -- absent marks, then the variables of the mask m, then those of the mask n
-module _ (parts before cleared : List ℕ) (e : cleared ≡ marks ++ drop 96 before) where
-  pub first-next : (m : ℕ) → cleared ≡ numbers (partsIn (m % 2 ^ 0) parts 0 48) ++ drop 96 cleared
-  first-next m = shown-same (replicate 48 absent) refl before cleared e (partsIn (m % 2 ^ 0) parts 0 48) (none-shown parts m)
+module _ (parts before cleared : List ℕ) (e : cleared ≡ marks ++ drop answerWidth before) where
+  pub first-next : (m : ℕ) → cleared ≡ numbers (partsIn (m % 2 ^ 0) parts 0 variables) ++ drop answerWidth cleared
+  first-next m = shown-same (replicate variables absent) refl before cleared e (partsIn (m % 2 ^ 0) parts 0 variables) (none-shown parts m)
 
-  module _ (m n : ℕ) (named : List ℕ) (f : named ≡ numbers (partsIn m parts 0 48) ++ drop 96 cleared) where
-    pub second-next : m ≡ n % 2 ^ 32 → named ≡ numbers (partsIn (n % 2 ^ 32) parts 0 48) ++ drop 96 named
+  module _ (m n : ℕ) (named : List ℕ) (f : named ≡ numbers (partsIn m parts 0 variables) ++ drop answerWidth cleared) where
+    pub second-next : m ≡ n % 2 ^ 32 → named ≡ numbers (partsIn (n % 2 ^ 32) parts 0 variables) ++ drop answerWidth named
     second-next h =
-        shown-same (partsIn m parts 0 48) (parts-length m parts 0 48) cleared named f (partsIn (n % 2 ^ 32) parts 0 48)
-        (ap (λ (k : ℕ). partsIn k parts 0 48) h)
+        shown-same (partsIn m parts 0 variables) (parts-length m parts 0 variables) cleared named f (partsIn (n % 2 ^ 32) parts 0 variables)
+        (ap (λ (k : ℕ). partsIn k parts 0 variables) h)
 
-    pub both-shown : (o : Outcome) (a : ℕ) (b : List ℕ) → found o ≡ true → 96 ≤ length before → n ≡ a % 2 ^ 48
-        → b ≡ numbers (partsIn n parts 0 48) ++ drop 96 named → b ≡ shownBy o (partsIn a parts 0 48) before
+    pub both-shown : (o : Outcome) (a : ℕ) (b : List ℕ) → found o ≡ true → answerWidth ≤ length before → n ≡ a % 2 ^ variables
+        → b ≡ numbers (partsIn n parts 0 variables) ++ drop answerWidth named → b ≡ shownBy o (partsIn a parts 0 variables) before
     unfolding shownBy
     both-shown Found a b h wide all g =
-        g ∙ ap₂ (λ (l : List Part) (r : List ℕ). numbers l ++ r) (ap (λ (k : ℕ). partsIn k parts 0 48) all ∙ all-shown parts a)
-        (rest-stays (partsIn m parts 0 48) (parts-length m parts 0 48) cleared named f ∙ rest-stays (replicate 48 absent) refl before cleared e)
-        ∙ rw (le-ltb (length before) 96 wide)
+        g ∙ ap₂ (λ (l : List Part) (r : List ℕ). numbers l ++ r) (ap (λ (k : ℕ). partsIn k parts 0 variables) all ∙ all-shown parts a)
+        (rest-stays (partsIn m parts 0 variables) (parts-length m parts 0 variables) cleared named f ∙ rest-stays (replicate variables absent) refl before cleared e)
+        ∙ rw (le-ltb (length before) answerWidth wide)
     both-shown Failed a b h wide all g = absurd (true≢false (sym h))
     both-shown Spent a b h wide all g = absurd (true≢false (sym h))
 
@@ -207,9 +209,9 @@ other-unshown Found ps before h = absurd (true≢false h)
 other-unshown Failed ps before h = refl
 other-unshown Spent ps before h = refl
 
-pub narrow-unshown : (o : Outcome) (ps : List Part) (before : List ℕ) → length before < 96 → before ≡ shownBy o ps before
+pub narrow-unshown : (o : Outcome) (ps : List Part) (before : List ℕ) → length before < answerWidth → before ≡ shownBy o ps before
 unfolding shownBy
-narrow-unshown Found ps before h = rw (lt-ltb (length before) 96 h) refl
+narrow-unshown Found ps before h = rw (lt-ltb (length before) answerWidth h) refl
 narrow-unshown Failed ps before h = refl
 narrow-unshown Spent ps before h = refl
 
@@ -218,19 +220,19 @@ narrow-unshown Spent ps before h = refl
 abbrev ended : Outcome → ℕ → Ended
 ended o left = record { outcome = o; left = left }
 
-module _ (table pattern bytes before : List ℕ) (allowance : ℕ) where
+module _ (table classes pattern bytes before : List ℕ) (allowance : ℕ) where
   -- what it ends with, and what the buffer then shows
   abbrev pub Shows : Ended → List ℕ → Type 0
-  Shows e after = (e ≡ endOf (searchOf table pattern bytes allowance)) × (after ≡ shownIn (searchOf table pattern bytes allowance) before)
+  Shows e after = (e ≡ endOf (searchOf table classes pattern bytes allowance)) × (after ≡ shownIn (searchOf table classes pattern bytes allowance) before)
 
-  pub over-shows : leb (length pattern) 256 && leb (length bytes) 4096 ≡ false → Shows (ended Failed allowance) before
+  pub over-shows : leb (length pattern) 256 && leb (length bytes) longestRecord ≡ false → Shows (ended Failed allowance) before
   unfolding shownBy
   over-shows h =
-      let z = search-over table pattern bytes allowance h in
+      let z = search-over table classes pattern bytes allowance h in
       (ap endOf z, ap (λ (r : Reply). shownIn r before) z)
 
-  pub within-shows : (o : Outcome) (left assigned : ℕ) (parts after : List ℕ) → after ≡ shownBy o (partsIn assigned parts 0 48) before
-      → replyOf o left assigned parts ≡ searchOf table pattern bytes allowance → Shows (ended o left) after
+  pub within-shows : (o : Outcome) (left assigned : ℕ) (parts after : List ℕ) → after ≡ shownBy o (partsIn assigned parts 0 variables) before
+      → replyOf o left assigned parts ≡ searchOf table classes pattern bytes allowance → Shows (ended o left) after
   unfolding shownBy
   within-shows Found left assigned parts after s z = (ap endOf z, s ∙ ap (λ (r : Reply). shownIn r before) z)
   within-shows Failed left assigned parts after s z = (ap endOf z, s ∙ ap (λ (r : Reply). shownIn r before) z)

@@ -2,13 +2,14 @@
 -- Assumes nothing.
 use Prim.Native.Nat.{ℕ, _-_, _<_, _≤_}
 use native.Mathlib.Nat.{le-of-eq}
-use mathlib.Core.Bool.{Bool, false, _&&_}
+use mathlib.Core.Bool.{Bool, true, false, _&&_}
 use mathlib.Core.List.{List}
 use mathlib.Core.Path.{_≡_, ap, _∙_}
 use lib.Dec.{leb, eqb}
 use lib.ListN.{length, getD, drop, take, length-drop}
 use lib.Seq.{take-all}
 use borrow.Author.Tests.{lt-ltb, le-leb, lt-leb, eq-eqb, ne-eqb}
+use Rattle.term.specs.Same.{sameByte}
 use Rattle.term.specs.Code.{decodeOf}
 use Rattle.term.specs.Extent.{entryOf}
 use Rattle.term.specs.declared.Code.{Code}
@@ -27,37 +28,37 @@ rest-length a l = ap length (rest-drop a l) ∙ length-drop a l
 
 -- the cases of a step
 
-module _ (table q r : List ℕ) (b : ℕ) (same : b ≡ getD r 0 0) (e : ℕ) (entry : e ≡ entryOf table b) where
-  pub symbol-leaf : e ≡ 0 → Passes 1 1 ≡ symbolStep table q r b
+module _ (table classes q r : List ℕ) (b : ℕ) (same : sameByte classes false b (getD r 0 0) ≡ true) (e : ℕ) (entry : e ≡ entryOf table b) where
+  pub symbol-leaf : e ≡ 0 → Passes 1 1 ≡ symbolStep table classes q r b
   unfolding symbolStep
-  symbol-leaf z = rw (← entry, eq-eqb b (getD r 0 0) same, eq-eqb e 0 z)
+  symbol-leaf z = rw (← entry, same, eq-eqb e 0 z)
 
-  pub symbol-fixed : (e ≡ 0 → ⊥) → (e ≡ 255 → ⊥) → Opens e e 1 ≡ symbolStep table q r b
+  pub symbol-fixed : (e ≡ 0 → ⊥) → (e ≡ 255 → ⊥) → Opens e e 1 ≡ symbolStep table classes q r b
   unfolding symbolStep
-  symbol-fixed z n = rw (← entry, eq-eqb b (getD r 0 0) same, ne-eqb e 0 z, ne-eqb e 255 n)
+  symbol-fixed z n = rw (← entry, same, ne-eqb e 0 z, ne-eqb e 255 n)
 
-  pub symbol-list : (e ≡ 0 → ⊥) → e ≡ 255 → 2 ≤ length q → 2 ≤ length r → Opens (getD q 1 0) (getD r 1 0) 2 ≡ symbolStep table q r b
+  pub symbol-list : (e ≡ 0 → ⊥) → e ≡ 255 → 2 ≤ length q → 2 ≤ length r → Opens (getD q 1 0) (getD r 1 0) 2 ≡ symbolStep table classes q r b
   unfolding symbolStep
   symbol-list z n i j =
-      rw (← entry, eq-eqb b (getD r 0 0) same, ne-eqb e 0 z, eq-eqb e 255 n, le-leb 2 (length q) i, le-leb 2 (length r) j)
+      rw (← entry, same, ne-eqb e 0 z, eq-eqb e 255 n, le-leb 2 (length q) i, le-leb 2 (length r) j)
 
-  pub symbol-short : (e ≡ 0 → ⊥) → e ≡ 255 → leb 2 (length q) && leb 2 (length r) ≡ false → Fails ≡ symbolStep table q r b
+  pub symbol-short : (e ≡ 0 → ⊥) → e ≡ 255 → leb 2 (length q) && leb 2 (length r) ≡ false → Fails ≡ symbolStep table classes q r b
   unfolding symbolStep
-  symbol-short z n i = rw (← entry, eq-eqb b (getD r 0 0) same, ne-eqb e 0 z, eq-eqb e 255 n, i)
+  symbol-short z n i = rw (← entry, same, ne-eqb e 0 z, eq-eqb e 255 n, i)
 
-pub plain-pair : (outermost : Bool) (c : Code) (table pattern bytes : List ℕ) (had : Part) (p : Place) (left : ℕ) (x : Step)
+pub plain-pair : (outermost : Bool) (c : Code) (table classes pattern bytes : List ℕ) (had : Part) (p : Place) (left : ℕ) (x : Step)
     → (p .elements ≡ 0 → ⊥) → p .node < length bytes → (left ≡ 0 → ⊥)
-    → x ≡ pairStep (outermost && eqb (p .children) 1) c table bytes (take (length pattern - p .at) (drop (p .at) pattern))
+    → x ≡ pairStep (outermost && eqb (p .children) 1) c table classes bytes (take (length pattern - p .at) (drop (p .at) pattern))
     (take (length bytes - p .node) (drop (p .node) bytes)) had (p .elements)
-    → x ≡ plainStep outermost c table pattern bytes had p left
+    → x ≡ plainStep outermost c table classes pattern bytes had p left
 unfolding plainStep
-plain-pair outermost c table pattern bytes had p left x e n l h =
+plain-pair outermost c table classes pattern bytes had p left x e n l h =
     rw (ne-eqb (p .elements) 0 e, lt-leb (length bytes) (p .node) n, ne-eqb left 0 l)
     (h ∙ rw (rest-drop (p .at) pattern, rest-drop (p .node) bytes))
 
-pub step-at : (outermost : Bool) (table pattern bytes : List ℕ) (part : ℕ → Part) (p : Place) (left : ℕ) (c : Code) (x : Step)
+pub step-at : (outermost : Bool) (table classes pattern bytes : List ℕ) (part : ℕ → Part) (p : Place) (left : ℕ) (c : Code) (x : Step)
     → (p .children ≡ 0 → ⊥) → p .at < length pattern → c ≡ decodeOf (getD pattern (p .at) 0)
-    → x ≡ codeStep outermost c table pattern bytes (part (variableOf c)) p left
-    → x ≡ stepOf outermost table pattern bytes (part (variableAt pattern (p .at))) p left
+    → x ≡ codeStep outermost c table classes pattern bytes (part (variableOf c)) p left
+    → x ≡ stepOf outermost table classes pattern bytes (part (variableAt pattern (p .at))) p left
 unfolding stepOf variableAt
-step-at outermost table pattern bytes part p left c x n a e h = rw (ne-eqb (p .children) 0 n, lt-ltb (p .at) (length pattern) a, ← e) h
+step-at outermost table classes pattern bytes part p left c x n a e h = rw (ne-eqb (p .children) 0 n, lt-ltb (p .at) (length pattern) a, ← e) h

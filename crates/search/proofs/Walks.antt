@@ -10,11 +10,12 @@ use lib.Bits.{bitOr}
 use lib.Dec.{eqb}
 use lib.ListN.{length, getD, set}
 use borrow.Author.Tests.{eqb-false}
+use Rattle.term.specs.Code.{variables}
 use Rattle.term.specs.Part.{isAbsent, boundPart}
 use Rattle.term.specs.declared.Part.{Part}
-use Rattle.search.specs.Bounds.{Short, StopsAt, Unassigned, reached, WalkIs}
-use Rattle.search.specs.Memory.{bit, packed, partIn, frameIn, outer, openedMarks, closedMarks, Linked, putByIn, putByMarks, Holds, Kept}
-use Rattle.search.specs.State.{Frame, PutBy, State, frame, putBy, state, partAt, passed, entered, reopened, alone, closedBy, variableAt, stepOf, walked, nextOf, walkOf}
+use Rattle.search.specs.Inner.Bounds.{Short, StopsAt, Unassigned, reached, WalkIs}
+use Rattle.search.specs.Inner.Memory.{bit, packed, partIn, frameIn, outer, openedMarks, closedMarks, Linked, putByIn, putByMarks, Holds, Kept}
+use Rattle.search.specs.State.{turns, Frame, PutBy, State, frame, putBy, state, partAt, passed, entered, reopened, alone, closedBy, variableAt, stepOf, walked, nextOf, walkOf}
 use Rattle.search.specs.declared.Marks.{Marks}
 use Rattle.search.specs.declared.Place.{Place}
 use Rattle.search.specs.declared.Step.the-variants.{Stops, Fails, Closes, Opens, Passes, Binds, PutsBy}
@@ -37,16 +38,16 @@ popped : (stack : List ℕ) (inner : ℕ) (fs : List Frame) → (inner ≡ 0 →
 popped stack inner [] n h = absurd (n h)
 popped stack inner (f ∷ fs) n h = record { rest = fs; is = ap (λ (g : Frame). g ∷ fs) (sym (h .1)); less = h .2; linked = h .3 }
 
-module _ (table pattern bytes : List ℕ) where
+module _ (table classes pattern bytes : List ℕ) where
   pub walk-suc : (n : ℕ) (s : State) (left : ℕ) → 0 < n
-      → walkOf n table pattern bytes s left
-      ≡ nextOf (stepOf (alone (s .frames)) table pattern bytes (partAt s (variableAt pattern (s .place .at))) (s .place) left)
-      (walkOf (n - 1) table pattern bytes) s left
+      → walkOf n table classes pattern bytes s left
+      ≡ nextOf (stepOf (alone (s .frames)) table classes pattern bytes (partAt s (variableAt pattern (s .place .at))) (s .place) left)
+      (walkOf (n - 1) table classes pattern bytes) s left
   unfolding walkOf
   walk-suc zero s left h = absurd (omega arith)
   walk-suc (suc n) s left h = let z : suc n - 1 ≡ n = omega arith in rw z
 
-module _ (table pattern bytes : List ℕ) (assigned₀ left₀ : ℕ) (parts₀ stack₀ : List ℕ) (m₀ : Marks) (p₀ : Place) (s₀ : State) where
+module _ (table classes pattern bytes : List ℕ) (assigned₀ left₀ : ℕ) (parts₀ stack₀ : List ℕ) (m₀ : Marks) (p₀ : Place) (s₀ : State) where
   -- the walk from the state s₀ is the walk from the one that the buffers hold now
   pub record Walking (parts stack : List ℕ) (p : Place) (m : Marks) (assigned left : ℕ) : Type 0 where
     pub values : List Part
@@ -55,7 +56,7 @@ module _ (table pattern bytes : List ℕ) (assigned₀ left₀ : ℕ) (parts₀ 
     pub holds : Holds (length pattern) (length bytes) assigned parts stack m p (state values nodes put-by p)
     pub room : ℕ
     pub enough : 2 * (length pattern - p .at) + length nodes < room
-    pub same : walkOf 1024 table pattern bytes s₀ left₀ ≡ walkOf room table pattern bytes (state values nodes put-by p) left
+    pub same : walkOf turns table classes pattern bytes s₀ left₀ ≡ walkOf room table classes pattern bytes (state values nodes put-by p) left
     pub kept : Kept assigned₀ m₀ parts₀ stack₀ parts stack
     pub still : (v : ℕ) → bit assigned₀ v ≡ true → bit assigned v ≡ true
     pub more-frames : m₀ .frames ≤ m .frames
@@ -70,9 +71,9 @@ module _ (table pattern bytes : List ℕ) (assigned₀ left₀ : ℕ) (parts₀ 
     nodes = s₀ .frames;
     put-by = s₀ .waiting;
     holds = subst (Holds (length pattern) (length bytes) assigned₀ parts₀ stack₀ m₀ p₀) is h;
-    room = 1024;
+    room = turns;
     enough = omega (arith, linked-length stack₀ (m₀ .inner) (s₀ .frames) (h .linked), h .innermost, h .room, short .of-pattern);
-    same = ap (λ (s : State). walkOf 1024 table pattern bytes s left₀) is;
+    same = ap (λ (s : State). walkOf turns table classes pattern bytes s left₀) is;
     kept = record { of-parts = λ v l b. refl; of-frames = λ i l. refl; of-waiting = λ i l. refl; sized = λ z. z };
     still = λ v b. b;
     more-frames = le-refl (m₀ .frames);
@@ -87,22 +88,22 @@ module _ (table pattern bytes : List ℕ) (assigned₀ left₀ : ℕ) (parts₀ 
   -- what is known once the next step is
   pub record Turn (parts stack : List ℕ) (p : Place) (m : Marks) (assigned left : ℕ) (x : Step) : Type 0 where
     pub walking : Walking parts stack p m assigned left
-    pub is-step : x ≡ stepOf (eqb (m .inner) 0) table pattern bytes (partIn assigned parts (variableAt pattern (p .at))) p left
+    pub is-step : x ≡ stepOf (eqb (m .inner) 0) table classes pattern bytes (partIn assigned parts (variableAt pattern (p .at))) p left
 
   module _ {parts stack : List ℕ} {p : Place} {m : Marks} {assigned left : ℕ} {x : Step}
       (t : Turn parts stack p m assigned left x) where
     pub asked : (y : Step) → x ≡ y → Asks (eqb (m .inner) 0) pattern bytes (partIn assigned parts (variableAt pattern (p .at))) p left y
     asked y e =
         subst (Asks (eqb (m .inner) 0) pattern bytes (partIn assigned parts (variableAt pattern (p .at))) p left) (sym (t .is-step) ∙ e)
-        (step-asks (eqb (m .inner) 0) table pattern bytes (partIn assigned parts (variableAt pattern (p .at))) p left (t .walking .holds .node))
+        (step-asks (eqb (m .inner) 0) table classes pattern bytes (partIn assigned parts (variableAt pattern (p .at))) p left (t .walking .holds .node))
 
     stepped : (y : Step) → x ≡ y
-        → walkOf 1024 table pattern bytes s₀ left₀
-        ≡ nextOf y (walkOf (t .walking .room - 1) table pattern bytes) (state (t .walking .values) (t .walking .nodes) (t .walking .put-by) p) left
+        → walkOf turns table classes pattern bytes s₀ left₀
+        ≡ nextOf y (walkOf (t .walking .room - 1) table classes pattern bytes) (state (t .walking .values) (t .walking .nodes) (t .walking .put-by) p) left
     stepped y e =
         let w = t .walking in
         let s = state (w .values) (w .nodes) (w .put-by) p in
-        w .same ∙ walk-suc table pattern bytes (w .room) s left (omega (arith, w .enough))
+        w .same ∙ walk-suc table classes pattern bytes (w .room) s left (omega (arith, w .enough))
         ∙ rw (
           ← linked-alone stack (m .inner) (w .nodes) (w .holds .linked),
           w .holds .shown (variableAt pattern (p .at)) (variable-below pattern (p .at)),
@@ -110,7 +111,7 @@ module _ (table pattern bytes : List ℕ) (assigned₀ left₀ : ℕ) (parts₀ 
           e,
         )
 
-    free : (v : ℕ) → v < 48 → v ≡ variableAt pattern (p .at) → isAbsent (partIn assigned parts (variableAt pattern (p .at))) ≡ true
+    free : (v : ℕ) → v < variables → v ≡ variableAt pattern (p .at) → isAbsent (partIn assigned parts (variableAt pattern (p .at))) ≡ true
         → bit assigned v ≡ false
     free v low here e =
         let w = t .walking in
@@ -119,9 +120,9 @@ module _ (table pattern bytes : List ℕ) (assigned₀ left₀ : ℕ) (parts₀ 
     -- Where it stops
 
     ended : (stop : Stop) (l : ℕ)
-        → walkOf 1024 table pattern bytes s₀ left₀ ≡ walked stop l (state (t .walking .values) (t .walking .nodes) (t .walking .put-by) p)
+        → walkOf turns table classes pattern bytes s₀ left₀ ≡ walked stop l (state (t .walking .values) (t .walking .nodes) (t .walking .put-by) p)
         → StopsAt (length pattern) p stop → Unassigned assigned stop
-        → WalkIs table pattern bytes assigned₀ left₀ parts₀ stack₀ m₀ p₀ parts stack (reached stop l assigned m p) s₀
+        → WalkIs table classes pattern bytes assigned₀ left₀ parts₀ stack₀ m₀ p₀ parts stack (reached stop l assigned m p) s₀
     ended stop l is stops out =
         let w = t .walking in
         record {
@@ -139,7 +140,7 @@ module _ (table pattern bytes : List ℕ) (assigned₀ left₀ : ℕ) (parts₀ 
         }
 
     pub walk-stops : (stop : Stop) → x ≡ Stops stop
-        → WalkIs table pattern bytes assigned₀ left₀ parts₀ stack₀ m₀ p₀ parts stack (reached stop left assigned m p) s₀
+        → WalkIs table classes pattern bytes assigned₀ left₀ parts₀ stack₀ m₀ p₀ parts stack (reached stop left assigned m p) s₀
     unfolding nextOf
     walk-stops Failure e = ended Failure left (stepped (Stops Failure) e) tt tt
     walk-stops NoAllowance e = ended NoAllowance left (stepped (Stops NoAllowance) e) tt tt
@@ -149,7 +150,7 @@ module _ (table pattern bytes : List ℕ) (assigned₀ left₀ : ℕ) (parts₀ 
         ended (RunName v) left (stepped (Stops (RunName v)) e) (a .1) (free v (a .0 .below) (a .0 .here) (a .0 .absent))
 
     pub walk-fails : x ≡ Fails
-        → WalkIs table pattern bytes assigned₀ left₀ parts₀ stack₀ m₀ p₀ parts stack (reached Failure (left - 1) assigned m p) s₀
+        → WalkIs table classes pattern bytes assigned₀ left₀ parts₀ stack₀ m₀ p₀ parts stack (reached Failure (left - 1) assigned m p) s₀
     unfolding nextOf
     walk-fails e = ended Failure (left - 1) (stepped Fails e) tt tt
 
@@ -178,7 +179,7 @@ module _ (table pattern bytes : List ℕ) (assigned₀ left₀ : ℕ) (parts₀ 
           room = w .room - 1;
           enough = omega (arith, w .enough);
           same = stepped Closes e
-              ∙ ap (λ (fs : List Frame). walkOf (w .room - 1) table pattern bytes (closedBy fs (state (w .values) fs (w .put-by) p)) left) (u .is);
+              ∙ ap (λ (fs : List Frame). walkOf (w .room - 1) table classes pattern bytes (closedBy fs (state (w .values) fs (w .put-by) p)) left) (u .is);
           kept = w .kept;
           still = w .still;
           more-frames = w .more-frames;

@@ -4,10 +4,12 @@ use mathlib.Core.List.{List, [], _∷_}
 use mathlib.Core.Bool.{Bool, true, false, cond, _&&_}
 use lib.ListN.{length, take, drop, set, replicate}
 use lib.Dec.{leb, eqb}
+use Rattle.term.specs.Code.{variables}
+use Rattle.term.specs.Limits.{longestRecord, longestPattern}
 use Rattle.term.specs.Extent.{extentOf}
 use Rattle.term.specs.Part.{absent, boundPart}
 use Rattle.term.specs.declared.Part.{Part}
-use Rattle.search.specs.State.{PutBy, State, Walked, place, state, passed, walkOf}
+use Rattle.search.specs.State.{PutBy, State, Walked, place, state, passed, turns, walkOf}
 use Rattle.search.specs.declared.Stop.{Stop}
 use Rattle.search.specs.declared.Stop.the-variants.{Failure, NoAllowance, NoPair, RunName}
 use Rattle.search.specs.declared.Outcome.{Outcome}
@@ -25,10 +27,10 @@ reply outcome left parts = record { outcome = outcome; left = left; parts = part
 
 -- only what is found shows parts
 abbrev pub failedAt : ℕ → Reply
-failedAt left = reply Failed left (replicate 48 absent)
+failedAt left = reply Failed left (replicate variables absent)
 
 abbrev pub spentAt : ℕ → Reply
-spentAt left = reply Spent left (replicate 48 absent)
+spentAt left = reply Spent left (replicate variables absent)
 
 abbrev pub failed : Outcome → Bool
 failed Found = false
@@ -91,20 +93,20 @@ unfoldable pub afterWalk : Walked → (List ℕ → State → ℕ → Reply) →
 afterWalk w lv table pattern bytes = stopBy (w .stop) lv table pattern bytes (w .state) (w .left)
 
 -- the search of a level, with at most so many others within it
-unfoldable pub levelOf : ℕ → List ℕ → List ℕ → List ℕ → State → ℕ → Reply
-levelOf zero table bytes pattern s left = failedAt left
-levelOf (suc n) table bytes pattern s left =
-    afterWalk (walkOf 1024 table pattern bytes s left) (levelOf n table bytes) table pattern bytes
+unfoldable pub levelOf : ℕ → List ℕ → List ℕ → List ℕ → List ℕ → State → ℕ → Reply
+levelOf zero table classes bytes pattern s left = failedAt left
+levelOf (suc n) table classes bytes pattern s left =
+    afterWalk (walkOf turns table classes pattern bytes s left) (levelOf n table classes bytes) table pattern bytes
 
 -- each level within another has less of the pattern, or starts further on in it
 abbrev pub levels : List ℕ → ℕ → ℕ
-levels pattern at = 257 * length pattern + (length pattern - at) + 1
+levels pattern at = (longestPattern + 1) * length pattern + (length pattern - at) + 1
 
 -- the search of a whole pattern on a record, within document 01's limits
-unfoldable pub searchOf : List ℕ → List ℕ → List ℕ → ℕ → Reply
-searchOf table pattern bytes allowance =
-    cond (leb (length pattern) 256 && leb (length bytes) 4096)
-    (levelOf (levels pattern 0) table bytes pattern (startOf (replicate 48 absent) 0) allowance)
+unfoldable pub searchOf : List ℕ → List ℕ → List ℕ → List ℕ → ℕ → Reply
+searchOf table classes pattern bytes allowance =
+    cond (leb (length pattern) longestPattern && leb (length bytes) longestRecord)
+    (levelOf (levels pattern 0) table classes bytes pattern (startOf (replicate variables absent) 0) allowance)
     (failedAt allowance)
 
 -- without what the answer buffer shows

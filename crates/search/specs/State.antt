@@ -4,10 +4,11 @@ use mathlib.Core.List.{List, [], _∷_, _++_}
 use mathlib.Core.Bool.{Bool, true, false, cond, _&&_, _||_}
 use lib.ListN.{length, getD, take, drop, set}
 use lib.Dec.{ltb, leb, eqb}
+use Rattle.term.specs.Table.{list}
 use Rattle.term.specs.Code.{decodeOf}
 use Rattle.term.specs.Extent.{entryOf, extentOf}
 use Rattle.term.specs.Part.{part, isAbsent, boundPart, partBytes}
-use Rattle.term.specs.Same.{samePart}
+use Rattle.term.specs.Same.{sameByte, samePart}
 use Rattle.term.specs.declared.Code.{Code}
 use Rattle.term.specs.declared.Code.the-variants.{Symbol, Name, Run, Complement}
 use Rattle.term.specs.declared.Part.{Part}
@@ -102,68 +103,68 @@ unfoldable pub variableAt : List ℕ → ℕ → ℕ
 variableAt pattern at = cond (ltb at (length pattern)) (variableOf (decodeOf (getD pattern at 0))) 0
 
 -- whether the bytes of a part stand at the start of r
-unfoldable pub standsOf : List ℕ → Part → List ℕ → Bool
-standsOf bytes had r = leb (had .length) (length r) && samePart (partBytes bytes had) (take (had .length) r)
+unfoldable pub standsOf : List ℕ → List ℕ → List ℕ → Part → List ℕ → Bool
+standsOf table classes bytes had r = leb (had .length) (length r) && samePart table classes false (partBytes bytes had) (take (had .length) r)
 
 -- a node with no child pattern left: an element left over is a failure
 unfoldable pub overStep : Bool → ℕ → Step
 overStep outermost elements = cond (eqb elements 0) (cond outermost (Stops NoPair) Closes) (Stops Failure)
 
--- a symbol's children are entered, in pattern and record; a list's second byte is their number
-unfoldable pub symbolStep : List ℕ → List ℕ → List ℕ → ℕ → Step
-symbolStep table q r b =
-    cond (eqb b (getD r 0 0))
+-- a symbol of one class with the record's: its children are entered, in pattern and record; a list's second byte is their number
+unfoldable pub symbolStep : List ℕ → List ℕ → List ℕ → List ℕ → ℕ → Step
+symbolStep table classes q r b =
+    cond (sameByte classes false b (getD r 0 0))
     (cond (eqb (entryOf table b) 0) (Passes 1 1)
-    (cond (eqb (entryOf table b) 255)
+    (cond (eqb (entryOf table b) list)
     (cond (leb 2 (length q) && leb 2 (length r)) (Opens (getD q 1 0) (getD r 1 0) 2) Fails)
     (Opens (entryOf table b) (entryOf table b) 1)))
     Fails
 
 -- an assigned name or run name: as many elements as its own must be left, and those there be its own
-unfoldable pub assignedStep : List ℕ → Part → List ℕ → ℕ → Step
-assignedStep bytes had r elements =
-    cond (leb (had .elements) elements && standsOf bytes had r) (Passes (had .elements) (had .length)) Fails
+unfoldable pub assignedStep : List ℕ → List ℕ → List ℕ → Part → List ℕ → ℕ → Step
+assignedStep table classes bytes had r elements =
+    cond (leb (had .elements) elements && standsOf table classes bytes had r) (Passes (had .elements) (had .length)) Fails
 
 -- an unassigned name takes the node; an assigned one must equal it
-unfoldable pub nameStep : List ℕ → List ℕ → List ℕ → ℕ → Part → ℕ → Step
-nameStep table bytes r v had elements = cond (isAbsent had) (Binds v (extentOf table r)) (assignedStep bytes had r elements)
+unfoldable pub nameStep : List ℕ → List ℕ → List ℕ → List ℕ → ℕ → Part → ℕ → Step
+nameStep table classes bytes r v had elements = cond (isAbsent had) (Binds v (extentOf table r)) (assignedStep table classes bytes had r elements)
 
 -- an unassigned run name leaves a choice; an assigned one tries its own length only, counted even where it does not fit
-unfoldable pub runStep : List ℕ → ℕ → Part → List ℕ → ℕ → ℕ → Step
-runStep bytes v had r elements left =
-    cond (isAbsent had) (Stops (RunName v)) (cond (eqb left 0) (Stops NoAllowance) (assignedStep bytes had r elements))
+unfoldable pub runStep : List ℕ → List ℕ → List ℕ → ℕ → Part → List ℕ → ℕ → ℕ → Step
+runStep table classes bytes v had r elements left =
+    cond (isAbsent had) (Stops (RunName v)) (cond (eqb left 0) (Stops NoAllowance) (assignedStep table classes bytes had r elements))
 
 -- a complement is put by; the last child pattern of a level is all that is left of it, and where its node ends does not matter
 unfoldable pub complementStep : Bool → List ℕ → List ℕ → List ℕ → Step
 complementStep last table q r = cond last (PutsBy (length q) 0) (PutsBy (extentOf table q) (extentOf table r))
 
 -- a pattern node, the last of its level or not, is set against a record node: q and r start there
-unfoldable pub pairStep : Bool → Code → List ℕ → List ℕ → List ℕ → List ℕ → Part → ℕ → Step
-pairStep last (Symbol b) table bytes q r had elements = symbolStep table q r b
-pairStep last (Name v) table bytes q r had elements = nameStep table bytes r v had elements
-pairStep last (Run v) table bytes q r had elements = Fails
-pairStep last Complement table bytes q r had elements = complementStep last table q r
-pairStep last Code.Refused table bytes q r had elements = Fails
+unfoldable pub pairStep : Bool → Code → List ℕ → List ℕ → List ℕ → List ℕ → List ℕ → Part → ℕ → Step
+pairStep last (Symbol b) table classes bytes q r had elements = symbolStep table classes q r b
+pairStep last (Name v) table classes bytes q r had elements = nameStep table classes bytes r v had elements
+pairStep last (Run v) table classes bytes q r had elements = Fails
+pairStep last Complement table classes bytes q r had elements = complementStep last table q r
+pairStep last Code.Refused table classes bytes q r had elements = Fails
 
 -- a plain child pattern: with no element left it fails uncounted
-unfoldable pub plainStep : Bool → Code → List ℕ → List ℕ → List ℕ → Part → Place → ℕ → Step
-plainStep outermost c table pattern bytes had p left =
+unfoldable pub plainStep : Bool → Code → List ℕ → List ℕ → List ℕ → List ℕ → Part → Place → ℕ → Step
+plainStep outermost c table classes pattern bytes had p left =
     cond (eqb (p .elements) 0 || leb (length bytes) (p .node)) (Stops Failure)
     (cond (eqb left 0) (Stops NoAllowance)
-    (pairStep (outermost && eqb (p .children) 1) c table bytes (drop (p .at) pattern) (drop (p .node) bytes) had (p .elements)))
+    (pairStep (outermost && eqb (p .children) 1) c table classes bytes (drop (p .at) pattern) (drop (p .node) bytes) had (p .elements)))
 
-unfoldable pub codeStep : Bool → Code → List ℕ → List ℕ → List ℕ → Part → Place → ℕ → Step
-codeStep outermost (Symbol b) table pattern bytes had p left = plainStep outermost (Symbol b) table pattern bytes had p left
-codeStep outermost (Name v) table pattern bytes had p left = plainStep outermost (Name v) table pattern bytes had p left
-codeStep outermost (Run v) table pattern bytes had p left = runStep bytes v had (drop (p .node) bytes) (p .elements) left
-codeStep outermost Complement table pattern bytes had p left = plainStep outermost Complement table pattern bytes had p left
-codeStep outermost Code.Refused table pattern bytes had p left = Stops Failure
+unfoldable pub codeStep : Bool → Code → List ℕ → List ℕ → List ℕ → List ℕ → Part → Place → ℕ → Step
+codeStep outermost (Symbol b) table classes pattern bytes had p left = plainStep outermost (Symbol b) table classes pattern bytes had p left
+codeStep outermost (Name v) table classes pattern bytes had p left = plainStep outermost (Name v) table classes pattern bytes had p left
+codeStep outermost (Run v) table classes pattern bytes had p left = runStep table classes bytes v had (drop (p .node) bytes) (p .elements) left
+codeStep outermost Complement table classes pattern bytes had p left = plainStep outermost Complement table classes pattern bytes had p left
+codeStep outermost Code.Refused table classes pattern bytes had p left = Stops Failure
 
 -- what the next turn does, where the variable at this place of the pattern has the part given
-unfoldable pub stepOf : Bool → List ℕ → List ℕ → List ℕ → Part → Place → ℕ → Step
-stepOf outermost table pattern bytes had p left =
+unfoldable pub stepOf : Bool → List ℕ → List ℕ → List ℕ → List ℕ → Part → Place → ℕ → Step
+stepOf outermost table classes pattern bytes had p left =
     cond (eqb (p .children) 0) (overStep outermost (p .elements))
-    (cond (ltb (p .at) (length pattern)) (codeStep outermost (decodeOf (getD pattern (p .at) 0)) table pattern bytes had p left) (Stops Failure))
+    (cond (ltb (p .at) (length pattern)) (codeStep outermost (decodeOf (getD pattern (p .at) 0)) table classes pattern bytes had p left) (Stops Failure))
 
 -- The pairs of a level that leave no choice
 
@@ -190,9 +191,13 @@ nextOf (Binds v size) f s left =
 nextOf (PutsBy codes size) f s left =
     f (state (s .parts) (s .frames) (s .waiting ++ putBy (s .place .at) (codes - 1) (s .place .node) ∷ []) (passed (s .place) 1 codes size)) (left - 1)
 
--- so many turns at most; a walk has fewer than 1,024, as each takes a byte of the pattern or closes a node
-unfoldable pub walkOf : ℕ → List ℕ → List ℕ → List ℕ → State → ℕ → Walked
-walkOf zero table pattern bytes s left = walked Failure left s
-walkOf (suc n) table pattern bytes s left =
-    nextOf (stepOf (alone (s .frames)) table pattern bytes (partAt s (variableAt pattern (s .place .at))) (s .place) left)
-    (walkOf n table pattern bytes) s left
+-- a walk has fewer turns than this, as each takes a byte of the pattern or closes a node
+abbrev pub turns : ℕ
+turns = 1024
+
+-- so many turns at most
+unfoldable pub walkOf : ℕ → List ℕ → List ℕ → List ℕ → List ℕ → State → ℕ → Walked
+walkOf zero table classes pattern bytes s left = walked Failure left s
+walkOf (suc n) table classes pattern bytes s left =
+    nextOf (stepOf (alone (s .frames)) table classes pattern bytes (partAt s (variableAt pattern (s .place .at))) (s .place) left)
+    (walkOf n table classes pattern bytes) s left

@@ -1,11 +1,17 @@
 // The search of one pattern on one record, on their bytes: found, failed or spent, the allowance left, and what each name is assigned.
 use term::Code;
+use term::LIST;
+use term::LONGEST_PATTERN;
+use term::LONGEST_RECORD;
+use term::NAMES;
 use term::Part;
+use term::VARIABLES;
 use term::bytes_of;
 use term::decode;
 use term::entry_of;
 use term::extent;
 use term::same;
+use term::same_symbol;
 ghost use mathlib.Core.Path.{_≡_};
 ghost use mathlib.Core.List.{_++_};
 ghost use mathlib.Core.Bool.{_&&_};
@@ -13,14 +19,36 @@ ghost use Prim.Native.Nat.{_+_, _-_, _/_, _%_, _^_, _≤_, _<_};
 ghost use lib.ListN.{length, drop, replicate, set};
 ghost use lib.Bits.{bitOr};
 ghost use lib.Dec.{eqb};
-ghost use Rattle.term.specs.Code.{VariableBelow};
+ghost use Rattle.term.specs.Code.{variables, VariableBelow};
+ghost use Rattle.term.specs.Limits.{longestRecord, longestPattern};
 ghost use Rattle.term.specs.Part.{absent, boundPart};
 ghost use Rattle.search.specs.State.{place, remainingIn, nextIn, placeOf, frame, putBy, passed, entered, reopened, variableOf, variableAt, standsOf, overStep, symbolStep, assignedStep, nameStep, runStep, complementStep, pairStep, plainStep, stepOf};
 ghost use Rattle.search.specs.Level.{failed, endOf, searchOf};
-ghost use Rattle.search.specs.Memory.{bit, packed, unpacked, partIn, frameIn, outer, putByIn, nodesIn, queueIn, marksOf, openedMarks, closedMarks, putByMarks, FramePushed, ComplementPushed, Holding};
-ghost use Rattle.search.specs.Bounds.{Short, Walks, StopsAt, Unassigned, reached};
-ghost use Rattle.search.specs.Shown.{numbers, shownBy, shownIn};
-ghost use Rattle.search.specs.Replies.{failure, found, turned, partsIn, inside, Free, Resting, Testable, Decides, LevelIs, RestIs, FollowIs, ComplementIs, ComplementsAre};
+ghost use Rattle.search.specs.Inner.Memory.{stackPlaces, bit, packed, unpacked, partIn, frameIn, outer, putByIn, nodesIn, queueIn, marksOf, openedMarks, closedMarks, putByMarks, FramePushed, ComplementPushed, Holding};
+ghost use Rattle.search.specs.Inner.Bounds.{Short, Walks, StopsAt, Unassigned, reached};
+ghost use Rattle.search.specs.Shown.{answerWidth, numbers, shownBy, shownIn};
+ghost use Rattle.search.specs.Inner.Replies.{failure, found, turned, partsIn, inside, Free, Resting, Testable, Decides, LevelIs, RestIs, FollowIs, ComplementIs, ComplementsAre};
+
+// The numbers that a variable is shown with: offset and length.
+pub const ENTRY_WIDTH: usize = 2;
+
+// The numbers of an answer.
+pub const ANSWER_WIDTH: usize = ENTRY_WIDTH * VARIABLES;
+
+// A part for each variable, and one for none.
+const PARTS: usize = VARIABLES + 1;
+
+// A place in the stack for each byte of the longest pattern.
+const STACK: usize = LONGEST_PATTERN;
+
+// The last place in the stack.
+const LAST: usize = STACK - 1;
+
+// A mask of names only is below this.
+const NAMES_END: u64 = 1 << NAMES;
+
+// A mask of names and run names is below this.
+const VARIABLES_END: u64 = 1 << VARIABLES;
 
 // Where the search of a level stands: what is left of the innermost open node, child patterns and elements of the record, and the next byte of
 // the pattern and of the record.
@@ -32,7 +60,7 @@ pub struct Place {
 }
 
 // How much of the buffers is in use: 1 more than the place of the innermost open node's frame, or 0, the frames, where the level's own
-// complements start, and the complements put by. Frames lie in the stack from the front, complements from the back, the i-th at 255 - i.
+// complements start, and the complements put by. Frames lie in the stack from the front, complements from the back, the i-th at `LAST - i`.
 pub struct Marks {
     pub inner: usize,
     pub frames: usize,
@@ -121,7 +149,7 @@ fn wide(b: u8) -> usize
 
 // Whether the variable v is assigned.
 fn is_assigned(assigned: u64, v: u8) -> bool
-    requires { ⌜ v < 48 ⌝ }
+    requires { ⌜ v < variables ⌝ }
     ensures { λ r. ⌜ r ≡ bit assigned v ⌝ }
 {
     (assigned >> v) % 2 == 1
@@ -129,7 +157,7 @@ fn is_assigned(assigned: u64, v: u8) -> bool
 
 // The variable v is assigned too.
 fn also(assigned: u64, v: usize) -> u64
-    requires { ⌜ v ≤ 48 ⌝ }
+    requires { ⌜ v ≤ variables ⌝ }
     ensures { λ r. ⌜ r ≡ bitOr assigned (2 ^ v) ⌝ }
 {
     assigned | (1 << v)
@@ -153,8 +181,8 @@ fn unpacked(x: u64) -> Part
 }
 
 // What the variable v is assigned.
-fn part_of(parts: &[u64; 49], assigned: u64, v: u8) -> Part
-    requires { ⌜ v < 48 ⌝ }
+fn part_of(parts: &[u64; PARTS], assigned: u64, v: u8) -> Part
+    requires { ⌜ v < variables ⌝ }
     ensures { λ r. ⌜ r ≡ partIn assigned (now (parts .entry)) v ⌝ }
 {
     if is_assigned(assigned, v) {
@@ -165,14 +193,14 @@ fn part_of(parts: &[u64; 49], assigned: u64, v: u8) -> Part
 }
 
 // Whether the bytes of a part stand at the start of r.
-fn stands(record: &[u8], part: Part, r: &[u8]) -> bool
-    ensures { λ x. ⌜ x ≡ standsOf (now («record» .entry)) part (now (r .entry)) ⌝ }
+fn stands(table: &[u8], classes: &[u8], record: &[u8], part: Part, r: &[u8]) -> bool
+    ensures { λ x. ⌜ x ≡ standsOf (now (table .entry)) (now (classes .entry)) (now («record» .entry)) part (now (r .entry)) ⌝ }
 {
     let n = part.length as usize;
     if r.len() < n {
         return false;
     }
-    same(bytes_of(record, part), &r[..n])
+    same(table, classes, bytes_of(record, part), &r[..n])
 }
 
 // A node with no child pattern left: an element left over is a failure.
@@ -189,18 +217,18 @@ fn over(alone: bool, elements: u8) -> Step
 }
 
 // A symbol: its children are entered. Pattern and record start at the pair in q and r.
-fn symbol(table: &[u8], q: &[u8], r: &[u8], b: u8) -> Step
+fn symbol(table: &[u8], classes: &[u8], q: &[u8], r: &[u8], b: u8) -> Step
     requires { ⌜ 0 < length (now r) ⌝ }
-    ensures { λ x. ⌜ x ≡ symbolStep (now (table .entry)) (now (q .entry)) (now (r .entry)) b ⌝ }
+    ensures { λ x. ⌜ x ≡ symbolStep (now (table .entry)) (now (classes .entry)) (now (q .entry)) (now (r .entry)) b ⌝ }
 {
-    if b != r[0] {
+    if !same_symbol(classes, b, r[0]) {
         return Step::Fails;
     }
     let entry = entry_of(table, b);
     if entry == 0 {
         return Step::Passes(1, 1);
     }
-    if entry != 255 {
+    if entry != LIST {
         return Step::Opens(entry, entry, 1);
     }
     if q.len() < 2 {
@@ -213,31 +241,55 @@ fn symbol(table: &[u8], q: &[u8], r: &[u8], b: u8) -> Step
 }
 
 // An assigned name or run name: the elements there must be its own.
-fn assigned_step(record: &[u8], part: Part, r: &[u8], elements: u8) -> Step
-    ensures { λ x. ⌜ x ≡ assignedStep (now («record» .entry)) part (now (r .entry)) elements ⌝ }
+fn assigned_step(
+    table: &[u8],
+    classes: &[u8],
+    record: &[u8],
+    part: Part,
+    r: &[u8],
+    elements: u8,
+) -> Step
+    ensures { λ x. ⌜ x ≡ assignedStep (now (table .entry)) (now (classes .entry)) (now («record» .entry)) part (now (r .entry)) elements ⌝ }
 {
     if elements < part.elements {
         return Step::Fails;
     }
-    if stands(record, part, r) {
+    if stands(table, classes, record, part, r) {
         return Step::Passes(part.elements, part.length as usize);
     }
     Step::Fails
 }
 
 // A name: an unassigned one takes the node, an assigned one must equal it.
-fn name(table: &[u8], record: &[u8], r: &[u8], v: u8, part: Part, elements: u8) -> Step
-    ensures { λ x. ⌜ x ≡ nameStep (now (table .entry)) (now («record» .entry)) (now (r .entry)) v part elements ⌝ }
+fn name(
+    table: &[u8],
+    classes: &[u8],
+    record: &[u8],
+    r: &[u8],
+    v: u8,
+    part: Part,
+    elements: u8,
+) -> Step
+    ensures { λ x. ⌜ x ≡ nameStep (now (table .entry)) (now (classes .entry)) (now («record» .entry)) (now (r .entry)) v part elements ⌝ }
 {
     if part.is_absent() {
         return Step::Binds(v, extent(table, r));
     }
-    assigned_step(record, part, r, elements)
+    assigned_step(table, classes, record, part, r, elements)
 }
 
 // A run name: an unassigned one leaves a choice, an assigned one tries its own length only.
-fn run_name(record: &[u8], v: u8, part: Part, r: &[u8], elements: u8, left: u32) -> Step
-    ensures { λ x. ⌜ x ≡ runStep (now («record» .entry)) v part (now (r .entry)) elements left ⌝ }
+fn run_name(
+    table: &[u8],
+    classes: &[u8],
+    record: &[u8],
+    v: u8,
+    part: Part,
+    r: &[u8],
+    elements: u8,
+    left: u32,
+) -> Step
+    ensures { λ x. ⌜ x ≡ runStep (now (table .entry)) (now (classes .entry)) (now («record» .entry)) v part (now (r .entry)) elements left ⌝ }
 {
     if part.is_absent() {
         return Step::Stops(Stop::RunName(v));
@@ -245,7 +297,7 @@ fn run_name(record: &[u8], v: u8, part: Part, r: &[u8], elements: u8, left: u32)
     if left == 0 {
         return Step::Stops(Stop::NoAllowance);
     }
-    assigned_step(record, part, r, elements)
+    assigned_step(table, classes, record, part, r, elements)
 }
 
 // A complement is put by. The last child pattern of a level is all that is left of it, and where its node ends does not matter.
@@ -263,8 +315,9 @@ fn complement_step(table: &[u8], q: &[u8], r: &[u8], inner: usize, children: u8)
 // A pattern node is set against a record node.
 fn pair(
     table: &[u8],
+    classes: &[u8],
     record: &[u8],
-    parts: &[u64; 49],
+    parts: &[u64; PARTS],
     assigned: u64,
     code: Code,
     q: &[u8],
@@ -274,11 +327,19 @@ fn pair(
     elements: u8,
 ) -> Step
     requires { ⌜ VariableBelow code × (0 < length (now r)) ⌝ }
-    ensures { λ x. ⌜ x ≡ pairStep (eqb inner 0 && eqb children 1) code (now (table .entry)) (now («record» .entry)) (now (q .entry)) (now (r .entry)) (partIn assigned (now (parts .entry)) (variableOf code)) elements ⌝ }
+    ensures { λ x. ⌜ x ≡ pairStep (eqb inner 0 && eqb children 1) code (now (table .entry)) (now (classes .entry)) (now («record» .entry)) (now (q .entry)) (now (r .entry)) (partIn assigned (now (parts .entry)) (variableOf code)) elements ⌝ }
 {
     match code {
-        Code::Symbol(b) => symbol(table, q, r, b),
-        Code::Name(v) => name(table, record, r, v, part_of(parts, assigned, v), elements),
+        Code::Symbol(b) => symbol(table, classes, q, r, b),
+        Code::Name(v) => name(
+            table,
+            classes,
+            record,
+            r,
+            v,
+            part_of(parts, assigned, v),
+            elements,
+        ),
         Code::Run(_) => Step::Fails,
         Code::Complement => complement_step(table, q, r, inner, children),
         Code::Refused => Step::Fails,
@@ -288,9 +349,10 @@ fn pair(
 // The next child pattern is no run name.
 fn plain(
     table: &[u8],
+    classes: &[u8],
     pattern: &[u8],
     record: &[u8],
-    parts: &[u64; 49],
+    parts: &[u64; PARTS],
     assigned: u64,
     code: Code,
     inner: usize,
@@ -298,7 +360,7 @@ fn plain(
     left: u32,
 ) -> Step
     requires { ⌜ VariableBelow code × (place .at ≤ length (now pattern)) ⌝ }
-    ensures { λ x. ⌜ x ≡ plainStep (eqb inner 0) code (now (table .entry)) (now (pattern .entry)) (now («record» .entry)) (partIn assigned (now (parts .entry)) (variableOf code)) place left ⌝ }
+    ensures { λ x. ⌜ x ≡ plainStep (eqb inner 0) code (now (table .entry)) (now (classes .entry)) (now (pattern .entry)) (now («record» .entry)) (partIn assigned (now (parts .entry)) (variableOf code)) place left ⌝ }
 {
     let at = place.at;
     let node = place.node;
@@ -313,6 +375,7 @@ fn plain(
     }
     pair(
         table,
+        classes,
         record,
         parts,
         assigned,
@@ -328,16 +391,17 @@ fn plain(
 // What the next turn does.
 fn step_of(
     table: &[u8],
+    classes: &[u8],
     pattern: &[u8],
     record: &[u8],
-    parts: &[u64; 49],
+    parts: &[u64; PARTS],
     assigned: u64,
     marks: Marks,
     place: Place,
     left: u32,
 ) -> Step
     requires { ⌜ place .node ≤ length (now «record») ⌝ }
-    ensures { λ x. ⌜ x ≡ stepOf (eqb (marks .inner) 0) (now (table .entry)) (now (pattern .entry)) (now («record» .entry)) (partIn assigned (now (parts .entry)) (variableAt (now (pattern .entry)) (place .at))) place left ⌝ }
+    ensures { λ x. ⌜ x ≡ stepOf (eqb (marks .inner) 0) (now (table .entry)) (now (classes .entry)) (now (pattern .entry)) (now («record» .entry)) (partIn assigned (now (parts .entry)) (variableAt (now (pattern .entry)) (place .at))) place left ⌝ }
 {
     if place.children == 0 {
         return over(marks.inner == 0, place.elements);
@@ -350,6 +414,8 @@ fn step_of(
     let code = decode(pattern[at]);
     match code {
         Code::Run(v) => run_name(
+            table,
+            classes,
             record,
             v,
             part_of(parts, assigned, v),
@@ -360,6 +426,7 @@ fn step_of(
         Code::Symbol(_) | Code::Name(_) | Code::Complement => {
             plain(
                 table,
+                classes,
                 pattern,
                 record,
                 parts,
@@ -377,7 +444,7 @@ fn step_of(
 impl Place {
     // Past a child of the pattern that holds of so many elements.
     fn passed(self, elements: u8, codes: usize, size: usize) -> Place
-        requires { ⌜ (0 < self .children) × (elements ≤ self .elements) × (self .at + codes ≤ 256) × (self .node + size ≤ 4096) ⌝ }
+        requires { ⌜ (0 < self .children) × (elements ≤ self .elements) × (self .at + codes ≤ longestPattern) × (self .node + size ≤ longestRecord) ⌝ }
         ensures { λ r. ⌜ r ≡ passed self elements codes size ⌝ }
     {
         Place {
@@ -390,7 +457,7 @@ impl Place {
 
     // Into the children of a node, past its own bytes.
     fn entered(self, children: u8, elements: u8, width: usize) -> Place
-        requires { ⌜ (self .at + width ≤ 256) × (self .node + width ≤ 4096) ⌝ }
+        requires { ⌜ (self .at + width ≤ longestPattern) × (self .node + width ≤ longestRecord) ⌝ }
         ensures { λ r. ⌜ r ≡ entered self children elements width ⌝ }
     {
         Place {
@@ -415,7 +482,7 @@ impl Place {
 
     // What is left of the node that is open here, once a child of it is entered, and the link to the one around it.
     fn frame(self, inner: usize) -> u32
-        requires { ⌜ (0 < self .children) × (0 < self .elements) × (inner ≤ 256) ⌝ }
+        requires { ⌜ (0 < self .children) × (0 < self .elements) × (inner ≤ stackPlaces) ⌝ }
         ensures { λ r. ⌜ (frameIn r ≡ frame (self .children - 1) (self .elements - 1)) × (outer r ≡ inner) ⌝ }
     {
         ((self.children - 1) as usize + 256 * (self.elements - 1) as usize + 65536 * inner) as u32
@@ -423,7 +490,7 @@ impl Place {
 
     // The complement here, of so many bytes.
     fn complement(self, codes: usize) -> u32
-        requires { ⌜ (0 < codes) × (self .at + codes ≤ 256) × (self .node ≤ 4096) ⌝ }
+        requires { ⌜ (0 < codes) × (self .at + codes ≤ longestPattern) × (self .node ≤ longestRecord) ⌝ }
         ensures { λ r. ⌜ putByIn r ≡ putBy (self .at) (codes - 1) (self .node) ⌝ }
     {
         (self.at + 256 * (codes - 1) + 65536 * self.node) as u32
@@ -433,7 +500,7 @@ impl Place {
 impl Marks {
     // One more node is open.
     fn opened(self) -> Marks
-        requires { ⌜ self .frames < 256 ⌝ }
+        requires { ⌜ self .frames < stackPlaces ⌝ }
         ensures { λ r. ⌜ r ≡ openedMarks self ⌝ }
     {
         Marks {
@@ -458,7 +525,7 @@ impl Marks {
 
     // One more complement is put by.
     fn put_by(self) -> Marks
-        requires { ⌜ self .waiting < 256 ⌝ }
+        requires { ⌜ self .waiting < stackPlaces ⌝ }
         ensures { λ r. ⌜ r ≡ putByMarks self ⌝ }
     {
         Marks {
@@ -471,8 +538,8 @@ impl Marks {
 }
 
 // The node that is open here goes on the stack; one more node is open.
-fn push_frame(stack: &mut [u32; 256], marks: Marks, place: Place) -> Marks
-    requires { ⌜ (0 < place .children) × (0 < place .elements) × (marks .inner ≤ 256) × (marks .frames < 256) ⌝ }
+fn push_frame(stack: &mut [u32; STACK], marks: Marks, place: Place) -> Marks
+    requires { ⌜ (0 < place .children) × (0 < place .elements) × (marks .inner ≤ stackPlaces) × (marks .frames < stackPlaces) ⌝ }
     ensures { λ r. ⌜ FramePushed marks place (now (stack .entry)) (now (stack .exit)) r ⌝ }
 {
     let i = marks.frames;
@@ -481,18 +548,18 @@ fn push_frame(stack: &mut [u32; 256], marks: Marks, place: Place) -> Marks
 }
 
 // The complement here, of so many bytes, goes on the stack; one more is put by.
-fn push_complement(stack: &mut [u32; 256], marks: Marks, place: Place, codes: usize) -> Marks
-    requires { ⌜ (0 < codes) × (place .at + codes ≤ 256) × (place .node ≤ 4096) × (marks .waiting < 256) ⌝ }
+fn push_complement(stack: &mut [u32; STACK], marks: Marks, place: Place, codes: usize) -> Marks
+    requires { ⌜ (0 < codes) × (place .at + codes ≤ longestPattern) × (place .node ≤ longestRecord) × (marks .waiting < stackPlaces) ⌝ }
     ensures { λ r. ⌜ ComplementPushed marks place codes (now (stack .entry)) (now (stack .exit)) r ⌝ }
 {
     let i = marks.waiting;
-    stack[255 - i] = place.complement(codes);
+    stack[LAST - i] = place.complement(codes);
     marks.put_by()
 }
 
 // The variable v takes the node of so many bytes.
-fn bind(parts: &mut [u64; 49], assigned: u64, v: u8, node: usize, size: usize) -> u64
-    requires { ⌜ v < 48 ⌝ }
+fn bind(parts: &mut [u64; PARTS], assigned: u64, v: u8, node: usize, size: usize) -> u64
+    requires { ⌜ v < variables ⌝ }
     ensures { λ r. ⌜ (r ≡ bitOr assigned (2 ^ v)) × (now (parts .exit) ≡ set (now (parts .entry)) v (packed (boundPart node size 1))) ⌝ }
 {
     let i = wide(v);
@@ -517,20 +584,31 @@ impl Reached {
 // The pairs of a level that leave no choice.
 fn walk(
     table: &[u8],
+    classes: &[u8],
     pattern: &[u8],
     record: &[u8],
-    parts: &mut [u64; 49],
-    stack: &mut [u32; 256],
+    parts: &mut [u64; PARTS],
+    stack: &mut [u32; STACK],
     mut assigned: u64,
     mut left: u32,
     mut marks: Marks,
     mut place: Place,
 ) -> Reached
     requires { ⌜ Holding (length (now pattern)) (length (now «record»)) assigned (now parts) (now stack) marks place × Short (now pattern) (now «record») ⌝ }
-    ensures { λ r. ⌜ Walks (now (table .entry)) (now (pattern .entry)) (now («record» .entry)) assigned left (now (parts .entry)) (now (stack .entry)) marks place (now (parts .exit)) (now (stack .exit)) r ⌝ }
+    ensures { λ r. ⌜ Walks (now (table .entry)) (now (classes .entry)) (now (pattern .entry)) (now («record» .entry)) assigned left (now (parts .entry)) (now (stack .entry)) marks place (now (parts .exit)) (now (stack .exit)) r ⌝ }
 {
     let stop = loop {
-        let step = step_of(table, pattern, record, parts, assigned, marks, place, left);
+        let step = step_of(
+            table,
+            classes,
+            pattern,
+            record,
+            parts,
+            assigned,
+            marks,
+            place,
+            left,
+        );
         match step {
             Step::Stops(stop) => break stop,
             Step::Fails => {
@@ -704,14 +782,15 @@ impl Marks {
     }
 }
 
-// The variable v is given 0 up to `most` of the elements from a place on, until the rest of the level does not fail. At a level's start v is 48, for
+// The variable v is given 0 up to `most` of the elements from a place on, until the rest of the level does not fail. At a level's start v is `VARIABLES`, for
 // none, and `most` 0.
 fn level(
     table: &[u8],
+    classes: &[u8],
     pattern: &[u8],
     record: &[u8],
-    parts: &mut [u64; 49],
-    stack: &mut [u32; 256],
+    parts: &mut [u64; PARTS],
+    stack: &mut [u32; STACK],
     assigned: &mut u64,
     left: &mut u32,
     v: usize,
@@ -722,7 +801,7 @@ fn level(
     next: Next,
 ) -> Outcome
     requires { ⌜ Holding (length (now pattern)) (length (now «record»)) (now assigned) (now parts) (now stack) (marksOf nodes queue) (placeOf remaining next) × Free (now assigned) v × (most ≤ remaining .elements) × Short (now pattern) (now «record») ⌝ }
-    ensures { λ r. ⌜ LevelIs (now (table .entry)) (now (pattern .entry)) (now («record» .entry)) (now (assigned .entry)) (now (left .entry)) (now (parts .entry)) (now (stack .entry)) v most (marksOf nodes queue) (placeOf remaining next) r (now (assigned .exit)) (now (left .exit)) (now (parts .exit)) (now (stack .exit)) ⌝ }
+    ensures { λ r. ⌜ LevelIs (now (table .entry)) (now (classes .entry)) (now (pattern .entry)) (now («record» .entry)) (now (assigned .entry)) (now (left .entry)) (now (parts .entry)) (now (stack .entry)) v most (marksOf nodes queue) (placeOf remaining next) r (now (assigned .exit)) (now (left .exit)) (now (parts .exit)) (now (stack .exit)) ⌝ }
 {
     let marks = Marks::of(nodes, queue);
     let start = Place::of(remaining, next);
@@ -735,6 +814,7 @@ fn level(
         parts[v] = packed(Part::bound(node, place.node - node, n));
         let x = rest(
             table,
+            classes,
             pattern,
             record,
             parts,
@@ -766,28 +846,30 @@ fn level(
 // hands on when it starts; `level` is called from here and from `lengths` only, so that none is stored where no call is made.)
 fn start_level(
     table: &[u8],
+    classes: &[u8],
     pattern: &[u8],
     record: &[u8],
-    parts: &mut [u64; 49],
-    stack: &mut [u32; 256],
+    parts: &mut [u64; PARTS],
+    stack: &mut [u32; STACK],
     assigned: &mut u64,
     left: &mut u32,
     marks: Marks,
     node: usize,
 ) -> Outcome
     requires { ⌜ Holding (length (now pattern)) (length (now «record»)) (now assigned) (now parts) (now stack) marks (place 1 1 0 node) × Short (now pattern) (now «record») ⌝ }
-    ensures { λ r. ⌜ RestIs (now (table .entry)) (now (pattern .entry)) (now («record» .entry)) (now (assigned .entry)) (now (left .entry)) (now (parts .entry)) (now (stack .entry)) marks (place 1 1 0 node) r (now (assigned .exit)) (now (left .exit)) (now (parts .exit)) (now (stack .exit)) ⌝ }
+    ensures { λ r. ⌜ RestIs (now (table .entry)) (now (classes .entry)) (now (pattern .entry)) (now («record» .entry)) (now (assigned .entry)) (now (left .entry)) (now (parts .entry)) (now (stack .entry)) marks (place 1 1 0 node) r (now (assigned .exit)) (now (left .exit)) (now (parts .exit)) (now (stack .exit)) ⌝ }
 {
     let start = Place::start(node);
     level(
         table,
+        classes,
         pattern,
         record,
         parts,
         stack,
         assigned,
         left,
-        48,
+        VARIABLES,
         0,
         marks.nodes(),
         marks.queue(),
@@ -799,20 +881,22 @@ fn start_level(
 // The rest of a level from a place: the pairs that leave no choice, and what follows them.
 fn rest(
     table: &[u8],
+    classes: &[u8],
     pattern: &[u8],
     record: &[u8],
-    parts: &mut [u64; 49],
-    stack: &mut [u32; 256],
+    parts: &mut [u64; PARTS],
+    stack: &mut [u32; STACK],
     assigned: &mut u64,
     left: &mut u32,
     marks: Marks,
     start: Place,
 ) -> Outcome
     requires { ⌜ Holding (length (now pattern)) (length (now «record»)) (now assigned) (now parts) (now stack) marks start × Short (now pattern) (now «record») ⌝ }
-    ensures { λ r. ⌜ RestIs (now (table .entry)) (now (pattern .entry)) (now («record» .entry)) (now (assigned .entry)) (now (left .entry)) (now (parts .entry)) (now (stack .entry)) marks start r (now (assigned .exit)) (now (left .exit)) (now (parts .exit)) (now (stack .exit)) ⌝ }
+    ensures { λ r. ⌜ RestIs (now (table .entry)) (now (classes .entry)) (now (pattern .entry)) (now («record» .entry)) (now (assigned .entry)) (now (left .entry)) (now (parts .entry)) (now (stack .entry)) marks start r (now (assigned .exit)) (now (left .exit)) (now (parts .exit)) (now (stack .exit)) ⌝ }
 {
     let w = walk(
         table,
+        classes,
         pattern,
         record,
         parts,
@@ -832,6 +916,7 @@ fn rest(
     *assigned = w.assigned;
     follow(
         table,
+        classes,
         pattern,
         record,
         parts,
@@ -847,10 +932,11 @@ fn rest(
 // What comes where the pairs stop: nothing, the complements put by, or a run name's lengths.
 fn follow(
     table: &[u8],
+    classes: &[u8],
     pattern: &[u8],
     record: &[u8],
-    parts: &mut [u64; 49],
-    stack: &mut [u32; 256],
+    parts: &mut [u64; PARTS],
+    stack: &mut [u32; STACK],
     assigned: &mut u64,
     left: &mut u32,
     stop: Stop,
@@ -858,14 +944,25 @@ fn follow(
     place: Place,
 ) -> Outcome
     requires { ⌜ Holding (length (now pattern)) (length (now «record»)) (now assigned) (now parts) (now stack) marks place × StopsAt (length (now pattern)) place stop × Unassigned (now assigned) stop × Short (now pattern) (now «record») ⌝ }
-    ensures { λ r. ⌜ FollowIs (now (table .entry)) (now (pattern .entry)) (now («record» .entry)) (now (assigned .entry)) (now (left .entry)) (now (parts .entry)) (now (stack .entry)) stop marks place r (now (assigned .exit)) (now (left .exit)) (now (parts .exit)) (now (stack .exit)) ⌝ }
+    ensures { λ r. ⌜ FollowIs (now (table .entry)) (now (classes .entry)) (now (pattern .entry)) (now («record» .entry)) (now (assigned .entry)) (now (left .entry)) (now (parts .entry)) (now (stack .entry)) stop marks place r (now (assigned .exit)) (now (left .exit)) (now (parts .exit)) (now (stack .exit)) ⌝ }
 {
     match stop {
         Stop::Failure => Outcome::Failed,
         Stop::NoAllowance => Outcome::Spent,
-        Stop::NoPair => complements(table, pattern, record, parts, stack, assigned, left, marks),
+        Stop::NoPair => complements(
+            table,
+            classes,
+            pattern,
+            record,
+            parts,
+            stack,
+            assigned,
+            left,
+            marks,
+        ),
         Stop::RunName(v) => lengths(
             table,
+            classes,
             pattern,
             record,
             parts,
@@ -882,10 +979,11 @@ fn follow(
 // The lengths of an unassigned run name; the first is counted here.
 fn lengths(
     table: &[u8],
+    classes: &[u8],
     pattern: &[u8],
     record: &[u8],
-    parts: &mut [u64; 49],
-    stack: &mut [u32; 256],
+    parts: &mut [u64; PARTS],
+    stack: &mut [u32; STACK],
     assigned: &mut u64,
     left: &mut u32,
     v: u8,
@@ -893,7 +991,7 @@ fn lengths(
     place: Place,
 ) -> Outcome
     requires { ⌜ Holding (length (now pattern)) (length (now «record»)) (now assigned) (now parts) (now stack) marks place × StopsAt (length (now pattern)) place (Stop.RunName v) × Unassigned (now assigned) (Stop.RunName v) × Short (now pattern) (now «record») ⌝ }
-    ensures { λ r. ⌜ FollowIs (now (table .entry)) (now (pattern .entry)) (now («record» .entry)) (now (assigned .entry)) (now (left .entry)) (now (parts .entry)) (now (stack .entry)) (Stop.RunName v) marks place r (now (assigned .exit)) (now (left .exit)) (now (parts .exit)) (now (stack .exit)) ⌝ }
+    ensures { λ r. ⌜ FollowIs (now (table .entry)) (now (classes .entry)) (now (pattern .entry)) (now («record» .entry)) (now (assigned .entry)) (now (left .entry)) (now (parts .entry)) (now (stack .entry)) (Stop.RunName v) marks place r (now (assigned .exit)) (now (left .exit)) (now (parts .exit)) (now (stack .exit)) ⌝ }
 {
     if *left == 0 {
         return Outcome::Spent;
@@ -902,6 +1000,7 @@ fn lengths(
     let past = place.passed(0, 1, 0);
     level(
         table,
+        classes,
         pattern,
         record,
         parts,
@@ -918,8 +1017,15 @@ fn lengths(
 }
 
 // A level's first pair decides it where the pattern has a symbol that is not the record's, or one without children that is.
-fn first_pair(table: &[u8], pattern: &[u8], record: &[u8], node: usize, left: u32) -> First
-    ensures { λ r. ⌜ Decides (now (table .entry)) (now (pattern .entry)) (now («record» .entry)) node left r ⌝ }
+fn first_pair(
+    table: &[u8],
+    classes: &[u8],
+    pattern: &[u8],
+    record: &[u8],
+    node: usize,
+    left: u32,
+) -> First
+    ensures { λ r. ⌜ Decides (now (table .entry)) (now (classes .entry)) (now (pattern .entry)) (now («record» .entry)) node left r ⌝ }
 {
     if left == 0 {
         return First::Unsure;
@@ -934,7 +1040,7 @@ fn first_pair(table: &[u8], pattern: &[u8], record: &[u8], node: usize, left: u3
     let Code::Symbol(b) = code else {
         return First::Unsure;
     };
-    if b != record[node] {
+    if !same_symbol(classes, b, record[node]) {
         return First::Decided(Outcome::Failed);
     }
     if entry_of(table, b) == 0 {
@@ -946,29 +1052,31 @@ fn first_pair(table: &[u8], pattern: &[u8], record: &[u8], node: usize, left: u3
 // The inside of a complement is a level of its own, that starts from the assignments made so far.
 fn complement(
     table: &[u8],
+    classes: &[u8],
     pattern: &[u8],
     record: &[u8],
-    parts: &mut [u64; 49],
-    stack: &mut [u32; 256],
+    parts: &mut [u64; PARTS],
+    stack: &mut [u32; STACK],
     assigned: &mut u64,
     left: &mut u32,
     c: u32,
     marks: Marks,
 ) -> Outcome
     requires { ⌜ Testable (length (now pattern)) (length (now «record»)) (now assigned) (now parts) (now stack) marks (putByIn c) × Short (now pattern) (now «record») ⌝ }
-    ensures { λ r. ⌜ ComplementIs (now (table .entry)) (now (pattern .entry)) (now («record» .entry)) (now (assigned .entry)) (now (left .entry)) (now (parts .entry)) (now (stack .entry)) (putByIn c) marks r (now (left .exit)) (now (parts .exit)) (now (stack .exit)) ⌝ }
+    ensures { λ r. ⌜ ComplementIs (now (table .entry)) (now (classes .entry)) (now (pattern .entry)) (now («record» .entry)) (now (assigned .entry)) (now (left .entry)) (now (parts .entry)) (now (stack .entry)) (putByIn c) marks r (now (left .exit)) (now (parts .exit)) (now (stack .exit)) ⌝ }
 {
     let from = (c % 256) as usize + 1;
     let stop = from + (c / 256 % 256) as usize;
     let node = (c / 65536) as usize;
     let inside = &pattern[from..stop];
-    let first = first_pair(table, inside, record, node, *left);
+    let first = first_pair(table, classes, inside, record, node, *left);
     if let First::Decided(outcome) = first {
         *left = *left - 1;
         return opposite(outcome);
     }
     opposite(start_level(
         table,
+        classes,
         inside,
         record,
         parts,
@@ -983,24 +1091,26 @@ fn complement(
 // The complements that were put by, in the order met.
 fn complements(
     table: &[u8],
+    classes: &[u8],
     pattern: &[u8],
     record: &[u8],
-    parts: &mut [u64; 49],
-    stack: &mut [u32; 256],
+    parts: &mut [u64; PARTS],
+    stack: &mut [u32; STACK],
     assigned: &mut u64,
     left: &mut u32,
     marks: Marks,
 ) -> Outcome
     requires { ⌜ Resting (length (now pattern)) (length (now «record»)) (now assigned) (now parts) (now stack) marks × Short (now pattern) (now «record») ⌝ }
-    ensures { λ r. ⌜ ComplementsAre (now (table .entry)) (now (pattern .entry)) (now («record» .entry)) (now (assigned .entry)) (now (left .entry)) (now (parts .entry)) (now (stack .entry)) marks r (now (assigned .exit)) (now (left .exit)) (now (parts .exit)) (now (stack .exit)) ⌝ }
+    ensures { λ r. ⌜ ComplementsAre (now (table .entry)) (now (classes .entry)) (now (pattern .entry)) (now («record» .entry)) (now (assigned .entry)) (now (left .entry)) (now (parts .entry)) (now (stack .entry)) marks r (now (assigned .exit)) (now (left .exit)) (now (parts .exit)) (now (stack .exit)) ⌝ }
 {
     let outside = *assigned;
     let end = marks.waiting;
     let mut i = marks.first;
     while i < end {
-        let c = stack[255 - i];
+        let c = stack[LAST - i];
         let x = complement(
             table,
+            classes,
             pattern,
             record,
             parts,
@@ -1021,80 +1131,82 @@ fn complements(
 
 // Absent marks for every name and run name.
 fn clear(answer: &mut [u16])
-    requires { ⌜ 96 ≤ length (now answer) ⌝ }
-    ensures { λ _. ⌜ now (answer .exit) ≡ numbers (replicate 48 absent) ++ drop 96 (now (answer .entry)) ⌝ }
+    requires { ⌜ answerWidth ≤ length (now answer) ⌝ }
+    ensures { λ _. ⌜ now (answer .exit) ≡ numbers (replicate variables absent) ++ drop answerWidth (now (answer .entry)) ⌝ }
 {
     let mut v: usize = 0;
-    while v < 48 {
-        answer[2 * v] = 65535;
-        answer[2 * v + 1] = 0;
+    while v < VARIABLES {
+        answer[ENTRY_WIDTH * v] = Part::ABSENT.offset;
+        answer[ENTRY_WIDTH * v + 1] = Part::ABSENT.length;
         v = v + 1;
     }
 }
 
 // Offset and length of what the variables of this mask are assigned, where those below `first` are shown and the others have absent marks.
-fn show_from(parts: &[u64; 49], assigned: u64, first: u8, answer: &mut [u16])
-    requires { ⌜ assigned < 2 ^ 48 ⌝ }
-    requires { ⌜ first ≤ 48 ⌝ }
-    requires { ⌜ 96 ≤ length (now answer) ⌝ }
-    requires { ⌜ now answer ≡ numbers (partsIn (assigned % 2 ^ first) (now parts) 0 48) ++ drop 96 (now answer) ⌝ }
-    ensures { λ _. ⌜ now (answer .exit) ≡ numbers (partsIn assigned (now (parts .entry)) 0 48) ++ drop 96 (now (answer .entry)) ⌝ }
+fn show_from(parts: &[u64; PARTS], assigned: u64, first: u8, answer: &mut [u16])
+    requires { ⌜ assigned < 2 ^ variables ⌝ }
+    requires { ⌜ first ≤ variables ⌝ }
+    requires { ⌜ answerWidth ≤ length (now answer) ⌝ }
+    requires { ⌜ now answer ≡ numbers (partsIn (assigned % 2 ^ first) (now parts) 0 variables) ++ drop answerWidth (now answer) ⌝ }
+    ensures { λ _. ⌜ now (answer .exit) ≡ numbers (partsIn assigned (now (parts .entry)) 0 variables) ++ drop answerWidth (now (answer .entry)) ⌝ }
 {
     let mut i = first;
     while 0 < assigned >> i {
         let j = wide(i);
         let p = part_of(parts, assigned, i);
-        answer[2 * j] = p.offset;
-        answer[2 * j + 1] = p.length;
+        answer[ENTRY_WIDTH * j] = p.offset;
+        answer[ENTRY_WIDTH * j + 1] = p.length;
         i = i + 1;
     }
 }
 
-// What is found is shown in a buffer of 96 numbers or more: offset and length of what each name and run name is assigned, and absent marks for
-// those that are not. All else stays. The names are 0 to 31, the run names 32 to 47.
-fn show(outcome: Outcome, parts: &[u64; 49], assigned: u64, answer: &mut [u16])
-    ensures { λ _. ⌜ now (answer .exit) ≡ shownBy outcome (partsIn assigned (now (parts .entry)) 0 48) (now (answer .entry)) ⌝ }
+// What is found is shown in a buffer of `ANSWER_WIDTH` numbers or more: offset and length of what each name and run name is assigned, and absent marks for
+// those that are not. All else stays.
+fn show(outcome: Outcome, parts: &[u64; PARTS], assigned: u64, answer: &mut [u16])
+    ensures { λ _. ⌜ now (answer .exit) ≡ shownBy outcome (partsIn assigned (now (parts .entry)) 0 variables) (now (answer .entry)) ⌝ }
 {
     if !is_found(outcome) {
         return;
     }
-    if answer.len() < 96 {
+    if answer.len() < ANSWER_WIDTH {
         return;
     }
     clear(answer);
-    show_from(parts, assigned % 4294967296, 0, answer);
-    show_from(parts, assigned % 281474976710656, 32, answer);
+    show_from(parts, assigned % NAMES_END, 0, answer);
+    show_from(parts, assigned % VARIABLES_END, NAMES, answer);
 }
 
 // The search of a whole pattern on a record, and what it finds in the answer buffer. A pattern or a record over its limit is never found.
 pub fn search(
     table: &[u8],
+    classes: &[u8],
     pattern: &[u8],
     record: &[u8],
     allowance: u32,
     answer: &mut [u16],
 ) -> Ended
-    ensures is { λ r. ⌜ r ≡ endOf (searchOf (now (table .entry)) (now (pattern .entry)) (now («record» .entry)) allowance) ⌝ }
-    ensures shows { λ r. ⌜ now (answer .exit) ≡ shownIn (searchOf (now (table .entry)) (now (pattern .entry)) (now («record» .entry)) allowance) (now (answer .entry)) ⌝ }
+    ensures is { λ r. ⌜ r ≡ endOf (searchOf (now (table .entry)) (now (classes .entry)) (now (pattern .entry)) (now («record» .entry)) allowance) ⌝ }
+    ensures shows { λ r. ⌜ now (answer .exit) ≡ shownIn (searchOf (now (table .entry)) (now (classes .entry)) (now (pattern .entry)) (now («record» .entry)) allowance) (now (answer .entry)) ⌝ }
 {
-    if 256 < pattern.len() {
+    if LONGEST_PATTERN < pattern.len() {
         return Ended {
             outcome: Outcome::Failed,
             left: allowance,
         };
     }
-    if 4096 < record.len() {
+    if LONGEST_RECORD < record.len() {
         return Ended {
             outcome: Outcome::Failed,
             left: allowance,
         };
     }
-    let mut parts = [0u64; 49];
-    let mut stack = [0u32; 256];
+    let mut parts = [0u64; PARTS];
+    let mut stack = [0u32; STACK];
     let mut assigned: u64 = 0;
     let mut left = allowance;
     let outcome = start_level(
         table,
+        classes,
         pattern,
         record,
         &mut parts,

@@ -8,6 +8,7 @@ use mathlib.Core.Bool.{true}
 use lib.ListN.{length, getD, drop, length-map}
 use borrow.Author.Tests.{eq-eqb}
 use Rattle.term.specs.Limits.{Octets}
+use Rattle.term.proofs.Numbers.{numbered}
 use Rattle.sheet.specs.Sheet.{sheetBytes}
 use Rattle.sheet.specs.Check.{checkSheet}
 use Rattle.sheet.specs.Answer.{checkedNumber, checkedCount, writingNumber, writingLength}
@@ -19,7 +20,7 @@ use Rattle.sheet.specs.declared.Checked.{Checked}
 use Rattle.sheet.specs.declared.Checked.the-variants.{Accepted}
 use Rattle.sheet.specs.declared.Writing.{Writing}
 use Rattle.sheet.specs.declared.Writing.the-variants.{Written}
-use Rattle.sheet.proofs.Answers.{numbered, accepted-number}
+use Rattle.sheet.proofs.Answers.{accepted-number}
 use Rattle.sheet.proofs.Words.{largestWord}
 use Rattle.sheet.proofs.Checks.{accepted-directed, directed-accepted}
 use Rattle.sheet.proofs.Entries.{entry-of-entries}

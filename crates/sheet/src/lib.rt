@@ -18,7 +18,7 @@ ghost use Rattle.sheet.specs.Answer.{checkedNumber, checkedIndex, checke
 ghost use Rattle.sheet.specs.Demands.{OneReading, Demanded};
 
 // The most bytes of a sheet.
-const LONGEST_SHEET: usize = 32768;
+pub const LONGEST_SHEET: usize = 32768;
 
 // The most entries of a rule sheet.
 const MOST_RULES: usize = 64;

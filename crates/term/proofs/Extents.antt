@@ -10,14 +10,15 @@ use lib.Seq.{drop-cons}
 use lib.Dec.{eqb}
 use borrow.Author.Tests.{eqb-true, eqb-false, lt-ltb, le-ltb, ne-eqb}
 use Rattle.term.specs.Code.{byteOf}
-use Rattle.term.specs.Table.{isList}
+use Rattle.term.specs.Table.{largestTable, list, isList}
 use Rattle.term.specs.Tree.{Tree, Trees, branch, empty, more, number, listCode, own, encode, encodes}
 use Rattle.term.specs.Term.{Term, size, termTree, termBytes}
 use Rattle.term.specs.Pattern.{Pattern, patternTree, patternBytes}
 use Rattle.term.specs.Limits.{Written, Counted, Shape, belowOf, Fits, FitAll}
-use Rattle.term.specs.Extent.{entryOf, spanOf, extentOf}
+use Rattle.term.specs.Extent.{kidsOf, entryOf, spanOf, extentOf}
 use Rattle.term.specs.declared.Code.{Code}
 use Rattle.term.specs.declared.Code.the-variants.{Symbol, Name, Run, Complement}
+use Rattle.term.proofs.Codes.{code-back}
 use Rattle.term.proofs.Sizes.{branch-length, more-length, term-size}
 
 module _ (table : List ℕ) where
@@ -32,12 +33,12 @@ module _ (table : List ℕ) where
   span-none [] = refl
   span-none (b ∷ s) = refl
 
-  pub span-fixed : (b n : ℕ) (s : List ℕ) → (entryOf table b ≡ 255 → ⊥)
+  pub span-fixed : (b n : ℕ) (s : List ℕ) → (entryOf table b ≡ list → ⊥)
       → spanOf table (b ∷ s) false (suc n) ≡ suc (spanOf table s false (entryOf table b + n))
   unfolding spanOf
-  span-fixed b n s h = rw (ne-eqb (entryOf table b) 255 h)
+  span-fixed b n s h = rw (ne-eqb (entryOf table b) list h)
 
-  pub span-list : (b c n : ℕ) (s : List ℕ) → entryOf table b ≡ 255
+  pub span-list : (b c n : ℕ) (s : List ℕ) → entryOf table b ≡ list
       → spanOf table (b ∷ c ∷ s) false (suc n) ≡ suc (suc (spanOf table s false (c + n)))
   unfolding spanOf
   span-list b c n s h = rw h
@@ -50,7 +51,7 @@ module _ (table : List ℕ) where
   span-all (b ∷ s) false zero h = absurd (omega arith)
   span-all (b ∷ s) false (suc n) h =
       ap suc
-      (either (eqb (entryOf table b) 255) (span-all s true n (omega arith)) (span-all s false (entryOf table b + n) (omega arith)))
+      (either (eqb (entryOf table b) list) (span-all s true n (omega arith)) (span-all s false (entryOf table b + n) (omega arith)))
     where
       either : (l : Bool) {x y z : ℕ} → x ≡ z → y ≡ z → cond l x y ≡ z
       either true e f = e
@@ -75,7 +76,7 @@ module _ (table : List ℕ) where
   pub extent-all : (s : List ℕ) (at end : ℕ) → at ≤ length s → length s ≤ end → at + spanOf table (drop at s) false (end - at) ≡ length s
   extent-all s at end h k = omega (arith, length-drop at s, span-all (drop at s) false (end - at) (omega (arith, length-drop at s)))
 
-  pub extent-fixed : (s : List ℕ) (at end e : ℕ) → at < end → at < length s → e ≡ entryOf table (getD s at 0) → (e ≡ 255 → ⊥)
+  pub extent-fixed : (s : List ℕ) (at end e : ℕ) → at < end → at < length s → e ≡ entryOf table (getD s at 0) → (e ≡ list → ⊥)
       → at + spanOf table (drop at s) false (end - at) ≡ at + 1 + spanOf table (drop (at + 1) s) false (end + e - (at + 1))
   extent-fixed s at end e h k i d =
       let n : end - at ≡ suc (end - (at + 1)) = omega arith in
@@ -86,7 +87,7 @@ module _ (table : List ℕ) where
       ∙ ap (λ (x : ℕ). suc (spanOf table (drop (at + 1) s) false x)) m) in
       omega arith
 
-  pub extent-list : (s : List ℕ) (at end c : ℕ) → at < end → at + 1 < length s → entryOf table (getD s at 0) ≡ 255 → c ≡ getD s (at + 1) 0
+  pub extent-list : (s : List ℕ) (at end c : ℕ) → at < end → at + 1 < length s → entryOf table (getD s at 0) ≡ list → c ≡ getD s (at + 1) 0
       → at + spanOf table (drop at s) false (end - at) ≡ at + 2 + spanOf table (drop (at + 2) s) false (end + 1 + c - (at + 2))
   extent-list s at end c h k i j =
       let n : end - at ≡ suc (end - (at + 1)) = omega arith in
@@ -104,30 +105,26 @@ module _ (table : List ℕ) where
 
 -- what the entry of a code says of its number of children
 abbrev Says : Bool → ℕ → ℕ → Type 0
-Says true entry n = entry ≡ 255
-Says false entry n = (entry ≡ n) × (entry ≡ 255 → ⊥)
+Says true entry n = entry ≡ list
+Says false entry n = (entry ≡ n) × (entry ≡ list → ⊥)
 
-module _ (table : List ℕ) (small : length table ≤ 200) where
-  entry-variable : (v : ℕ) → v < 48 → entryOf table (200 + v) ≡ 0
+module _ (table : List ℕ) (small : length table ≤ largestTable) where
+  entry-other : (c : Code) → Written false c → 200 ≤ byteOf c → entryOf table (byteOf c) ≡ kidsOf c
   unfolding entryOf
-  entry-variable v h = rw (le-ltb (200 + v) (length table) (omega arith), ne-eqb (200 + v) 248 (λ e. omega arith))
-
-  entry-complement : entryOf table 248 ≡ 1
-  unfolding entryOf
-  entry-complement = rw (le-ltb 248 (length table) (omega arith))
+  entry-other c w h = rw (le-ltb (byteOf c) (length table) (omega arith), code-back false c w)
 
   says-symbol : (s n : ℕ) (l : Bool) → isList table s ≡ l → s < length table → Counted l n (getD table s 0) → Says l (entryOf table s) n
-  says-symbol s n true e h k = entry-symbol table s h ∙ eqb-true (getD table s 0) 255 e
-  says-symbol s n false e h k = (entry-symbol table s h ∙ sym k, λ z. eqb-false (getD table s 0) 255 e (sym (entry-symbol table s h) ∙ z))
+  says-symbol s n true e h k = entry-symbol table s h ∙ eqb-true (getD table s 0) list e
+  says-symbol s n false e h k = (entry-symbol table s h ∙ sym k, λ z. eqb-false (getD table s 0) list e (sym (entry-symbol table s h) ∙ z))
 
   entry-says : (records inList : Bool) (c : Code) (n : ℕ) → Written records c → Shape table inList c n → Says (listCode table c) (entryOf table (byteOf c)) n
   unfolding Written Shape listCode byteOf
   entry-says records inList (Symbol s) n w h = says-symbol s n (isList table s) refl (h .0) (h .1)
   entry-says true inList (Name v) n w h = absurd w
-  entry-says false inList (Name v) n w h = let z = entry-variable v (omega arith) in (omega arith, λ e. omega arith)
+  entry-says false inList (Name v) n w h = let z = entry-other (Name v) w (omega arith) in (omega arith, λ e. omega arith)
   entry-says true inList (Run v) n w h = absurd w
-  entry-says false inList (Run v) n w h = let z = entry-variable v (omega arith) in (omega arith, λ e. omega arith)
-  entry-says records inList Complement n w h = let z = entry-complement in (omega arith, λ e. omega arith)
+  entry-says false inList (Run v) n w h = let z = entry-other (Run v) w (omega arith) in (omega arith, λ e. omega arith)
+  entry-says records inList Complement n w h = let z = entry-other Complement tt (omega arith) in (omega arith, λ e. omega arith)
   entry-says records inList Code.Refused n w h = absurd h
 
   span-own : (l : Bool) (b n k : ℕ) (bs : List ℕ) → Says l (entryOf table b) n
@@ -143,7 +140,7 @@ module _ (table : List ℕ) (small : length table ≤ 200) where
         → spanOf table (encode table t bs) false (suc n) ≡ length (encode table t []) + spanOf table bs false n
     span-tree records (branch c ts) left inList n bs h =
         span-own (listCode table c) (byteOf c) (number ts) n (encodes table ts bs) (entry-says records inList c (number ts) (h .1) (h .2))
-        ∙ omega (arith, span-trees records ts (belowOf c left) (listCode table c) n bs (h .3), branch-length table c ts)
+        ∙ omega (arith, span-trees records ts (belowOf left) (listCode table c) n bs (h .3), branch-length table c ts)
 
     pub span-trees : (records : Bool) (ts : Trees) (left : ℕ) (inList : Bool) (n : ℕ) (bs : List ℕ) → FitAll table records ts left inList
         → spanOf table (encodes table ts bs) false (number ts + n) ≡ length (encodes table ts []) + spanOf table bs false n

@@ -7,9 +7,10 @@ use mathlib.Core.List.{List, [], _∷_}
 use mathlib.Core.Bool.{Bool, false}
 use lib.ListN.{length, getD, drop, set, take, length-drop, length-set}
 use lib.Seq.{drop-drop, getD-set-same, getD-set-other}
+use Rattle.term.specs.Limits.{nesting}
 use Rattle.term.specs.Frame.{frame}
 use Rattle.term.specs.Node.{nodeAt}
-use Rattle.term.specs.Reading.{shown, readAll, readTree}
+use Rattle.term.specs.Reading.{shown, readAll, readTree, HandsOn}
 use Rattle.term.specs.declared.Frame.{Frame}
 use Rattle.term.specs.declared.Refusal.{Refusal}
 use Rattle.term.specs.declared.Node.{Node}
@@ -126,15 +127,15 @@ module _ (table : List ℕ) (records : Bool) where
 -- frames around are not empty, and each has a nesting of its own
 abbrev pub Kept : List Frame → Type 0
 Kept [] = Unit {0}
-Kept (f ∷ fs) = (0 < f .count) × (length fs + f .left ≤ 32) × Kept fs
+Kept (f ∷ fs) = (0 < f .count) × (length fs + f .left ≤ nesting) × Kept fs
 
 module _ (table : List ℕ) (records : Bool) (s : List ℕ) where
   -- read up to `at`, with these frames still to come
   abbrev pub ToCome : List Frame → ℕ → Type 0
-  ToCome fs at = shown (readTree table records 32 false s) ≡ plus at (resume table records fs (drop at s))
+  ToCome fs at = shown (readTree table records nesting false s) ≡ plus at (resume table records fs (drop at s))
 
-  pub whole-to-come : ToCome (frame 1 32 false ∷ []) 0
-  whole-to-come = sym (plus-none (resume table records (frame 1 32 false ∷ []) s) ∙ resume-one table records 32 false s)
+  pub whole-to-come : ToCome (frame 1 nesting false ∷ []) 0
+  whole-to-come = sym (plus-none (resume table records (frame 1 nesting false ∷ []) s) ∙ resume-one table records nesting false s)
 
   -- an open node's children come next, and then what is left of its frame
   pub children-to-come : (f : Frame) (fs : List Frame) (at : ℕ) {size k : ℕ} {list : Bool} {low : ℕ} → 0 < f .count
@@ -150,12 +151,12 @@ module _ (table : List ℕ) (records : Bool) (s : List ℕ) where
   pub record Reading (around : List Frame) (depth : ℕ) (top : Frame) (at : ℕ) : Type 0 where
     pub within : at ≤ length s
     pub some : 0 < top .count
-    pub room : depth + top .left ≤ 32 + (2 - top .count)
-    pub places : length around ≡ 32
+    pub room : depth + top .left ≤ nesting + (2 - top .count)
+    pub places : length around ≡ nesting
     pub kept : Kept (stack depth around)
     pub to-come : ToCome (top ∷ stack depth around) at
 
-  pub reading-starts : (around : List Frame) (top : Frame) → length around ≡ 32 → top ≡ frame 1 32 false → Reading around 0 top 0
+  pub reading-starts : (around : List Frame) (top : Frame) → length around ≡ nesting → top ≡ frame 1 nesting false → Reading around 0 top 0
   reading-starts around top l e = record {
     within = omega arith;
     some = rw e (omega arith);
@@ -165,7 +166,7 @@ module _ (table : List ℕ) (records : Bool) (s : List ℕ) where
     to-come = rw e whole-to-come;
   }
 
-  pub none-to-come : (at : ℕ) → ToCome [] at → shown (readTree table records 32 false s) ≡ Ends at
+  pub none-to-come : (at : ℕ) → ToCome [] at → shown (readTree table records nesting false s) ≡ Ends at
   unfolding resume
   none-to-come at l = l ∙ ap Ends (omega arith)
 
@@ -177,9 +178,12 @@ module _ (table : List ℕ) (records : Bool) (s : List ℕ) where
 
 module _ {table : List ℕ} {records : Bool} {s : List ℕ} {around : List Frame} {depth : ℕ} {top : Frame} {at : ℕ} (i : Reading table records s around depth top at)
     {n : Node} (is : n ≡ nodeAt table records (top .list) (top .left) (take (length s - at) (drop at s))) where
-  pub node-refuses : {r : Refusal} → n ≡ Node.Refused r → shown (readTree table records 32 false s) ≡ Read.Refused r
-  node-refuses {r} e =
+  refused : {r : Refusal} → n ≡ Node.Refused r → shown (readTree table records nesting false s) ≡ Read.Refused r
+  refused {r} e =
       i .to-come ∙ ap (plus at) (resume-refused table records top (stack depth around) (drop at s) r (i .some) (rw (rest-part at s) at (sym is ∙ e)))
+
+  pub node-refuses : {r : Refusal} {a : Read} → n ≡ Node.Refused r → HandsOn n a → a ≡ shown (readTree table records nesting false s)
+  node-refuses e h = (rw (e) at h) ∙ sym (refused e)
 
   module _ {size k : ℕ} {list : Bool} {low : ℕ} (e : n ≡ Open size k list low) where
     opens : nodeAt table records (top .list) (top .left) (drop at s) ≡ Open size k list low
@@ -193,7 +197,7 @@ module _ {table : List ℕ} {records : Bool} {s : List ℕ} {around : List Frame
         let w = node-within table records (top .list) (top .left) (drop at s) opens in
         (omega (arith, w, length-drop at s, i .within), w .1)
 
-    pub depth-within : depth ≤ 32
+    pub depth-within : depth ≤ nesting
     depth-within = omega (arith, i .room, i .some, below)
 
     opened : ToCome table records s (frame k low list ∷ restOf top ∷ stack depth around) (at + size)
@@ -229,10 +233,10 @@ module _ {table : List ℕ} {records : Bool} {s : List ℕ} {around : List Frame
           to-come = rw (← p) (last-tree z h);
         }
 
-    pub no-more : k ≤ 0 → top .count - 1 ≡ 0 → depth ≡ 0 → shown (readTree table records 32 false s) ≡ Ends (at + size)
+    pub no-more : k ≤ 0 → top .count - 1 ≡ 0 → depth ≡ 0 → shown (readTree table records nesting false s) ≡ Ends (at + size)
     no-more z h d = none-to-come table records s (at + size) (rw d at (last-tree z h))
 
-    pub place-free : 0 < top .count - 1 → depth < 32
+    pub place-free : 0 < top .count - 1 → depth < nesting
     place-free h = omega (arith, i .room, below)
 
     -- a node with children: they come next, and then what is left of its frame

@@ -1,5 +1,5 @@
 -- Reading and writing are inverse: what is read from bytes is the one tree within the limits that has those bytes.
-use Prim.Native.Nat.{ℕ, zero, suc, _+_, _-_, _≤_, _<_}
+use Prim.Native.Nat.{ℕ, zero, suc, _+_, _≤_, _<_}
 use native.Mathlib.Omega.{arith}
 use native.Mathlib.Nat.{le-refl}
 use mathlib.Core.Path.{_≡_, refl, sym, ap, ap₂, subst, fun-ext, _∙_}
@@ -12,7 +12,7 @@ use lib.Dec.{leb, eqb}
 use borrow.Author.Tests.{eqb-true, leb-true, le-leb, eq-eqb}
 use Rattle.term.specs.Code.{codeIn}
 use Rattle.term.specs.Tree.{Tree, Trees, branch, empty, more, number, listCode, own, encode, encodes}
-use Rattle.term.specs.Limits.{Written, Shape, belowOf, Fits, FitAll, longest, Octets, Accepted}
+use Rattle.term.specs.Limits.{nesting, Written, Shape, belowOf, Fits, FitAll, longest, Octets, Accepted}
 use Rattle.term.specs.Node.{nodeAt}
 use Rattle.term.specs.Reading.{Answer, refused, read, join, chain, readAll, grow, enter, readBy, readTree, whole, readWhole}
 use Rattle.term.specs.declared.Code.{Code}
@@ -72,7 +72,7 @@ module _ (table : List ℕ) (records : Bool) where
 -- a node's own bytes, and then what its children are read from
 node-step : (table : List ℕ) (records : Bool) (left : ℕ) (inList : Bool) (c : Code) (k : ℕ) (r : List ℕ) → 0 < left → Written records c → Shape table inList c k
     → readTree table records left inList (own table c k r)
-    ≡ grow c (ownSize table c) (readAll (readTree table records (belowOf c left) (listCode table c)) k r)
+    ≡ grow c (ownSize table c) (readAll (readTree table records (belowOf left) (listCode table c)) k r)
 unfolding enter
 node-step table records left inList c k r l w h =
     tree-unfold table records left inList (own table c k r)
@@ -89,7 +89,7 @@ mutual
   complete table records (branch c ts) left inList bs f =
       rw (
         node-step table records left inList c (number ts) (encodes table ts bs) (f .0) (f .1) (f .2),
-        completes table records ts (belowOf c left) (listCode table c) bs (f .3),
+        completes table records ts (belowOf left) (listCode table c) bs (f .3),
         branch-length table c ts,
       )
 
@@ -174,7 +174,7 @@ unfoldable pub Read-whole : List ℕ → Bool → List ℕ → Tree → ℕ → 
 Read-whole table records s t n = (encode table t [] ≡ s) × (n ≡ length s) × (Octets s → Accepted table records t)
 
 module _ (table : List ℕ) (records : Bool) (s : List ℕ) where
-  whole-sound : length s ≤ longest records → (a : Answer Tree) → Got (TreeSound table records 32 false s) a → Got (Read-whole table records s) (whole s a)
+  whole-sound : length s ≤ longest records → (a : Answer Tree) → Got (TreeSound table records nesting false s) a → Got (Read-whole table records s) (whole s a)
   unfolding whole Read-whole
   whole-sound l (refused r) h = tt
   whole-sound l (read t n) h =
@@ -189,7 +189,7 @@ module _ (table : List ℕ) (records : Bool) (s : List ℕ) where
   unfolding readWhole
   whole-read =
       cond-all (Got (Read-whole table records s)) (leb (length s) (longest records))
-      (λ l. whole-sound (leb-true (length s) (longest records) l) (readTree table records 32 false s) (sound table records 32 false s))
+      (λ l. whole-sound (leb-true (length s) (longest records) l) (readTree table records nesting false s) (sound table records nesting false s))
       (λ l. tt)
 
   -- bytes are read as a tree exactly if they are the tree's own and the tree is within the limits
@@ -204,6 +204,6 @@ module _ (table : List ℕ) (records : Bool) (s : List ℕ) where
       from h =
           let n : length (encode table t []) ≡ length s = ap length (h .0) in
           let l : length s ≤ longest records = rw (h .0) at (h .1 .short) in
-          let d : readTree table records 32 false s ≡ read t (length s) =
-          ap (readTree table records 32 false) (sym (h .0)) ∙ complete table records t 32 false [] (h .1 .fits) ∙ ap (read t) n in
+          let d : readTree table records nesting false s ≡ read t (length s) =
+          ap (readTree table records nesting false) (sym (h .0)) ∙ complete table records t nesting false [] (h .1 .fits) ∙ ap (read t) n in
           rw (le-leb (length s) (longest records) l, d, eq-eqb (length s) (length s) refl)

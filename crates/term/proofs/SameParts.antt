@@ -1,87 +1,181 @@
--- When two parts, two terms or two runs are the same: exactly if they are equal; and equal bytes are equal trees.
+-- When two parts, two terms or two runs are the same up to class; and equal bytes are equal trees.
 use Prim.Native.Nat.{ℕ, suc, _+_, _<_, _≤_}
 use native.Mathlib.Omega.{arith}
 use native.Mathlib.Numerals.{add-one}
-use mathlib.Core.Path.{_≡_, refl, sym, ap, ap₂, _∙_}
-use mathlib.Core.List.{List, [], _∷_}
+use mathlib.Core.Path.{_≡_, refl, sym, ap, ap₂, _∙_, subst}
+use mathlib.Core.List.{List, [], _∷_, _++_}
 use mathlib.Core.Bool.{Bool, true, false, cond, _&&_, and-false}
-use lib.ListN.{length, getD, take, drop, drop-of-length-le}
+use lib.ListN.{length, getD, take, drop, drop-of-length-le, take-append-drop, List·getD-eq-default}
 use lib.Seq.{drop-cons}
 use lib.Dec.{eqb}
-use borrow.Author.Tests.{eqb-true, eq-eqb}
-use Rattle.term.specs.Table.{isList}
+use borrow.Author.Tests.{eqb-true, eqb-false, eq-eqb, ne-eqb}
+use Rattle.term.specs.Table.{list, isList, width}
+use Rattle.term.specs.Class.{classOf, Alike}
 use Rattle.term.specs.Code.{byteOf}
 use Rattle.term.specs.Tree.{Tree, Trees, branch, empty, more, number, listCode, own, encode, encodes}
-use Rattle.term.specs.Term.{Term, Terms, node, nil, _::_, sizes, termTrees, termsOf, termsBytes, count}
+use Rattle.term.specs.Term.{Term, Terms, node, nil, _::_, size, sizes, termTree, termTrees, termsOf, termBytes, termsBytes, count}
 use Rattle.term.specs.Limits.{Written, Counted, Shape, belowOf, Fits, FitAll}
-use Rattle.term.specs.Same.{sameTerm, sameTerms, samePart}
+use Rattle.term.specs.Same.{sameTerm, sameTerms, countNext, sameByte, samePart}
 use Rattle.term.specs.declared.Code.{Code}
 use Rattle.term.specs.declared.Code.the-variants.{Symbol, Name, Run, Complement}
 use Rattle.term.proofs.Codes.{byte-injective}
-use Rattle.term.proofs.Sizes.{take-terms, number-terms}
+use Rattle.term.proofs.Sizes.{take-terms, number-terms, node-bytes, encodes-append}
 use Rattle.term.proofs.Typed.{terms-back}
-
--- parts
-
-pub same-refl : (xs : List ℕ) → samePart xs xs ≡ true
-unfolding samePart
-same-refl [] = refl
-same-refl (x ∷ xs) = rw (eq-eqb x x refl) (same-refl xs)
 
 pub and-true : (a b : Bool) → a && b ≡ true → (a ≡ true) × (b ≡ true)
 and-true true b h = (refl, h)
 and-true false b h = let z : _≡_ {A = ℕ} 0 1 = ap (λ (x : Bool). cond x 1 0) h in absurd (omega arith)
 
-pub same-equal : (xs ys : List ℕ) → samePart xs ys ≡ true → xs ≡ ys
-unfolding samePart
-same-equal [] [] h = refl
-same-equal [] (y ∷ ys) h = let z : _≡_ {A = ℕ} 0 1 = ap (λ (x : Bool). cond x 1 0) h in absurd (omega arith)
-same-equal (x ∷ xs) [] h = let z : _≡_ {A = ℕ} 0 1 = ap (λ (x : Bool). cond x 1 0) h in absurd (omega arith)
-same-equal (x ∷ xs) (y ∷ ys) h =
-    let a = and-true (eqb x y) (samePart xs ys) h in
-    ap₂ _∷_ (eqb-true x y (a .0)) (same-equal xs ys (a .1))
+and-assoc : (a b c : Bool) → (a && (b && c)) ≡ ((a && b) && c)
+and-assoc true b c = refl
+and-assoc false b c = refl
 
--- at a place of both
+-- bytes
 
-pub same-step : (x y : List ℕ) (i : ℕ) → i < length x → i < length y
-    → samePart (drop i x) (drop i y) ≡ (eqb (getD x i 0) (getD y i 0) && samePart (drop (i + 1) x) (drop (i + 1) y))
-unfolding samePart
-same-step x y i h k = rw (add-one i, drop-cons x i 0 h, drop-cons y i 0 k)
+module _ (classes : List ℕ) where
+  pub byte-equal : (counting : Bool) (x : ℕ) → sameByte classes counting x x ≡ true
+  byte-equal true x = eq-eqb x x refl
+  byte-equal false x = eq-eqb (classOf classes x) (classOf classes x) refl
 
-pub same-lengths : (x y : List ℕ) → (length x ≡ length y → ⊥) → samePart x y ≡ false
-unfolding samePart
-same-lengths [] [] n = absurd (n refl)
-same-lengths [] (y ∷ ys) n = refl
-same-lengths (x ∷ xs) [] n = refl
-same-lengths (x ∷ xs) (y ∷ ys) n = rw (same-lengths xs ys (λ e. n (ap suc e))) (and-false (eqb x y))
+  -- symbols
+  pub symbol-none : (x y : ℕ) → length classes ≡ 0 → (x ≡ y → ⊥) → false ≡ sameByte classes false x y
+  symbol-none x y h n = go classes h
+    where
+      go : (l : List ℕ) → length l ≡ 0 → false ≡ sameByte l false x y
+      go [] h = sym (ne-eqb x y n)
+      go (c ∷ l) h = absurd (omega arith)
 
-pub same-end : (x y : List ℕ) (i : ℕ) → length x ≤ i → length y ≤ i → samePart (drop i x) (drop i y) ≡ true
+  -- by what they are
+  pub byte-number : (counting : Bool) (x y : ℕ) → counting ≡ true → eqb x y ≡ sameByte classes counting x y
+  byte-number counting x y e = rw e
+
+  pub byte-symbol : (counting : Bool) (x y : ℕ) → counting ≡ false → sameByte classes false x y ≡ sameByte classes counting x y
+  byte-symbol counting x y e = rw e
+
+pub next-none : (table : List ℕ) (counting : Bool) (x : ℕ) → length table ≤ x → false ≡ countNext table counting x
+next-none table true x h = refl
+next-none table false x h = rw (List·getD-eq-default table 0 h)
+
+pub next-read : (table : List ℕ) (counting : Bool) (x : ℕ) → counting ≡ false → eqb (getD table x 0) list ≡ countNext table counting x
+next-read table counting x e = rw e
+
+-- parts
+
+module _ (table classes : List ℕ) where
+  pub same-refl : (counting : Bool) (xs : List ℕ) → samePart table classes counting xs xs ≡ true
+  unfolding samePart
+  same-refl counting [] = refl
+  same-refl true (x ∷ xs) = rw (eq-eqb x x refl) (same-refl false xs)
+  same-refl false (x ∷ xs) = rw (eq-eqb (classOf classes x) (classOf classes x) refl) (same-refl (isList table x) xs)
+
+  -- what follows both may be the same too
+  pub same-append : (counting : Bool) (xs ys zs : List ℕ) → samePart table classes counting xs ys ≡ true
+      → samePart table classes counting (xs ++ zs) (ys ++ zs) ≡ true
+  unfolding samePart
+  same-append counting [] [] zs h = same-refl counting zs
+  same-append counting [] (y ∷ ys) zs h = let z : _≡_ {A = ℕ} 0 1 = ap (λ (x : Bool). cond x 1 0) h in absurd (omega arith)
+  same-append counting (x ∷ xs) [] zs h = let z : _≡_ {A = ℕ} 0 1 = ap (λ (x : Bool). cond x 1 0) h in absurd (omega arith)
+  same-append true (x ∷ xs) (y ∷ ys) zs h =
+      let a = and-true (eqb x y) (samePart table classes false xs ys) h in rw (a .0) (same-append false xs ys zs (a .1))
+  same-append false (x ∷ xs) (y ∷ ys) zs h =
+      let a = and-true (eqb (classOf classes x) (classOf classes y)) (samePart table classes (isList table x) xs ys) h in
+      rw (a .0) (same-append (isList table x) xs ys zs (a .1))
+
+  pub same-lengths : (counting : Bool) (x y : List ℕ) → (length x ≡ length y → ⊥) → samePart table classes counting x y ≡ false
+  unfolding samePart
+  same-lengths counting [] [] n = absurd (n refl)
+  same-lengths counting [] (y ∷ ys) n = refl
+  same-lengths counting (x ∷ xs) [] n = refl
+  same-lengths true (x ∷ xs) (y ∷ ys) n = rw (same-lengths false xs ys (λ e. n (ap suc e))) (and-false (eqb x y))
+  same-lengths false (x ∷ xs) (y ∷ ys) n =
+      rw (same-lengths (isList table x) xs ys (λ e. n (ap suc e))) (and-false (eqb (classOf classes x) (classOf classes y)))
+
+  -- at a place of both
+
+  pub same-end : (counting : Bool) (x y : List ℕ) (i : ℕ) → length x ≤ i → length y ≤ i → samePart table classes counting (drop i x) (drop i y) ≡ true
+  unfolding samePart
+  same-end counting x y i h k = rw (drop-of-length-le x h, drop-of-length-le y k)
+
+  pub same-step : (counting : Bool) (x y : List ℕ) (i : ℕ) → i < length x → i < length y
+      → samePart table classes counting (drop i x) (drop i y)
+      ≡ (sameByte classes counting (getD x i 0) (getD y i 0)
+      && samePart table classes (countNext table counting (getD x i 0)) (drop (i + 1) x) (drop (i + 1) y))
+  unfolding samePart
+  same-step counting x y i h k = rw (add-one i, drop-cons x i 0 h, drop-cons y i 0 k)
+
+  module _ (counting : Bool) (x y : List ℕ) (i : ℕ) (h : i < length x) (k : i < length y) where
+    pub same-differs : sameByte classes counting (getD x i 0) (getD y i 0) ≡ false → samePart table classes counting (drop i x) (drop i y) ≡ false
+    same-differs e = same-step counting x y i h k ∙ rw e
+
+    pub same-next : sameByte classes counting (getD x i 0) (getD y i 0) ≡ true → (next : Bool) → next ≡ countNext table counting (getD x i 0)
+        → samePart table classes counting (drop i x) (drop i y) ≡ samePart table classes next (drop (i + 1) x) (drop (i + 1) y)
+    same-next e next n = same-step counting x y i h k ∙ rw (e, n)
+
+-- without classes the bytes decide
+pub same-bytes : (table table′ : List ℕ) (b c : Bool) (xs ys : List ℕ) → samePart table [] b xs ys ≡ samePart table′ [] c xs ys
 unfolding samePart
-same-end x y i h k = rw (drop-of-length-le x h, drop-of-length-le y k)
+same-bytes table table′ b c [] [] = refl
+same-bytes table table′ b c [] (y ∷ ys) = refl
+same-bytes table table′ b c (x ∷ xs) [] = refl
+same-bytes table table′ b c (x ∷ xs) (y ∷ ys) =
+    ap₂ _&&_ (byte b c) (same-bytes table table′ (countNext table b x) (countNext table′ c x) xs ys)
+  where
+    byte : (b c : Bool) → sameByte [] b x y ≡ sameByte [] c x y
+    byte true true = refl
+    byte true false = refl
+    byte false true = refl
+    byte false false = refl
+
+pub same-none : (table classes x y : List ℕ) → length classes ≡ 0 → samePart table classes false x y ≡ samePart [] [] true x y
+same-none table [] x y h = same-bytes table [] false true x y
+same-none table (c ∷ classes) x y h = absurd (omega arith)
+
+pub same-byte-step : (x y : List ℕ) (i : ℕ) → i < length x → i < length y
+    → samePart [] [] true (drop i x) (drop i y) ≡ (eqb (getD x i 0) (getD y i 0) && samePart [] [] true (drop (i + 1) x) (drop (i + 1) y))
+same-byte-step x y i h k =
+    same-step [] [] true x y i h k
+    ∙ ap (λ (m : Bool). eqb (getD x i 0) (getD y i 0) && m) (same-bytes [] [] false true (drop (i + 1) x) (drop (i + 1) y))
 
 -- terms
 
-mutual
-  pub same-term : (t : Term) → sameTerm t t ≡ true
-  same-term (node s ts) = rw (eq-eqb s s refl) (same-terms ts)
+module _ (classes : List ℕ) where
+  mutual
+    pub same-term : (t : Term) → sameTerm classes t t ≡ true
+    same-term (node s ts) = rw (eq-eqb (classOf classes s) (classOf classes s) refl) (same-terms ts)
 
-  pub same-terms : (ts : Terms) → sameTerms ts ts ≡ true
-  same-terms nil = refl
-  same-terms (t :: ts) = rw (same-term t) (same-terms ts)
+    pub same-terms : (ts : Terms) → sameTerms classes ts ts ≡ true
+    same-terms nil = refl
+    same-terms (t :: ts) = rw (same-term t) (same-terms ts)
 
-mutual
-  pub term-equal : (t u : Term) → sameTerm t u ≡ true → t ≡ u
-  term-equal (node s ts) (node r us) h =
-      let a = and-true (eqb s r) (sameTerms ts us) h in
-      ap₂ node (eqb-true s r (a .0)) (terms-equal ts us (a .1))
+  pub same-counts : (ts us : Terms) → sameTerms classes ts us ≡ true → count ts ≡ count us
+  same-counts nil nil h = refl
+  same-counts nil (u :: us) h = let z : _≡_ {A = ℕ} 0 1 = ap (λ (x : Bool). cond x 1 0) h in absurd (omega arith)
+  same-counts (t :: ts) nil h = let z : _≡_ {A = ℕ} 0 1 = ap (λ (x : Bool). cond x 1 0) h in absurd (omega arith)
+  same-counts (t :: ts) (u :: us) h =
+      let a = and-true (sameTerm classes t u) (sameTerms classes ts us) h in ap suc (same-counts ts us (a .1))
 
-  pub terms-equal : (ts us : Terms) → sameTerms ts us ≡ true → ts ≡ us
-  terms-equal nil nil h = refl
-  terms-equal nil (u :: us) h = let z : _≡_ {A = ℕ} 0 1 = ap (λ (x : Bool). cond x 1 0) h in absurd (omega arith)
-  terms-equal (t :: ts) nil h = let z : _≡_ {A = ℕ} 0 1 = ap (λ (x : Bool). cond x 1 0) h in absurd (omega arith)
-  terms-equal (t :: ts) (u :: us) h =
-      let a = and-true (sameTerm t u) (sameTerms ts us) h in
-      ap₂ _::_ (term-equal t u (a .0)) (terms-equal ts us (a .1))
+  pub unlike-counts : (ts us : Terms) → (count ts ≡ count us → ⊥) → sameTerms classes ts us ≡ false
+  unlike-counts nil nil n = absurd (n refl)
+  unlike-counts nil (u :: us) n = refl
+  unlike-counts (t :: ts) nil n = refl
+  unlike-counts (t :: ts) (u :: us) n =
+      rw (unlike-counts ts us (λ e. n (ap suc e))) (and-false (sameTerm classes t u))
+
+-- where each symbol is its own class the same terms are equal
+module _ (classes : List ℕ) (single : (s : ℕ) → classOf classes s ≡ s) where
+  mutual
+    pub term-equal : (t u : Term) → sameTerm classes t u ≡ true → t ≡ u
+    term-equal (node s ts) (node r us) h =
+        let a = and-true (eqb (classOf classes s) (classOf classes r)) (sameTerms classes ts us) h in
+        ap₂ node (sym (single s) ∙ eqb-true (classOf classes s) (classOf classes r) (a .0) ∙ single r) (terms-equal ts us (a .1))
+
+    pub terms-equal : (ts us : Terms) → sameTerms classes ts us ≡ true → ts ≡ us
+    terms-equal nil nil h = refl
+    terms-equal nil (u :: us) h = let z : _≡_ {A = ℕ} 0 1 = ap (λ (x : Bool). cond x 1 0) h in absurd (omega arith)
+    terms-equal (t :: ts) nil h = let z : _≡_ {A = ℕ} 0 1 = ap (λ (x : Bool). cond x 1 0) h in absurd (omega arith)
+    terms-equal (t :: ts) (u :: us) h =
+        let a = and-true (sameTerm classes t u) (sameTerms classes ts us) h in
+        ap₂ _::_ (term-equal t u (a .0)) (terms-equal ts us (a .1))
 
 -- trees: bytes that start with two trees start with one
 
@@ -123,7 +217,7 @@ module _ (table : List ℕ) where
         → Fits table records t left inList → Fits table records u left′ inList′ → encode table t bs ≡ encode table u cs → (t ≡ u) × (bs ≡ cs)
     one-tree records (branch c ts) (branch d us) left left′ inList inList′ bs cs g h e =
         let a = own-one records c d inList inList′ (number ts) (number us) (encodes table ts bs) (encodes table us cs) (g .1) (h .1) (g .2) (h .2) e in
-        let b = one-run records ts us (belowOf c left) (belowOf d left′) (listCode table c) (listCode table d) bs cs (g .3) (h .3) (a .1) (a .2) in
+        let b = one-run records ts us (belowOf left) (belowOf left′) (listCode table c) (listCode table d) bs cs (g .3) (h .3) (a .1) (a .2) in
         (ap₂ branch (a .0) (b .0), b .1)
 
     pub one-run : (records : Bool) (ts us : Trees) (left left′ : ℕ) (inList inList′ : Bool) (bs cs : List ℕ)
@@ -171,13 +265,126 @@ module _ (table : List ℕ) (ts us : Terms) (left left′ : ℕ) (inList inList�
   pub run-of-size : (bs cs : List ℕ) → sizes table ts ≡ sizes table us → termsBytes table ts bs ≡ termsBytes table us cs → ts ≡ us
   run-of-size bs cs n e = run-of-bytes (sym (take-terms table ts bs) ∙ ap₂ take n e ∙ take-terms table us cs)
 
-  pub same-run : samePart (termsBytes table ts []) (termsBytes table us []) ≡ sameTerms ts us
-  same-run =
-      both (samePart (termsBytes table ts []) (termsBytes table us [])) (sameTerms ts us)
-      (λ e. rw (← run-of-bytes (same-equal (termsBytes table ts []) (termsBytes table us []) e)) (same-terms ts))
-      (λ e. rw (← terms-equal ts us e) (same-refl (termsBytes table ts [])))
+-- Bytes of runs are the same exactly if the runs are, up to class
+
+module _ (table classes : List ℕ) (k : Alike table classes) where
+  -- symbols of one class are lists both, or neither
+  pub entry-alike : (s r : ℕ) → classOf classes s ≡ classOf classes r → getD table s 0 ≡ getD table r 0
+  entry-alike s r e = sym (k .alike s) ∙ ap (λ (c : ℕ). getD table c 0) e ∙ k .alike r
+
+  class-list : (s r : ℕ) → classOf classes s ≡ classOf classes r → isList table s ≡ isList table r
+  class-list s r e = ap (λ (b : ℕ). eqb b list) (entry-alike s r e)
+
+  mutual
+    unfolding size
+
+    pub same-size : (t u : Term) → sameTerm classes t u ≡ true → size table t ≡ size table u
+    same-size (node s ts) (node r us) h =
+        let a = and-true (eqb (classOf classes s) (classOf classes r)) (sameTerms classes ts us) h in
+        let i : width table s ≡ width table r =
+        ap (λ (b : Bool). cond b 2 1) (class-list s r (eqb-true (classOf classes s) (classOf classes r) (a .0))) in
+        ap₂ _+_ i (same-sizes ts us (a .1))
+
+    pub same-sizes : (ts us : Terms) → sameTerms classes ts us ≡ true → sizes table ts ≡ sizes table us
+    same-sizes nil nil h = refl
+    same-sizes nil (u :: us) h = let z : _≡_ {A = ℕ} 0 1 = ap (λ (x : Bool). cond x 1 0) h in absurd (omega arith)
+    same-sizes (t :: ts) nil h = let z : _≡_ {A = ℕ} 0 1 = ap (λ (x : Bool). cond x 1 0) h in absurd (omega arith)
+    same-sizes (t :: ts) (u :: us) h =
+        let a = and-true (sameTerm classes t u) (sameTerms classes ts us) h in ap₂ _+_ (same-size t u (a .0)) (same-sizes ts us (a .1))
+
+  abbrev part : List ℕ → List ℕ → Bool
+  part xs ys = samePart table classes false xs ys
+
+  -- the children of two nodes of one class
+  children-same : (ts us : Terms) (l : Bool) (n : ℕ) (xs ys : List ℕ) → Counted l (count ts) n → Counted l (count us) n
+      → (count ts ≡ count us → part (termsBytes table ts xs) (termsBytes table us ys) ≡ (sameTerms classes ts us && part xs ys))
+      → samePart table classes l (cond l (count ts ∷ termsBytes table ts xs) (termsBytes table ts xs))
+      (cond l (count us ∷ termsBytes table us ys) (termsBytes table us ys)) ≡ (sameTerms classes ts us && part xs ys)
+  unfolding samePart
+  children-same ts us false n xs ys g h f = f (g ∙ sym h)
+  children-same ts us true n xs ys g h f = go (eqb (count ts) (count us)) refl
     where
-      both : (a b : Bool) → (a ≡ true → b ≡ true) → (b ≡ true → a ≡ true) → a ≡ b
-      both true b p q = sym (p refl)
-      both false true p q = q refl
-      both false false p q = refl
+      go : (m : Bool) → eqb (count ts) (count us) ≡ m
+          → (m && part (termsBytes table ts xs) (termsBytes table us ys)) ≡ (sameTerms classes ts us && part xs ys)
+      go true e = f (eqb-true (count ts) (count us) e)
+      go false e = rw (unlike-counts classes ts us (eqb-false (count ts) (count us) e))
+
+  node-same : (s r : ℕ) (ts us : Terms) (xs ys : List ℕ) → Counted (isList table s) (count ts) (getD table s 0)
+      → Counted (isList table r) (count us) (getD table r 0)
+      → (count ts ≡ count us → part (termsBytes table ts xs) (termsBytes table us ys) ≡ (sameTerms classes ts us && part xs ys))
+      → (eqb (classOf classes s) (classOf classes r)
+      && samePart table classes (isList table s) (cond (isList table s) (count ts ∷ termsBytes table ts xs) (termsBytes table ts xs))
+      (cond (isList table r) (count us ∷ termsBytes table us ys) (termsBytes table us ys)))
+      ≡ ((eqb (classOf classes s) (classOf classes r) && sameTerms classes ts us) && part xs ys)
+  node-same s r ts us xs ys g h f = go (eqb (classOf classes s) (classOf classes r)) refl
+    where
+      go : (m : Bool) → eqb (classOf classes s) (classOf classes r) ≡ m
+          → (m && samePart table classes (isList table s) (cond (isList table s) (count ts ∷ termsBytes table ts xs) (termsBytes table ts xs))
+          (cond (isList table r) (count us ∷ termsBytes table us ys) (termsBytes table us ys))) ≡ ((m && sameTerms classes ts us) && part xs ys)
+      go true e =
+          let z = eqb-true (classOf classes s) (classOf classes r) e in
+          let i : getD table r 0 ≡ getD table s 0 = sym (entry-alike s r z) in
+          let d : Counted (isList table s) (count us) (getD table s 0) = subst (λ (b : ℕ). Counted (eqb b list) (count us) b) i h in
+          rw (i) (children-same ts us (isList table s) (getD table s 0) xs ys g d f)
+      go false e = refl
+
+  node-front : (s r : ℕ) (ts us : Terms) (xs ys : List ℕ) → Counted (isList table s) (count ts) (getD table s 0)
+      → Counted (isList table r) (count us) (getD table r 0)
+      → (count ts ≡ count us → part (termsBytes table ts xs) (termsBytes table us ys) ≡ (sameTerms classes ts us && part xs ys))
+      → part (termBytes table (node s ts) xs) (termBytes table (node r us) ys) ≡ (sameTerm classes (node s ts) (node r us) && part xs ys)
+  unfolding samePart
+  node-front s r ts us xs ys g h f =
+      ap₂ part (node-bytes table s ts xs) (node-bytes table r us ys) ∙ node-same s r ts us xs ys g h f
+
+  mutual
+    unfolding Fits Shape encode
+
+    pub same-front : (t u : Term) (left left′ : ℕ) (inList inList′ : Bool) (xs ys : List ℕ) → Fits table true (termTree t) left inList
+        → Fits table true (termTree u) left′ inList′
+        → part (termBytes table t xs) (termBytes table u ys) ≡ (sameTerm classes t u && part xs ys)
+    same-front (node s ts) (node r us) left left′ inList inList′ xs ys g h =
+        node-front s r ts us xs ys
+        (subst (λ (n : ℕ). Counted (isList table s) n (getD table s 0)) (number-terms ts) (g .2 .1))
+        (subst (λ (n : ℕ). Counted (isList table r) n (getD table r 0)) (number-terms us) (h .2 .1))
+        (λ e. same-fronts ts us _ _ _ _ xs ys (g .3) (h .3) e)
+
+    -- runs of as many terms, in front of other bytes
+    pub same-fronts : (ts us : Terms) (left left′ : ℕ) (inList inList′ : Bool) (xs ys : List ℕ) → FitAll table true (termTrees ts) left inList
+        → FitAll table true (termTrees us) left′ inList′ → count ts ≡ count us
+        → part (termsBytes table ts xs) (termsBytes table us ys) ≡ (sameTerms classes ts us && part xs ys)
+    same-fronts nil nil left left′ inList inList′ xs ys g h n = refl
+    same-fronts nil (u :: us) left left′ inList inList′ xs ys g h n = absurd (omega arith)
+    same-fronts (t :: ts) nil left left′ inList inList′ xs ys g h n = absurd (omega arith)
+    same-fronts (t :: ts) (u :: us) left left′ inList inList′ xs ys g h n =
+        same-front t u left left′ inList inList′ (termsBytes table ts xs) (termsBytes table us ys) (g .0) (h .0)
+        ∙ ap (λ (m : Bool). sameTerm classes t u && m) (same-fronts ts us left left′ inList inList′ xs ys (g .1) (h .1) (omega arith))
+        ∙ and-assoc (sameTerm classes t u) (sameTerms classes ts us) (part xs ys)
+
+  -- L1: "equality of parts promises equal terms up to class": two parts that are the bytes of runs are the same exactly if the runs are
+  pub same-run : (ts us : Terms) (left left′ : ℕ) (inList inList′ : Bool) → FitAll table true (termTrees ts) left inList
+      → FitAll table true (termTrees us) left′ inList′ → part (termsBytes table ts []) (termsBytes table us []) ≡ sameTerms classes ts us
+  unfolding Fits encode samePart
+  same-run nil nil left left′ inList inList′ g h = refl
+  same-run nil (u :: us) left left′ inList inList′ g h = same-lengths table classes false [] (termsBytes table (u :: us) [])
+      (λ e. omega (arith, branch-some table (termTree u) (termsBytes table us []), e))
+  same-run (t :: ts) nil left left′ inList inList′ g h = same-lengths table classes false (termsBytes table (t :: ts) []) []
+      (λ e. omega (arith, branch-some table (termTree t) (termsBytes table ts []), e))
+  same-run (t :: ts) (u :: us) left left′ inList inList′ g h =
+      same-front t u left left′ inList inList′ (termsBytes table ts []) (termsBytes table us []) (g .0) (h .0)
+      ∙ ap (λ (m : Bool). sameTerm classes t u && m) (same-run ts us left left′ inList inList′ (g .1) (h .1))
+
+  -- a run against the front of another of as many terms, as long as itself
+  module _ (w x : Terms) (left left′ : ℕ) (inList inList′ : Bool) (g : FitAll table true (termTrees w) left inList)
+      (h : FitAll table true (termTrees x) left′ inList′) (bs : List ℕ) where
+    pub same-part : sameTerms classes w x ≡ true → part (termsBytes table w []) (take (sizes table w) (termsBytes table x bs)) ≡ true
+    same-part e =
+        ap (part (termsBytes table w [])) (ap (λ (n : ℕ). take n (termsBytes table x bs)) (same-sizes w x e) ∙ take-terms table x bs)
+        ∙ same-run w x left left′ inList inList′ g h ∙ e
+
+    pub part-same : count w ≡ count x → part (termsBytes table w []) (take (sizes table w) (termsBytes table x bs)) ≡ true → sameTerms classes w x ≡ true
+    part-same n e =
+        let r = drop (sizes table w) (termsBytes table x bs) in
+        let z : part (termsBytes table w r) (termsBytes table x bs) ≡ true =
+        ap₂ part (encodes-append table (termTrees w) [] r) (sym (take-append-drop (sizes table w) (termsBytes table x bs)))
+        ∙ same-append table classes false (termsBytes table w []) (take (sizes table w) (termsBytes table x bs)) r e in
+        and-true (sameTerms classes w x) (part r bs) (sym (same-fronts w x left left′ inList inList′ r bs g h n) ∙ z) .0

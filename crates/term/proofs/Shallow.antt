@@ -8,6 +8,8 @@ use lib.ListN.{length, getD, drop, length-drop}
 use lib.Seq.{getD-drop}
 use lib.Dec.{eqb}
 use borrow.Author.Tests.{lt-ltb, le-ltb, eqb-true, eq-eqb, ne-eqb}
+use Rattle.term.specs.Table.{list}
+use Rattle.term.specs.Limits.{nesting, longestRecord}
 use Rattle.term.specs.Frame.{frame}
 use Rattle.term.specs.Node.{openNode, nodeAt}
 use Rattle.term.specs.Reading.{shown, readTree, readWhole, Shallow}
@@ -27,7 +29,7 @@ total (f ∷ fs) = f .count + total fs
 -- each node with children takes one of the 32 levels at most
 abbrev Roomy : ℕ → List Frame → Type 0
 Roomy parents [] = Unit {0}
-Roomy parents (f ∷ fs) = (32 ≤ f .left + parents) × Roomy parents fs
+Roomy parents (f ∷ fs) = (nesting ≤ f .left + parents) × Roomy parents fs
 
 roomier : (parents : ℕ) (fs : List Frame) → Roomy parents fs → Roomy (parents + 1) fs
 roomier parents [] r = tt
@@ -38,12 +40,12 @@ module _ (table s : List ℕ) where
   pub record Passing (at end parents : ℕ) : Type 0 where
     pub frames : List Frame
     pub trees : at + total frames ≡ end
-    pub few : parents < 32
+    pub few : parents < nesting
     pub roomy : Roomy parents frames
     pub to-come : ToCome table true s frames at
 
   pub passing-starts : Passing 0 1 0
-  passing-starts = record { frames = frame 1 32 false ∷ []; trees = refl; few = omega arith; roomy = (omega arith, tt); to-come = whole-to-come table true s }
+  passing-starts = record { frames = frame 1 nesting false ∷ []; trees = refl; few = omega arith; roomy = (omega arith, tt); to-come = whole-to-come table true s }
 
   -- the frame of the next tree
   record Next (at trees parents : ℕ) : Type 0 where
@@ -51,7 +53,7 @@ module _ (table s : List ℕ) where
     others : List Frame
     some : 0 < first .count
     is-total : first .count + total others ≡ trees
-    room : 32 ≤ first .left + parents
+    room : nesting ≤ first .left + parents
     roomy : Roomy parents others
     to-come : ToCome table true s (first ∷ others) at
 
@@ -67,17 +69,17 @@ module _ (table s : List ℕ) where
       by (suc n) e later =
           record { first = f; others = fs; some = omega (arith, e); is-total = refl; room = r .0; roomy = r .1; to-come = l }
 
-  none-left : (at : ℕ) (fs : List Frame) → total fs ≡ 0 → ToCome table true s fs at → shown (readTree table true 32 false s) ≡ Ends at
+  none-left : (at : ℕ) (fs : List Frame) → total fs ≡ 0 → ToCome table true s fs at → shown (readTree table true nesting false s) ≡ Ends at
   none-left at [] z l = none-to-come table true s at l
   none-left at (f ∷ fs) z l = none-left at fs (omega (arith, z)) (skip table true s f fs at (omega (arith, z)) l)
 
   -- all trees are read
-  pub passing-ends : {at end parents : ℕ} → Passing at end parents → end ≤ at → length s ≤ 4096 → Shallow table s (eqb at (length s))
+  pub passing-ends : {at end parents : ℕ} → Passing at end parents → end ≤ at → length s ≤ longestRecord → Shallow table s (eqb at (length s))
   passing-ends {at} {end} i h k =
       by (eqb at (length s)) (λ e.
       let z = eqb-true at (length s) e in
       ap shown (whole-tree true table s k)
-      ∙ whole-all s (readTree table true 32 false s) (length s) (none-left at (i .frames) (omega (arith, h, i .trees)) (i .to-come) ∙ ap Ends z)
+      ∙ whole-all s (readTree table true nesting false s) (length s) (none-left at (i .frames) (omega (arith, h, i .trees)) (i .to-come) ∙ ap Ends z)
       (omega arith) (omega arith))
     where
       by : (b : Bool) → (b ≡ true → shown (readWhole true table s) ≡ Ends (length s)) → Shallow table s b
@@ -92,15 +94,15 @@ module _ (table s : List ℕ) where
         node-open table true inList left (drop at s) (Symbol b) (λ e. omega (arith, length-drop at s, e))
         (ap Symbol (is ∙ ap (λ (n : ℕ). getD s n 0) z ∙ sym (getD-drop at s 0 0))) (lt-ltb b (length table) known) (λ e. omega arith)
 
-    fixed-node : (getD table b 0 ≡ 255 → ⊥) → nodeAt table true inList left (drop at s) ≡ Open 1 (getD table b 0) false (left - 1)
+    fixed-node : (getD table b 0 ≡ list → ⊥) → nodeAt table true inList left (drop at s) ≡ Open 1 (getD table b 0) false (left - 1)
     unfolding openNode
-    fixed-node d = symbol-node ∙ rw (ne-eqb (getD table b 0) 255 d)
+    fixed-node d = symbol-node ∙ rw (ne-eqb (getD table b 0) list d)
 
-    list-node : getD table b 0 ≡ 255 → at + 1 < length s → nodeAt table true inList left (drop at s) ≡ Open 2 (getD s (at + 1) 0) true (left - 1)
+    list-node : getD table b 0 ≡ list → at + 1 < length s → nodeAt table true inList left (drop at s) ≡ Open 2 (getD s (at + 1) 0) true (left - 1)
     unfolding openNode
     list-node e h =
         symbol-node
-        ∙ rw (eq-eqb (getD table b 0) 255 e, le-ltb (length (drop at s)) 2 (omega (arith, length-drop at s)), getD-drop at s 1 0)
+        ∙ rw (eq-eqb (getD table b 0) list e, le-ltb (length (drop at s)) 2 (omega (arith, length-drop at s)), getD-drop at s 1 0)
 
   module _ {at end parents : ℕ} (i : Passing at end parents) (more : at < end) where
     next : Next at (total (i .frames)) parents
@@ -110,7 +112,7 @@ module _ (table s : List ℕ) where
     levels = omega (arith, next .room, i .few)
 
     -- a node with children
-    parent : {size k : ℕ} {list : Bool} → parents < 31
+    parent : {size k : ℕ} {list : Bool} → parents < nesting - 1
         → nodeAt table true (next .first .list) (next .first .left) (drop at s) ≡ Open size k list (next .first .left - 1)
         → Passing (at + size) (end + size - 1 + k) (parents + 1)
     parent {size} {k} {list} h e =
@@ -137,13 +139,13 @@ module _ (table s : List ℕ) where
                 (children-to-come table true s f (next .others) at (next .some) e (next .to-come));
           }
 
-      pub pass-fixed : parents < 31 → entry < 255 → Passing (at + 1) (end + entry) (parents + 1)
+      pub pass-fixed : parents < nesting - 1 → entry < list → Passing (at + 1) (end + entry) (parents + 1)
       pass-fixed h d =
           let f = next .first in
           let x : end + 1 - 1 + getD table b 0 ≡ end + entry = omega (arith, is-entry) in
           rw x at (parent h (fixed-node at b (omega arith) is known (f .list) (f .left) levels (λ x. omega (arith, x, is-entry))))
 
-      pub pass-list : (k : ℕ) → parents < 31 → entry ≡ 255 → end < length s → k ≡ getD s (at + 1) 0 → Passing (at + 2) (end + 1 + k) (parents + 1)
+      pub pass-list : (k : ℕ) → parents < nesting - 1 → entry ≡ list → end < length s → k ≡ getD s (at + 1) 0 → Passing (at + 2) (end + 1 + k) (parents + 1)
       pass-list k h d l is-k =
           let f = next .first in
           let x : end + 2 - 1 + getD s (at + 1) 0 ≡ end + 1 + k = omega (arith, is-k) in

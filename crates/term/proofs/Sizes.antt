@@ -1,5 +1,5 @@
 -- The bytes of trees, terms and patterns: how they join, how many there are, and what lies past them.
-use Prim.Native.Nat.{ℕ, suc, _+_, _-_, _<_}
+use Prim.Native.Nat.{ℕ, zero, suc, _+_, _<_}
 use native.Mathlib.Omega.{arith}
 use mathlib.Core.Path.{_≡_, refl, sym, ap, _∙_}
 use mathlib.Core.List.{List, [], _∷_, _++_}
@@ -10,7 +10,7 @@ use Rattle.term.specs.Code.{byteOf}
 use Rattle.term.specs.Table.{isList, width}
 use Rattle.term.specs.Tree.{Tree, Trees, branch, empty, more, number, listCode, own, encode, encodes}
 use Rattle.term.specs.Term.{Term, Terms, node, nil, _::_, count, size, sizes, termTree, termTrees, termBytes, termsBytes}
-use Rattle.term.specs.Pattern.{Children, symbol, end, plain, run, arity, childTrees, patternBytes, childrenBytes}
+use Rattle.term.specs.Pattern.{Children, symbol, end, plain, run, childTrees, patternBytes}
 use Rattle.term.specs.declared.Code.{Code}
 use Rattle.term.specs.declared.Code.the-variants.{Symbol}
 
@@ -21,11 +21,20 @@ unfolding number
 number-terms nil = refl
 number-terms (t :: ts) = ap suc (number-terms ts)
 
+abbrev pub arity : Children → ℕ
+arity end = zero
+arity (plain q qs) = suc (arity qs)
+arity (run v qs) = suc (arity qs)
+
 pub number-children : (qs : Children) → number (childTrees qs) ≡ arity qs
 unfolding number
 number-children end = refl
 number-children (plain q qs) = ap suc (number-children qs)
 number-children (run v qs) = ap suc (number-children qs)
+
+-- the bytes of child patterns, in front of others
+abbrev pub childrenBytes : List ℕ → Children → List ℕ → List ℕ
+childrenBytes table qs bs = encodes table (childTrees qs) bs
 
 -- a front of some bytes
 

@@ -11,7 +11,7 @@ use lib.Dec.{eqb}
 use borrow.Author.Tests.{le-leb, lt-leb, eq-eqb, ne-eqb}
 use Rattle.term.specs.Code.{codeIn}
 use Rattle.term.specs.Tree.{Tree, Trees}
-use Rattle.term.specs.Limits.{longest}
+use Rattle.term.specs.Limits.{nesting, longest}
 use Rattle.term.specs.Node.{nodeAt}
 use Rattle.term.specs.Reading.{Answer, refused, read, shown, join, chain, readAll, grow, enter, readTree, whole, readWhole}
 use Rattle.term.specs.declared.Code.{Code}
@@ -112,7 +112,7 @@ module _ (records : Bool) (table s : List ℕ) where
   unfolding readWhole shown
   whole-long h = rw (lt-leb (length s) (longest records) h)
 
-  pub whole-tree : length s ≤ longest records → readWhole records table s ≡ whole s (readTree table records 32 false s)
+  pub whole-tree : length s ≤ longest records → readWhole records table s ≡ whole s (readTree table records nesting false s)
   unfolding readWhole
   whole-tree h = rw (le-leb (length s) (longest records) h)
 

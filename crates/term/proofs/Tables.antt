@@ -7,7 +7,7 @@ use mathlib.Core.Bool.{Bool, true, false, cond, _&&_}
 use lib.ListN.{length, getD, drop, drop-of-length-le}
 use lib.Seq.{drop-cons}
 use borrow.Author.Tests.{le-leb, lt-leb}
-use Rattle.term.specs.Table.{entryAccepted, entriesAccepted, tableAccepted}
+use Rattle.term.specs.Table.{largestTable, entryAccepted, entriesAccepted, tableAccepted}
 
 entries-step : (s : List ℕ) (i : ℕ) → i < length s → entriesAccepted (drop i s) ≡ cond (entryAccepted (getD s i 0)) (entriesAccepted (drop (i + 1) s)) false
 unfolding entriesAccepted
@@ -23,15 +23,15 @@ entries-next s i accepted h inv = by accepted (entryAccepted (getD s i 0)) (entr
     by true false c = refl
     by false b c = refl
 
-pub table-long : (s : List ℕ) → 200 < length s → tableAccepted s ≡ false
+pub table-long : (s : List ℕ) → largestTable < length s → tableAccepted s ≡ false
 unfolding tableAccepted
-table-long s h = simp (lt-leb (length s) 200 h)
+table-long s h = simp (lt-leb (length s) largestTable h)
 
-pub table-checked : (s : List ℕ) (i : ℕ) (accepted : Bool) → length s ≤ 200 → length s ≤ i → accepted && entriesAccepted (drop i s) ≡ entriesAccepted s
+pub table-checked : (s : List ℕ) (i : ℕ) (accepted : Bool) → length s ≤ largestTable → length s ≤ i → accepted && entriesAccepted (drop i s) ≡ entriesAccepted s
     → accepted ≡ tableAccepted s
 unfolding tableAccepted entriesAccepted
 table-checked s i accepted l h inv =
-    rw (le-leb (length s) 200 l) (by accepted ∙ ap (λ (r : List ℕ). accepted && entriesAccepted r) (sym (drop-of-length-le s h)) ∙ inv)
+    rw (le-leb (length s) largestTable l) (by accepted ∙ ap (λ (r : List ℕ). accepted && entriesAccepted r) (sym (drop-of-length-le s h)) ∙ inv)
   where
     by : (a : Bool) → a ≡ a && true
     by true = refl

@@ -10,7 +10,7 @@ use Rattle.term.specs.Code.{byteOf}
 use Rattle.term.specs.Tree.{Tree, Trees, branch, empty, more, number, listCode, encode}
 use Rattle.term.specs.Term.{Term, Terms, node, nil, _::_, termTree, termTrees, termOf, termsOf, termBytes}
 use Rattle.term.specs.Pattern.{Pattern, Children, name, symbol, complement, end, plain, run, patternTree, childTrees, patternOf, childrenOf, first, child, patternBytes}
-use Rattle.term.specs.Limits.{Written, Shape, belowOf, Fits, FitAll, Octets, Accepted, TermAccepted, PatternAccepted}
+use Rattle.term.specs.Limits.{nesting, Written, Shape, belowOf, Fits, FitAll, Octets, Accepted, TermAccepted, PatternAccepted}
 use Rattle.term.specs.Reading.{Answer, refused, read, shown, mapAnswer, readWhole, readRecord, readPattern}
 use Rattle.term.specs.declared.Code.{Code}
 use Rattle.term.specs.declared.Code.the-variants.{Symbol, Name, Run, Complement}
@@ -50,7 +50,7 @@ mutual
   unfolding Fits Written termOf byteOf
 
   term-tree : (table : List ℕ) (t : Tree) (left : ℕ) (inList : Bool) → Fits table true t left inList → termTree (termOf t) ≡ t
-  term-tree table (branch (Symbol s) ts) left inList f = ap (branch (Symbol s)) (term-trees table ts (belowOf (Symbol s) left) (listCode table (Symbol s)) (f .3))
+  term-tree table (branch (Symbol s) ts) left inList f = ap (branch (Symbol s)) (term-trees table ts (belowOf left) (listCode table (Symbol s)) (f .3))
   term-tree table (branch (Name v) ts) left inList f = absurd (f .1)
   term-tree table (branch (Run v) ts) left inList f = absurd (f .1)
   term-tree table (branch Complement ts) left inList f = absurd (f .1)
@@ -89,12 +89,12 @@ mutual
   child-tree : (table : List ℕ) (t : Tree) (left : ℕ) (inList : Bool) → Fits table false t left inList → (qs : Children)
       → childTrees (child t (patternOf t) qs) ≡ more t (childTrees qs)
   child-tree table (branch (Symbol s) ts) left inList f qs =
-      ap (λ (us : Trees). more (branch (Symbol s) us) (childTrees qs)) (child-trees table ts (belowOf (Symbol s) left) (listCode table (Symbol s)) (f .3))
+      ap (λ (us : Trees). more (branch (Symbol s) us) (childTrees qs)) (child-trees table ts (belowOf left) (listCode table (Symbol s)) (f .3))
   child-tree table (branch (Name v) ts) left inList f qs = ap (λ (us : Trees). more (branch (Name v) us) (childTrees qs)) (no-trees ts (f .2))
   child-tree table (branch (Run v) ts) left inList f qs = ap (λ (us : Trees). more (branch (Run v) us) (childTrees qs)) (no-trees ts (f .2 .0))
   child-tree table (branch Complement ts) left inList f qs =
       ap (λ (us : Trees). more (branch Complement us) (childTrees qs))
-      (inside table ts (belowOf Complement left) (f .2) (f .3) (child-trees table ts (belowOf Complement left) (listCode table Complement) (f .3)))
+      (inside table ts (belowOf left) (f .2) (f .3) (child-trees table ts (belowOf left) (listCode table Complement) (f .3)))
   child-tree table (branch Code.Refused ts) left inList f qs = absurd (f .1)
 
   child-trees : (table : List ℕ) (ts : Trees) (left : ℕ) (inList : Bool) → FitAll table false ts left inList → childTrees (childrenOf ts) ≡ ts
@@ -120,7 +120,7 @@ map-read f (refused r) x n e = let z : _≡_ {A = ℕ} 0 1 = cc in absurd (omega
 map-read f (read t m) x n e = let z : m ≡ n = cc in (t, ap (read t) z, cc)
 
 module _ {X : Type 0} (write : X → Tree) (make : Tree → X) (back : (x : X) → make (write x) ≡ x)
-    (records : Bool) (table s : List ℕ) (octets : Octets s) (forth : (t : Tree) → Fits table records t 32 false → write (make t) ≡ t) where
+    (records : Bool) (table s : List ℕ) (octets : Octets s) (forth : (t : Tree) → Fits table records t nesting false → write (make t) ≡ t) where
   typed-iff : (x : X) → (mapAnswer make (readWhole records table s) ≡ read x (length s)) ↔ ((encode table (write x) [] ≡ s) × Accepted table records (write x))
   unfolding mapAnswer
   typed-iff x = (to, from)
@@ -146,11 +146,11 @@ module _ (table s : List ℕ) (octets : Octets s) where
   -- bytes are read as a term exactly if they are the term's and the term is within the limits; and so for a pattern
   pub record-iff : (t : Term) → (readRecord table s ≡ read t (length s)) ↔ ((termBytes table t [] ≡ s) × TermAccepted table t)
   unfolding readRecord
-  record-iff t = typed-iff termTree termOf term-back true table s octets (λ u. term-tree table u 32 false) t
+  record-iff t = typed-iff termTree termOf term-back true table s octets (λ u. term-tree table u nesting false) t
 
   pub pattern-iff : (q : Pattern) → (readPattern table s ≡ read q (length s)) ↔ ((patternBytes table q [] ≡ s) × PatternAccepted table q)
   unfolding readPattern
-  pattern-iff q = typed-iff patternTree patternOf pattern-back false table s octets (λ u. pattern-tree table u 32) q
+  pattern-iff q = typed-iff patternTree patternOf pattern-back false table s octets (λ u. pattern-tree table u nesting) q
 
   module _ (n : ℕ) where
     pub record-read : (t : Term) → readRecord table s ≡ read t n → (termBytes table t [] ≡ s) × TermAccepted table t

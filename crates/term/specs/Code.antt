@@ -6,6 +6,13 @@ use lib.Dec.{ltb, eqb}
 use Rattle.term.specs.declared.Code.{Code}
 use Rattle.term.specs.declared.Code.the-variants.{Symbol, Name, Run, Complement}
 
+-- the names and the variables in all, as many as the answer buffer has places for
+abbrev pub names : ℕ
+names = 32
+
+abbrev pub variables : ℕ
+variables = 48
+
 -- in a pattern: 0 to 199 a symbol, 200 to 231 the names, 232 to 247 the run names, 248 the complement; 249 to 255 are refused
 unfoldable pub decodeOf : ℕ → Code
 decodeOf b =
@@ -27,10 +34,10 @@ byteOf (Run v) = 200 + v
 byteOf Complement = 248
 byteOf Code.Refused = 249
 
--- a variable's number, where a code has one, is one of the 48 of the answer buffer
+-- a variable's number, where a code has one, is one of those of the answer buffer
 unfoldable pub VariableBelow : Code → Type 0
 VariableBelow (Symbol b) = Unit {0}
-VariableBelow (Name v) = v < 48
-VariableBelow (Run v) = v < 48
+VariableBelow (Name v) = v < variables
+VariableBelow (Run v) = v < variables
 VariableBelow Complement = Unit {0}
 VariableBelow Code.Refused = Unit {0}

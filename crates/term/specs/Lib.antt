@@ -10,5 +10,6 @@ pub mod Node
 pub mod Frame
 pub mod Reading
 pub mod Extent
+pub mod Class
 pub mod Same
 pub mod Part

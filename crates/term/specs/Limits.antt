@@ -5,6 +5,7 @@ use mathlib.Core.List.{List, []}
 use mathlib.Core.Bool.{Bool, true, false}
 use lib.ListN.{length, getD}
 use Rattle.term.specs.Table.{isList}
+use Rattle.term.specs.Code.{names, variables}
 use Rattle.term.specs.Tree.{Tree, Trees, branch, empty, more, number, listCode, encode}
 use Rattle.term.specs.Term.{Term, termTree}
 use Rattle.term.specs.Pattern.{Pattern, patternTree}
@@ -19,8 +20,8 @@ Written true (Run v) = ⊥
 Written true Complement = ⊥
 Written true Code.Refused = ⊥
 Written false (Symbol b) = b < 200
-Written false (Name v) = v < 32
-Written false (Run v) = (32 ≤ v) × (v < 48)
+Written false (Name v) = v < names
+Written false (Run v) = (names ≤ v) × (v < variables)
 Written false Complement = Unit {0}
 Written false Code.Refused = ⊥
 
@@ -38,28 +39,37 @@ Shape table inList Complement n = n ≡ 1
 Shape table inList Code.Refused n = ⊥
 
 -- the nesting left for a node's children, of what is left for the node; a complement counts as a node
-abbrev pub belowOf : Code → ℕ → ℕ
-belowOf c left = left - 1
+abbrev pub belowOf : ℕ → ℕ
+belowOf left = left - 1
 
 unfoldable mutual
   -- over the table, nested at most so deep, each run name in a list
   pub Fits : List ℕ → Bool → Tree → ℕ → Bool → Type 0
   Fits table records (branch c ts) left inList =
-      (0 < left) × Written records c × Shape table inList c (number ts) × FitAll table records ts (belowOf c left) (listCode table c)
+      (0 < left) × Written records c × Shape table inList c (number ts) × FitAll table records ts (belowOf left) (listCode table c)
 
   pub FitAll : List ℕ → Bool → Trees → ℕ → Bool → Type 0
   FitAll table records empty left inList = Unit {0}
   FitAll table records (more t ts) left inList = Fits table records t left inList × FitAll table records ts left inList
 
 -- the longest record and the longest pattern, in bytes
-abbrev pub longest : Bool → ℕ
-longest true = 4096
-longest false = 256
+abbrev pub longestRecord : ℕ
+longestRecord = 4096
 
--- the root has nesting 1, and 32 is the deepest
+abbrev pub longestPattern : ℕ
+longestPattern = 256
+
+abbrev pub longest : Bool → ℕ
+longest true = longestRecord
+longest false = longestPattern
+
+-- the root has nesting 1, and this is the deepest
+abbrev pub nesting : ℕ
+nesting = 32
+
 pub record Accepted (table : List ℕ) (records : Bool) (t : Tree) : Type 0 where
   pub short : length (encode table t []) ≤ longest records
-  pub fits : Fits table records t 32 false
+  pub fits : Fits table records t nesting false
 
 -- bytes
 abbrev pub Octets : List ℕ → Type 0

@@ -9,12 +9,15 @@ use Rattle.term.specs.declared.Part.{Part}
 abbrev pub part : ℕ → ℕ → ℕ → Part
 part offset length elements = record { offset = offset; length = length; elements = elements }
 
--- document 01's absent mark
+-- document 01's absent mark: no part within the longest record has its offset
+abbrev pub nowhere : ℕ
+nowhere = 65535
+
 abbrev pub absent : Part
-absent = part 65535 0 0
+absent = part nowhere 0 0
 
 abbrev pub isAbsent : Part → Bool
-isAbsent p = eqb (p .offset) 65535
+isAbsent p = eqb (p .offset) nowhere
 
 -- a part within the longest record; offset and length are 16-bit numbers
 abbrev pub boundPart : ℕ → ℕ → ℕ → Part

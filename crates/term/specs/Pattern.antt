@@ -1,7 +1,7 @@
 -- Patterns, document 01's "rules". A run name can only stand as a direct child, among plain child patterns.
-use Prim.Native.Nat.{ℕ, zero, suc}
+use Prim.Native.Nat.{ℕ}
 use mathlib.Core.List.{List}
-use Rattle.term.specs.Tree.{Tree, Trees, branch, empty, more, encode, encodes}
+use Rattle.term.specs.Tree.{Tree, Trees, branch, empty, more, encode}
 use Rattle.term.specs.declared.Code.{Code}
 use Rattle.term.specs.declared.Code.the-variants.{Symbol, Name, Run, Complement}
 
@@ -15,12 +15,6 @@ mutual
     end : Children
     plain : Pattern → Children → Children
     run : ℕ → Children → Children
-
--- the number of children
-abbrev pub arity : Children → ℕ
-arity end = zero
-arity (plain q qs) = suc (arity qs)
-arity (run v qs) = suc (arity qs)
 
 -- as trees of codes
 abbrev mutual
@@ -65,6 +59,3 @@ unfoldable mutual
 -- their bytes, in front of others
 abbrev pub patternBytes : List ℕ → Pattern → List ℕ → List ℕ
 patternBytes table q bs = encode table (patternTree q) bs
-
-abbrev pub childrenBytes : List ℕ → Children → List ℕ → List ℕ
-childrenBytes table qs bs = encodes table (childTrees qs) bs

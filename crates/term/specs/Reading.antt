@@ -9,7 +9,7 @@ use Rattle.term.specs.Code.{codeIn}
 use Rattle.term.specs.Tree.{Tree, Trees, branch, empty, more}
 use Rattle.term.specs.Term.{Term, termOf}
 use Rattle.term.specs.Pattern.{Pattern, patternOf}
-use Rattle.term.specs.Limits.{longest}
+use Rattle.term.specs.Limits.{longest, nesting}
 use Rattle.term.specs.Node.{nodeAt}
 use Rattle.term.specs.declared.Code.{Code}
 use Rattle.term.specs.declared.Refusal.{Refusal}
@@ -62,10 +62,10 @@ readBy table records (suc n) left inList s =
 unfoldable pub readTree : List ℕ → Bool → ℕ → Bool → List ℕ → Answer Tree
 readTree table records left inList s = readBy table records (length s) left inList s
 
--- the refusal of a node that is not open
-abbrev pub nodeRefusal : Node → Read
-nodeRefusal (Node.Refused r) = Read.Refused r
-nodeRefusal (Open size k list low) = Ends 0
+-- a node's refusal is handed on; of an open node it says nothing
+abbrev pub HandsOn : Node → Read → Type 0
+HandsOn (Node.Refused r) a = a ≡ Read.Refused r
+HandsOn (Open size k list low) a = Unit {0}
 
 -- 3 where bytes are left after the tree
 unfoldable pub whole : List ℕ → Answer Tree → Answer Tree
@@ -75,7 +75,7 @@ whole s (read t n) = cond (eqb n (length s)) (read t n) (refused Spare)
 -- the whole of s as one tree
 unfoldable pub readWhole : Bool → List ℕ → List ℕ → Answer Tree
 readWhole records table s =
-    cond (leb (length s) (longest records)) (whole s (readTree table records 32 false s)) (refused Long)
+    cond (leb (length s) (longest records)) (whole s (readTree table records nesting false s)) (refused Long)
 
 -- true where s is known to be a record; false says nothing
 abbrev pub Shallow : List ℕ → List ℕ → Bool → Type 0

@@ -5,19 +5,29 @@ use mathlib.Core.Bool.{Bool, true, false, cond}
 use lib.ListN.{length, getD}
 use lib.Dec.{leb, eqb}
 
+-- a list symbol's byte, and the most children of any other symbol
+abbrev pub list : ℕ
+list = 255
+
+abbrev pub mostChildren : ℕ
+mostChildren = 8
+
 abbrev pub entryAccepted : ℕ → Bool
-entryAccepted b = cond (leb b 8) true (eqb b 255)
+entryAccepted b = cond (leb b mostChildren) true (eqb b list)
 
 unfoldable pub entriesAccepted : List ℕ → Bool
 entriesAccepted [] = true
 entriesAccepted (b ∷ bs) = cond (entryAccepted b) (entriesAccepted bs) false
 
--- at most 200 symbols
+-- the most symbols
+abbrev pub largestTable : ℕ
+largestTable = 200
+
 unfoldable pub tableAccepted : List ℕ → Bool
-tableAccepted table = cond (leb (length table) 200) (entriesAccepted table) false
+tableAccepted table = cond (leb (length table) largestTable) (entriesAccepted table) false
 
 abbrev pub isList : List ℕ → ℕ → Bool
-isList table s = eqb (getD table s 0) 255
+isList table s = eqb (getD table s 0) list
 
 -- the bytes of a node's own: its symbol's and, for a list, its number of children
 abbrev pub width : List ℕ → ℕ → ℕ

@@ -1,18 +1,53 @@
 // Symbol tables, records and patterns: what their bytes stand for, which are accepted, where a term ends, and when two are the same.
 ghost use mathlib.Core.Path.{_≡_};
 ghost use mathlib.Core.Bool.{true, false};
-ghost use Prim.Native.Nat.{_-_, _≤_};
+ghost use mathlib.Core.List.{[]};
+ghost use Prim.Native.Nat.{_-_, _≤_, _<_};
 ghost use lib.ListN.{length};
 ghost use Rattle.term.specs.Table.{entryAccepted, tableAccepted};
 ghost use Rattle.term.specs.Code.{decodeOf, codeIn};
-ghost use Rattle.term.specs.Limits.{longest};
-ghost use Rattle.term.specs.Refusal.{numberOf};
+ghost use Rattle.term.specs.Limits.{nesting, longest};
+ghost use Rattle.term.specs.Refusal.{numberOf, readNumber, readLength};
 ghost use Rattle.term.specs.Node.{listNode, unlessDeep, codeNode, nodeAt};
-ghost use Rattle.term.specs.Extent.{entryOf, extentOf};
-ghost use Rattle.term.specs.Same.{samePart};
+ghost use Rattle.term.specs.Extent.{kidsOf, entryOf, extentOf};
+ghost use Rattle.term.specs.Class.{classOf, entryClassed, classesAccepted};
+ghost use Rattle.term.specs.Same.{countNext, sameByte, samePart};
 ghost use Rattle.term.specs.Part.{boundPart, isAbsent, partBytes};
 ghost use Rattle.term.specs.Frame.{frame};
-ghost use Rattle.term.specs.Reading.{shown, readTree, nodeRefusal, readWhole, Shallow, readRecord, readPattern};
+ghost use Rattle.term.specs.Reading.{shown, readTree, HandsOn, readWhole, Shallow, readRecord, readPattern};
+
+// The most symbols that a table has.
+pub const LARGEST_TABLE: usize = 200;
+
+// The most bytes of a record.
+pub const LONGEST_RECORD: usize = 4096;
+
+// The most bytes of a pattern.
+pub const LONGEST_PATTERN: usize = 256;
+
+// The deepest nesting; the root has 1.
+pub const NESTING: u8 = 32;
+
+// The names are the variables below this.
+pub const NAMES: u8 = 32;
+
+// Names and run names: the run names come after the names.
+pub const VARIABLES: usize = 48;
+
+// The entry of a list symbol in a table.
+pub const LIST: u8 = 255;
+
+// The most children of any other symbol.
+const MOST_CHILDREN: u8 = 8;
+
+// The offset of the absent mark: no part within the longest record has it.
+const NOWHERE: u16 = 65535;
+
+// The most frames around a tree that is being read.
+const FRAMES: usize = NESTING as usize;
+
+// So many nodes with children are not nested too deep, nor are their children.
+const FEW_PARENTS: u8 = NESTING - 1;
 
 // What a byte of a pattern stands for. A name or a run name holds its variable's number.
 pub enum Code {
@@ -36,6 +71,7 @@ pub enum Refusal {
     Directory,
     Full,
     Unread,
+    Class,
 }
 
 // The checks of one node: its own bytes, its number of children, whether it is a list, and the nesting left for its children.
@@ -98,6 +134,29 @@ impl Refusal {
             Refusal::Directory => 9,
             Refusal::Full => 12,
             Refusal::Unread => 13,
+            Refusal::Class => 14,
+        }
+    }
+}
+
+impl Read {
+    // Document 01's number, or 0.
+    pub fn number(self) -> u8
+        ensures { λ r. ⌜ r ≡ readNumber self ⌝ }
+    {
+        match self {
+            Read::Ends(_) => 0,
+            Read::Refused(r) => r.number(),
+        }
+    }
+
+    // The length in bytes of what was read.
+    pub fn length(self) -> usize
+        ensures { λ r. ⌜ r ≡ readLength self ⌝ }
+    {
+        match self {
+            Read::Ends(n) => n,
+            Read::Refused(_) => 0,
         }
     }
 }
@@ -105,16 +164,16 @@ impl Refusal {
 fn accepts_entry(b: u8) -> bool
     ensures { λ r. ⌜ r ≡ entryAccepted b ⌝ }
 {
-    if b <= 8 {
+    if b <= MOST_CHILDREN {
         return true;
     }
-    b == 255
+    b == LIST
 }
 
 pub fn check_table(table: &[u8]) -> bool
     ensures { λ r. ⌜ r ≡ tableAccepted (now (table .entry)) ⌝ }
 {
-    if 200 < table.len() {
+    if LARGEST_TABLE < table.len() {
         return false;
     }
     // No early exit, so that many entries are checked at a time.
@@ -125,6 +184,61 @@ pub fn check_table(table: &[u8]) -> bool
         i += 1;
     }
     accepted
+}
+
+// The class of a symbol: its entry, or itself where the list has none.
+pub fn class_of(classes: &[u8], b: u8) -> u8
+    ensures { λ r. ⌜ r ≡ classOf (now (classes .entry)) b ⌝ }
+{
+    let i = wide(b);
+    if i < classes.len() {
+        return classes[i];
+    }
+    b
+}
+
+// Whether two symbols are of one class.
+pub fn same_symbol(classes: &[u8], x: u8, y: u8) -> bool
+    ensures { λ r. ⌜ r ≡ sameByte (now (classes .entry)) false x y ⌝ }
+{
+    if x == y {
+        return true;
+    }
+    if classes.len() == 0 {
+        return false;
+    }
+    class_of(classes, x) == class_of(classes, y)
+}
+
+// Whether an entry is not above its own index and its own class, with the same table byte.
+fn accepts_class(table: &[u8], classes: &[u8], i: usize) -> bool
+    requires { ⌜ (i < length (now classes)) × (length (now classes) ≡ length (now table)) ⌝ }
+    ensures { λ r. ⌜ r ≡ entryClassed (now (table .entry)) (now (classes .entry)) i ⌝ }
+{
+    let c = wide(classes[i]);
+    if i < c {
+        return false;
+    }
+    if wide(classes[c]) != c {
+        return false;
+    }
+    table[c] == table[i]
+}
+
+pub fn check_classes(table: &[u8], classes: &[u8]) -> bool
+    ensures { λ r. ⌜ r ≡ classesAccepted (now (table .entry)) (now (classes .entry)) ⌝ }
+{
+    if classes.len() != table.len() {
+        return false;
+    }
+    let mut i: usize = 0;
+    while i < table.len() {
+        if !accepts_class(table, classes, i) {
+            return false;
+        }
+        i = i + 1;
+    }
+    true
 }
 
 fn code_in(records: bool, b: u8) -> Code
@@ -191,7 +305,7 @@ fn symbol_node(table: &[u8], s: &[u8], left: u8, b: u8) -> Node
         return Node::Refused(Refusal::BadCode);
     }
     let entry = table[i];
-    if entry == 255 {
+    if entry == LIST {
         return list_node(s, left);
     }
     plain_node(entry, left)
@@ -236,8 +350,9 @@ impl Frame {
     }
 }
 
+// A refused node's refusal; an open node has none, and is never asked.
 fn node_refusal(n: Node) -> Read
-    ensures { λ r. ⌜ r ≡ nodeRefusal n ⌝ }
+    ensures { λ r. ⌜ HandsOn n r ⌝ }
 {
     match n {
         Node::Refused(r) => Read::Refused(r),
@@ -252,11 +367,11 @@ fn node_refusal(n: Node) -> Read
 
 // The tree at the start of s. Still to be read are the trees of `top`, and then those of the frames around it, the innermost first.
 fn read_tree(table: &[u8], s: &[u8], records: bool) -> Read
-    ensures { λ r. ⌜ r ≡ shown (readTree (now (table .entry)) records 32 false (now (s .entry))) ⌝ }
+    ensures { λ r. ⌜ r ≡ shown (readTree (now (table .entry)) records nesting false (now (s .entry))) ⌝ }
 {
-    let mut around = [Frame::EMPTY; 32];
+    let mut around = [Frame::EMPTY; FRAMES];
     let mut depth: usize = 0;
-    let mut top = Frame::of(1, 32, false);
+    let mut top = Frame::of(1, NESTING, false);
     let mut at: usize = 0;
     loop {
         let node = node_at(table, &s[at..], records, top.list, top.left);
@@ -290,7 +405,11 @@ fn read_tree(table: &[u8], s: &[u8], records: bool) -> Read
 fn longest_of(records: bool) -> usize
     ensures { λ r. ⌜ r ≡ longest records ⌝ }
 {
-    if records { 4096 } else { 256 }
+    if records {
+        LONGEST_RECORD
+    } else {
+        LONGEST_PATTERN
+    }
 }
 
 // The whole of s as one tree.
@@ -314,7 +433,7 @@ fn read_whole(records: bool, table: &[u8], s: &[u8]) -> Read
 fn is_shallow(table: &[u8], s: &[u8]) -> bool
     ensures { λ r. ⌜ Shallow (now (table .entry)) (now (s .entry)) r ⌝ }
 {
-    if 4096 < s.len() {
+    if LONGEST_RECORD < s.len() {
         return false;
     }
     let mut at: usize = 0;
@@ -334,11 +453,11 @@ fn is_shallow(table: &[u8], s: &[u8]) -> bool
             at = at + 1;
             continue;
         }
-        if parents == 31 {
+        if parents == FEW_PARENTS {
             return false;
         }
         parents = parents + 1;
-        if entry < 255 {
+        if entry < LIST {
             at = at + 1;
             end = end + wide(entry);
             continue;
@@ -369,6 +488,19 @@ pub fn read_pattern(table: &[u8], bytes: &[u8]) -> Read
     read_whole(false, table, bytes)
 }
 
+// The children of a code that is no symbol of the table: a complement has one.
+fn kids_of(code: Code) -> u8
+    ensures { λ r. ⌜ r ≡ kidsOf code ⌝ }
+{
+    match code {
+        Code::Symbol(_) => 0,
+        Code::Name(_) => 0,
+        Code::Run(_) => 0,
+        Code::Complement => 1,
+        Code::Refused => 0,
+    }
+}
+
 // The entry of a code: its number of children, or 255 for a list.
 pub fn entry_of(table: &[u8], b: u8) -> u8
     ensures { λ r. ⌜ r ≡ entryOf (now (table .entry)) b ⌝ }
@@ -377,7 +509,7 @@ pub fn entry_of(table: &[u8], b: u8) -> u8
     if i < table.len() {
         return table[i];
     }
-    if b == 248 { 1 } else { 0 }
+    kids_of(decode(b))
 }
 
 // The number of bytes of the term or pattern at the start of s, or all of s where s ends before it.
@@ -393,7 +525,7 @@ pub fn extent(table: &[u8], s: &[u8]) -> usize
             return s.len();
         }
         let entry = entry_of(table, s[at]);
-        if entry == 255 {
+        if entry == LIST {
             end = end + 1 + wide(s[at + 1]);
             at = at + 2;
         } else {
@@ -405,12 +537,10 @@ pub fn extent(table: &[u8], s: &[u8]) -> usize
 }
 
 // Whether x and y have the same bytes.
-pub fn same(x: &[u8], y: &[u8]) -> bool
-    ensures { λ r. ⌜ r ≡ samePart (now (x .entry)) (now (y .entry)) ⌝ }
+fn same_bytes(x: &[u8], y: &[u8]) -> bool
+    requires { ⌜ length (now x) ≡ length (now y) ⌝ }
+    ensures { λ r. ⌜ r ≡ samePart [] [] true (now (x .entry)) (now (y .entry)) ⌝ }
 {
-    if x.len() != y.len() {
-        return false;
-    }
     let mut i: usize = 0;
     while i < x.len() {
         if x[i] != y[i] {
@@ -421,10 +551,56 @@ pub fn same(x: &[u8], y: &[u8]) -> bool
     true
 }
 
+// Whether two bytes of two parts are the same: symbols by class, a list's number of children as it is.
+fn same_byte(classes: &[u8], counting: bool, x: u8, y: u8) -> bool
+    ensures { λ r. ⌜ r ≡ sameByte (now (classes .entry)) counting x y ⌝ }
+{
+    if counting {
+        return x == y;
+    }
+    same_symbol(classes, x, y)
+}
+
+// Whether the byte after x is a list's number of children, where x is one or not.
+fn count_next(table: &[u8], counting: bool, x: u8) -> bool
+    ensures { λ r. ⌜ r ≡ countNext (now (table .entry)) counting x ⌝ }
+{
+    if counting {
+        return false;
+    }
+    let i = wide(x);
+    if table.len() <= i {
+        return false;
+    }
+    table[i] == LIST
+}
+
+// Whether two parts of records are the same up to class.
+pub fn same(table: &[u8], classes: &[u8], x: &[u8], y: &[u8]) -> bool
+    ensures { λ r. ⌜ r ≡ samePart (now (table .entry)) (now (classes .entry)) false (now (x .entry)) (now (y .entry)) ⌝ }
+{
+    if x.len() != y.len() {
+        return false;
+    }
+    if classes.len() == 0 {
+        return same_bytes(x, y);
+    }
+    let mut counting = false;
+    let mut i: usize = 0;
+    while i < x.len() {
+        if !same_byte(classes, counting, x[i], y[i]) {
+            return false;
+        }
+        counting = count_next(table, counting, x[i]);
+        i = i + 1;
+    }
+    true
+}
+
 impl Part {
     // The absent mark.
     pub const ABSENT: Part = Part {
-        offset: 65535,
+        offset: NOWHERE,
         length: 0,
         elements: 0,
     };
@@ -443,7 +619,7 @@ impl Part {
     pub fn is_absent(self) -> bool
         ensures { λ r. ⌜ r ≡ isAbsent self ⌝ }
     {
-        self.offset == 65535
+        self.offset == NOWHERE
     }
 }
 

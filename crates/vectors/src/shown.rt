@@ -7,7 +7,7 @@ use sheet::Place;
 use term::Read;
 
 // The numbers that an answer has, and those of the buffer around it.
-const ANSWER: usize = 96;
+const ANSWER: usize = matcher::ANSWER_WIDTH;
 
 pub const BUFFER: usize = 128;
 
@@ -144,11 +144,12 @@ pub fn put_rule_answer(out: &mut [u8], answer: RuleAnswer, buffer: &[u16; BUFFER
     put_buffer(out, count, number == 0, buffer)
 }
 
-pub fn put_accepted(out: &mut [u8], accepted: bool) -> usize {
+// Accepted, or refused with this number.
+pub fn put_accepted(out: &mut [u8], accepted: bool, number: u64) -> usize {
     if accepted {
         return put(out, 0, b" accepted");
     }
-    put(out, 0, b" refused 1")
+    put_number(out, 0, b" refused ", number)
 }
 
 pub fn put_same(out: &mut [u8], same: bool) -> usize {
@@ -160,8 +161,8 @@ pub fn put_same(out: &mut [u8], same: bool) -> usize {
 
 pub fn put_read(out: &mut [u8], read: Read) -> usize {
     match read {
-        Read::Ends(n) => put_number(out, 0, b" read ", n as u64),
-        Read::Refused(r) => put_number(out, 0, b" refused ", r.number() as u64),
+        Read::Ends(_) => put_number(out, 0, b" read ", read.length() as u64),
+        Read::Refused(_) => put_number(out, 0, b" refused ", read.number() as u64),
     }
 }
 

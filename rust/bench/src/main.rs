@@ -2,8 +2,9 @@
 //!
 //! Prints a table. With a markdown file, writes the table into it between the lines `<!-- table -->`
 //! and `<!-- end of table -->`, and a plot beside it as `benchmark.svg`.
-//! `bench --run proved|independent WORKLOAD N RUNS` only runs one workload, for a profiler.
+//! `bench --run LIBRARY WORKLOAD N RUNS` only runs one workload, for a profiler.
 
+mod before;
 mod date;
 mod measure;
 mod plot;
@@ -15,7 +16,7 @@ use measure::Effort;
 use std::{env, fs, path::Path, process::ExitCode};
 
 const USAGE: &str = "usage: bench [--quick] [FILE]
-       bench --run proved|independent WORKLOAD N RUNS";
+       bench --run proved|independent|before|now WORKLOAD N RUNS";
 
 fn main() -> ExitCode {
     let arguments: Vec<String> = env::args().skip(1).collect();
@@ -66,15 +67,19 @@ fn write(file: &Path, text: &str) -> Result<(), String> {
 
 /// Runs one workload and prints how much there was to do.
 fn run_one(library: &str, name: &str, n: &str, runs: &str) -> Result<(), String> {
-    let library: &dyn Library = match library {
-        "proved" => &proved::Proved,
-        "independent" => &reference::Reference,
-        _ => return Err(USAGE.into()),
-    };
     let runs: u64 = runs.parse().map_err(|_| USAGE)?;
     let all = workloads::all();
     let wanted = all.iter().find(|one| one.name == name && one.n.to_string() == n);
     let workload = wanted.ok_or("no such workload or n")?;
+    let library: &dyn Library = match library {
+        "proved" => &proved::Proved,
+        "before" | "now" => {
+            let both = before::having(workload.call).ok_or("no library before has the call")?;
+            both[usize::from(library == "now")]
+        }
+        "independent" => &reference::Reference,
+        _ => return Err(USAGE.into()),
+    };
     measure::timed(workload, library, runs);
     println!("{} {}s", workload.units * runs, workload.unit);
     Ok(())

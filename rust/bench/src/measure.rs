@@ -1,5 +1,6 @@
-//! The measuring: both implementations in turn, round by round.
+//! The measuring: the implementations in turn, round by round.
 
+use crate::before;
 use crate::workloads::{self, Workload};
 use interface::Library;
 use proved::Proved;
@@ -22,23 +23,37 @@ impl Effort {
 pub struct Measured {
     pub workload: Workload,
     pub proved: f64,
+    /// Those of the library before a change and of the present one, linked alike.
+    pub change: Option<[f64; 2]>,
     pub independent: f64,
 }
 
 impl Measured {
     fn new(workload: Workload) -> Self {
         let independent = timed(&workload, &Reference, 3);
-        Measured { workload, proved: f64::INFINITY, independent }
+        let change = before::having(workload.call).map(|_| [f64::INFINITY; 2]);
+        Measured { workload, proved: f64::INFINITY, change, independent }
     }
 
     fn round(&mut self, batch: f64) {
         let runs = (batch / self.independent).ceil() as u64;
         self.proved = self.proved.min(timed(&self.workload, &Proved, runs));
+        if let (Some(best), Some(both)) = (&mut self.change, before::having(self.workload.call)) {
+            for (best, library) in best.iter_mut().zip(both) {
+                *best = best.min(timed(&self.workload, library, runs));
+            }
+        }
         self.independent = self.independent.min(timed(&self.workload, &Reference, runs));
     }
 
+    /// The proved library's cost over that of the independent implementation.
     pub fn ratio(&self) -> f64 {
         self.proved / self.independent
+    }
+
+    /// The present library's cost over that of the library before.
+    pub fn change(&self) -> Option<f64> {
+        self.change.map(|[before, now]| now / before)
     }
 }
 

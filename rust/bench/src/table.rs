@@ -1,11 +1,18 @@
 //! The tables of costs, in markdown.
 
+use crate::before;
 use crate::measure::{groups, Measured, Measurements};
 
-/// Cost and ratio of each workload and size, their mean and worst, what a step takes in lists of
-/// different lengths, and how the cost grows with n.
+/// The most that a row may cost, in the cost before a change.
+const SLOWER: f64 = 1.03;
+
+/// Cost and ratio of each workload and size, their mean and worst, the same beside the library
+/// before a change if there is one, what a step takes in lists of different lengths, and how the
+/// cost grows with n.
 pub fn markdown(Measurements { all, starts }: &Measurements) -> String {
-    format!("{}\n{}\n{}\n{}", costs(all), summary(all), steps(all, starts), growth(all))
+    let ratios = summary(all, |one| Some(one.ratio()), 1.0);
+    let changes = before::SUM.map_or(String::new(), |sum| changes(all, sum));
+    format!("{}\n{ratios}\n{changes}{}\n{}", costs(all), steps(all, starts), growth(all))
 }
 
 fn costs(measured: &[Measured]) -> String {
@@ -29,21 +36,46 @@ fn costs(measured: &[Measured]) -> String {
     text
 }
 
-/// The mean over the workloads, in which the sizes of one weigh as one, and the worst row.
-fn summary(measured: &[Measured]) -> String {
-    let ratios = |group: &[Measured]| mean(group.iter().map(Measured::ratio));
-    let whole = mean(groups(measured).map(ratios));
-    let worst = measured.iter().max_by(|a, b| a.ratio().total_cmp(&b.ratio()));
-    let worst = worst.map_or(String::new(), |one| {
-        format!(", worst {:.2} ({}, n = {})", one.ratio(), one.workload.name, one.workload.n)
+/// The mean over the workloads, in which the sizes of one weigh as one, the worst row, and how many
+/// are within a limit; of the rows that have such a ratio.
+fn summary(measured: &[Measured], ratio: fn(&Measured) -> Option<f64>, limit: f64) -> String {
+    let rows = measured.iter().filter_map(|one| Some((&one.workload, ratio(one)?)));
+    let rows: Vec<_> = rows.collect();
+    let groups = rows.chunk_by(|a, b| a.0.name == b.0.name);
+    let means: Vec<f64> = groups.map(|group| mean(group.iter().map(|row| row.1))).collect();
+    let worst = rows.iter().max_by(|a, b| a.1.total_cmp(&b.1)).map_or(String::new(), |row| {
+        format!(", worst {:.2} ({}, n = {})", row.1, row.0.name, row.0.n)
     });
-    let fast = measured.iter().filter(|one| one.ratio() <= 1.0).count();
-    let rows = measured.len();
+    let within = rows.iter().filter(|row| row.1 <= limit).count();
     format!(
-        "Geometric mean of the ratios over the {} workloads {whole:.2}{worst}; {fast} of {rows} \
-         rows are at most 1.\n",
-        groups(measured).count(),
+        "Geometric mean of the ratios over the {} workloads {:.2}{worst}; {within} of {} rows are \
+         at most {limit}.\n",
+        means.len(),
+        mean(means.iter().copied()),
+        rows.len(),
     )
+}
+
+/// Costs of the library before a change and of the present one, for the calls that both have.
+fn changes(measured: &[Measured], sum: &str) -> String {
+    let mut text = format!(
+        "The library before, {sum}, and the present one, linked alike, in the same rounds:\n\n\
+         | Workload | n | per | before, ns | now, ns | ratio |\n|---|--:|---|--:|--:|--:|\n"
+    );
+    for one in measured {
+        let Some([before, now]) = one.change else { continue };
+        let (work, units) = (&one.workload, one.workload.units as f64);
+        text += &format!(
+            "| {} | {} | {} | {:.2} | {:.2} | {:.2} |\n",
+            work.name,
+            work.n,
+            work.unit,
+            before / units,
+            now / units,
+            now / before,
+        );
+    }
+    format!("{text}\n{}\n", summary(measured, Measured::change, SLOWER))
 }
 
 fn mean(values: impl Iterator<Item = f64>) -> f64 {

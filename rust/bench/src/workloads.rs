@@ -1,6 +1,6 @@
 //! The named workloads.
 
-use interface::{sheet_of, Library, ANSWER};
+use interface::{sheet_of, Library, ANSWER, LIST};
 use notation::Symbols;
 use reference::Reference;
 use std::cell::RefCell;
@@ -9,6 +9,8 @@ use std::cell::RefCell;
 pub struct Workload {
     pub name: &'static str,
     pub n: usize,
+    /// The header's call.
+    pub call: &'static str,
     /// What the cost is divided by, and how many of them one run has.
     pub unit: &'static str,
     pub units: u64,
@@ -29,11 +31,28 @@ pub fn all() -> Vec<Workload> {
     all.extend([4, 8, 16, 31].map(deep_complement).map(Match::search));
     all.extend([256, 1_024, 4_096].map(record));
     all.extend([256, 1_024, 4_096].map(record_search).map(Match::search));
-    all.extend(rules.map(rule_sheet));
+    all.extend(rules.map(|n| rule_sheet("rule sheet over 1,000 states", n, false)));
     all.extend(bytes.map(read_states));
     all.extend(rules.map(read_rules));
     all.extend(bytes.map(read_entry));
     all.extend(bytes.map(write_sheet));
+    all.extend(with_classes());
+    all
+}
+
+/// Workloads of the matches up to class: each symbol its own class, or two spellings of each.
+fn with_classes() -> Vec<Workload> {
+    let (lists, bytes) = ([10, 40, 120], [256, 1_024, 4_096]);
+    let own = |name: &'static str| move |one: Match| one.own_classes(name).search();
+    let shared = |name: &'static str| move |one: Match| one.shared_classes(name).search();
+    let mut all = Vec::new();
+    all.extend(lists.map(all_different).map(own("all different, own classes")));
+    all.extend(lists.map(all_different).map(shared("all different, shared classes")));
+    all.extend(lists.map(list_search).map(own("list search, own classes")));
+    all.extend(lists.map(list_search).map(shared("list search, shared classes")));
+    all.extend(bytes.map(record_search).map(own("list within a list, own classes")));
+    all.extend(bytes.map(record_search).map(shared("list within a list, shared classes")));
+    all.extend([4, 64].map(|n| rule_sheet("rule sheet, shared classes", n, true)));
     all
 }
 
@@ -50,11 +69,12 @@ fn symbols() -> Symbols {
     Symbols::parse(&text).expect("the table is right")
 }
 
-/// A pattern against a record.
+/// A pattern against a record, up to class if there is a class list.
 struct Match {
     name: &'static str,
     n: usize,
     table: Vec<u8>,
+    classes: Option<Vec<u8>>,
     pattern: Vec<u8>,
     record: Vec<u8>,
 }
@@ -65,14 +85,30 @@ impl Match {
         let symbols = symbols();
         let pattern = symbols.pattern(pattern).expect("the pattern is right");
         let record = symbols.term(record).expect("the record is right");
-        Match { name, n, table: symbols.table().to_vec(), pattern, record }
+        Match { name, n, table: symbols.table().to_vec(), classes: None, pattern, record }
+    }
+
+    /// The same with a class list in which each symbol is its own class.
+    fn own_classes(self, name: &'static str) -> Self {
+        let own = (0..self.table.len() as u8).collect();
+        Match { name, classes: Some(own), ..self }
+    }
+
+    /// The same with two spellings of each symbol, in turn in the record.
+    fn shared_classes(self, name: &'static str) -> Self {
+        let record = respelled(&self.table, self.record);
+        let (table, classes) = spelled_twice(&self.table);
+        Match { name, table, classes: Some(classes), record, ..self }
     }
 
     /// Every check and the search, measured by counted steps.
     fn search(self) -> Workload {
-        let Match { table, pattern, record, .. } = &self;
-        let steps = Reference.match_one(table, pattern, record, u32::MAX, &mut [0; ANSWER]).count;
-        self.call(u32::MAX, ("step", steps))
+        let Match { table, classes, pattern, record, .. } = &self;
+        let (outcome, _) = match classes {
+            None => Reference.find(table, pattern, record, u32::MAX),
+            Some(classes) => Reference.find_with_classes(table, classes, pattern, record, u32::MAX),
+        };
+        self.call(u32::MAX, ("step", outcome.count))
     }
 
     /// Every check and the start of the search, which has no allowance for a step.
@@ -81,18 +117,44 @@ impl Match {
     }
 
     fn call(self, allowance: u32, (unit, units): (&'static str, u64)) -> Workload {
-        let Match { name, n, table, pattern, record } = self;
+        let Match { name, n, table, classes, pattern, record } = self;
         let answer = RefCell::new([0; ANSWER]);
+        let Some(classes) = classes else {
+            let run = Box::new(move |library: &dyn Library| {
+                let answer = &mut *answer.borrow_mut();
+                library.match_one(&table, &pattern, &record, allowance, answer);
+            });
+            return Workload { name, n, call: "qonveshir_match", unit, units, run };
+        };
         let run = Box::new(move |library: &dyn Library| {
-            library.match_one(&table, &pattern, &record, allowance, &mut *answer.borrow_mut());
+            let answer = &mut *answer.borrow_mut();
+            library.match_one_with_classes(&table, &classes, &pattern, &record, allowance, answer);
         });
-        Workload { name, n, unit, units, run }
+        Workload { name, n, call: "qonveshir_match_with_classes", unit, units, run }
     }
+}
+
+/// A table with each symbol once more, and the class list by which both mean the same.
+fn spelled_twice(table: &[u8]) -> (Vec<u8>, Vec<u8>) {
+    let own: Vec<u8> = (0..table.len() as u8).collect();
+    (table.repeat(2), own.repeat(2))
+}
+
+/// A record with every other symbol in its second spelling.
+fn respelled(table: &[u8], mut record: Vec<u8>) -> Vec<u8> {
+    let (mut at, mut second) = (0, false);
+    while let Some(symbol) = record.get_mut(at) {
+        at += if table[usize::from(*symbol)] == LIST { 2 } else { 1 };
+        *symbol += if second { table.len() as u8 } else { 0 };
+        second = !second;
+    }
+    record
 }
 
 fn smallest_call() -> Workload {
     let [table, pattern, record] = [0; 3].map(|byte| vec![byte]);
-    Match { name: "smallest call", n: 1, table, pattern, record }.call(u32::MAX, ("call", 1))
+    let one = Match { name: "smallest call", n: 1, table, classes: None, pattern, record };
+    one.call(u32::MAX, ("call", 1))
 }
 
 fn all_different(n: usize) -> Match {
@@ -117,8 +179,9 @@ fn deep_complement(n: usize) -> Match {
 
 /// Reading a record of n bytes, which a lone name takes whole.
 fn record(n: usize) -> Workload {
-    let (table, pattern) = (symbols().table().to_vec(), vec![200]);
-    let whole = Match { name: "long record, one name", n, table, pattern, record: full(n) };
+    let (table, classes, pattern) = (symbols().table().to_vec(), None, vec![200]);
+    let name = "long record, one name";
+    let whole = Match { name, n, table, classes, pattern, record: full(n) };
     whole.call(u32::MAX, ("byte", n as u64))
 }
 
@@ -126,8 +189,8 @@ fn record(n: usize) -> Workload {
 fn record_search(n: usize) -> Match {
     let symbols = symbols();
     let pattern = symbols.pattern("gates(@0, gates(@1, row(shut, ?0), @2), @3)").expect("a rule");
-    let table = symbols.table().to_vec();
-    Match { name: "long record, list within a list", n, table, pattern, record: full(n) }
+    let (name, table) = ("long record, list within a list", symbols.table().to_vec());
+    Match { name, n, table, classes: None, pattern, record: full(n) }
 }
 
 /// A record of n bytes: lists of leaves and pairs within a list.
@@ -156,29 +219,43 @@ fn full(n: usize) -> Vec<u8> {
     record
 }
 
-/// A sheet of n rules over 1,000 states.
-fn rule_sheet(n: usize) -> Workload {
+/// A sheet of n rules over 1,000 states, which may have two spellings of each symbol in turn.
+fn rule_sheet(name: &'static str, n: usize, twice: bool) -> Workload {
     let symbols = symbols();
-    let table = symbols.table().to_vec();
-    let kinds =
-        ["row(!?0, ?0)", "gates(@0, gA, @1, gB, @2)", "row(gA, !gB)", "gates(@0, ?0, ?0, @1)"];
-    let rules: Vec<_> = (0..n)
-        .map(|i| {
-            let text = kinds[i % 4].replace("gA", &format!("g{}", i / 4));
-            symbols.pattern(&text.replace("gB", &format!("g{}", 15 - i / 4))).expect("a rule")
-        })
-        .collect();
-    let states: Vec<_> = (0..1_000).map(|i| symbols.term(&state(i)).expect("a state")).collect();
-    let rules = sheet_of(&rules);
+    let table = symbols.table();
+    let states = (0..1_000).map(|i| symbols.term(&state(i)).expect("a state"));
+    let states: Vec<_> =
+        states.map(|state| if twice { respelled(table, state) } else { state }).collect();
+    let (rules, (doubled, classes)) = (rules(&symbols, n), spelled_twice(table));
+    let (table, call) = match twice {
+        false => (table.to_vec(), "qonveshir_match_rules"),
+        true => (doubled, "qonveshir_match_rules_with_classes"),
+    };
     let answer = RefCell::new([0; ANSWER]);
     let steps = move |library: &dyn Library| {
         let answer = &mut *answer.borrow_mut();
-        let one = |state: &Vec<u8>| library.match_rules(&table, &rules, state, 100_000, answer);
+        let one = |state: &Vec<u8>| match twice {
+            false => library.match_rules(&table, &rules, state, 100_000, answer),
+            true => {
+                library.match_rules_with_classes(&table, &classes, &rules, state, 100_000, answer)
+            }
+        };
         states.iter().map(one).map(|outcome| outcome.count).sum::<u64>()
     };
     let units = steps(&Reference);
     let run = Box::new(move |library: &dyn Library| assert_eq!(steps(library), units));
-    Workload { name: "rule sheet over 1,000 states", n, unit: "step", units, run }
+    Workload { name, n, call, unit: "step", units, run }
+}
+
+/// A sheet of n rules.
+fn rules(symbols: &Symbols, n: usize) -> Vec<u8> {
+    let kinds =
+        ["row(!?0, ?0)", "gates(@0, gA, @1, gB, @2)", "row(gA, !gB)", "gates(@0, ?0, ?0, @1)"];
+    let rule = |i: usize| {
+        let text = kinds[i % 4].replace("gA", &format!("g{}", i / 4));
+        symbols.pattern(&text.replace("gB", &format!("g{}", 15 - i / 4))).expect("a rule")
+    };
+    sheet_of(&(0..n).map(rule).collect::<Vec<_>>())
 }
 
 /// One of many small states, most of which few rules hold of.
@@ -205,7 +282,8 @@ fn read_states(n: usize) -> Workload {
     let run = Box::new(move |library: &dyn Library| {
         assert_eq!(library.check_states(&table, &sheet).number, 0);
     });
-    Workload { name: "state sheet reader", n, unit: "byte", units: n as u64, run }
+    let call = "qonveshir_check_states";
+    Workload { name: "state sheet reader", n, call, unit: "byte", units: n as u64, run }
 }
 
 fn read_rules(n: usize) -> Workload {
@@ -217,7 +295,8 @@ fn read_rules(n: usize) -> Workload {
     let run = Box::new(move |library: &dyn Library| {
         assert_eq!(library.check_rules(&table, &sheet).number, 0);
     });
-    Workload { name: "rule sheet reader", n, unit: "byte", units, run }
+    let call = "qonveshir_check_rules";
+    Workload { name: "rule sheet reader", n, call, unit: "byte", units, run }
 }
 
 /// The place of the last entry, for which the whole directory is checked.
@@ -227,7 +306,8 @@ fn read_entry(n: usize) -> Workload {
     let run = Box::new(move |library: &dyn Library| {
         assert_eq!(library.entry(&sheet, last).number, 0);
     });
-    Workload { name: "entry reader", n, unit: "entry", units: u64::from(last) + 1, run }
+    let call = "qonveshir_entry";
+    Workload { name: "entry reader", n, call, unit: "entry", units: u64::from(last) + 1, run }
 }
 
 fn write_sheet(n: usize) -> Workload {
@@ -239,5 +319,6 @@ fn write_sheet(n: usize) -> Workload {
         let output = &mut output.borrow_mut();
         assert_eq!(library.write_sheet(&table, &records, &lengths, output).number, 0);
     });
-    Workload { name: "writer", n, unit: "byte", units: n as u64, run }
+    let call = "qonveshir_write_sheet";
+    Workload { name: "writer", n, call, unit: "byte", units: n as u64, run }
 }

@@ -4,11 +4,13 @@ use crate::rng::Rng;
 use interface::{Library, Outcome, Part};
 use std::fmt;
 
-/// The six calls.
+/// The calls.
 #[derive(Clone, Copy, Debug, PartialEq, Eq)]
 pub enum Call {
     Match,
+    MatchWithClasses,
     Rules,
+    RulesWithClasses,
     Write,
     Entry,
     CheckRules,
@@ -16,30 +18,53 @@ pub enum Call {
 }
 
 /// Their names, in the order of [`Call`].
-pub const CALLS: [&str; 6] =
-    ["match", "match_rules", "write_sheet", "entry", "check_rules", "check_states"];
+pub const CALLS: [&str; 8] = [
+    "match",
+    "match_with_classes",
+    "match_rules",
+    "match_rules_with_classes",
+    "write_sheet",
+    "entry",
+    "check_rules",
+    "check_states",
+];
 
-/// How an allowance lies to the count, where that is known.
+/// What is special about a case of a match.
 #[derive(Clone, Copy, Debug, PartialEq, Eq)]
-pub enum Side {
+pub enum Kind {
+    LongRecord,
+    LongPattern,
+    LongSearch,
     OneBelow,
-    At,
+    AtTheCount,
     FarAbove,
-    Other,
+    OwnClasses,
+    SharedClasses,
+    ClassesDecide,
+    SameByName,
+    SameByRun,
+    NumbersByName,
+    NumbersByRun,
+    Empty,
+    OneShort,
+    OneLong,
+    AboveItsIndex,
+    NotItsOwnClass,
+    UnlikeTableBytes,
 }
 
 /// A call and its inputs.
 #[derive(Debug)]
 pub struct Case {
     pub call: Call,
-    /// Table, pattern, record, sheet or records, as many as the call has, in its order.
+    /// Table, class list, pattern, record, sheet or records, as many as the call has, in its order.
     pub inputs: Vec<Vec<u8>>,
     /// The writer's lengths.
     pub lengths: Vec<u16>,
     /// The allowance or the entry's index.
     pub number: u32,
-    /// How the allowance of a match lies to its count.
-    pub side: Side,
+    /// What is special about it, as far as it was made so.
+    pub kinds: Vec<Kind>,
     /// The length of the answer or of the output.
     pub room: usize,
 }
@@ -64,7 +89,7 @@ struct Memory {
 impl Case {
     /// A case of a call that takes inputs alone.
     pub fn new(call: Call, inputs: Vec<Vec<u8>>) -> Self {
-        Case { call, inputs, lengths: Vec::new(), number: 0, side: Side::Other, room: 0 }
+        Case { call, inputs, lengths: Vec::new(), number: 0, kinds: Vec::new(), room: 0 }
     }
 
     /// Runs the call; the same `fill` gives the same margins and buffers.
@@ -92,8 +117,28 @@ impl Case {
             (Call::Match, [table, pattern, record]) => {
                 outcome(library.match_one(table, pattern, record, self.number, answer))
             }
+            (Call::MatchWithClasses, [table, classes, pattern, record]) => {
+                outcome(library.match_one_with_classes(
+                    table,
+                    classes,
+                    pattern,
+                    record,
+                    self.number,
+                    answer,
+                ))
+            }
             (Call::Rules, [table, rules, record]) => {
                 outcome(library.match_rules(table, rules, record, self.number, answer))
+            }
+            (Call::RulesWithClasses, [table, classes, rules, record]) => {
+                outcome(library.match_rules_with_classes(
+                    table,
+                    classes,
+                    rules,
+                    record,
+                    self.number,
+                    answer,
+                ))
             }
             (Call::Write, [table, records]) => {
                 outcome(library.write_sheet(table, records, within(lengths, margin), output))

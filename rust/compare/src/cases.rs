@@ -1,19 +1,22 @@
 //! The random cases of each call.
 
-use crate::case::{Call, Case, Side};
+use crate::case::{Call, Case, Kind};
+use crate::classes::Classes;
 use crate::make::{damaged_sheet, table, Maker};
 use crate::rng::Rng;
-use interface::{sheet_of, Library, Word, ANSWER, SHEET_LIMIT};
+use interface::{sheet_of, Library, Outcome, Word, ANSWER, SHEET_LIMIT};
 
 /// A case; `library` gives the count that allowances are taken around.
 pub fn case(rng: &mut Rng, library: &dyn Library) -> Case {
     let table = table(rng);
     match rng.below(100) {
-        0..=49 => match_case(rng, table, library),
-        50..=69 => rules_case(rng, table, library),
-        70..=79 => write_case(rng, table),
-        80..=85 => entry_case(rng, table),
-        86..=92 => {
+        0..=34 => match_case(rng, table, library),
+        35..=54 => match_with_classes_case(rng, table, library),
+        55..=67 => rules_case(rng, table, library),
+        68..=79 => rules_with_classes_case(rng, table, library),
+        80..=86 => write_case(rng, table),
+        87..=90 => entry_case(rng, table),
+        91..=95 => {
             let rules = rules(rng, &table, &[0]);
             let sheet = perhaps_damaged(rng, sheet_of(&rules));
             Case::new(Call::CheckRules, vec![table, sheet])
@@ -27,17 +30,67 @@ pub fn case(rng: &mut Rng, library: &dyn Library) -> Case {
 }
 
 fn match_case(rng: &mut Rng, table: Vec<u8>, library: &dyn Library) -> Case {
-    let (pattern, record) = match rng.below(100) {
-        0..=3 => long_search(rng, &table, library),
-        _ => {
-            let mut maker = Maker::new(rng, &table);
-            let record = maker.record();
-            (maker.pattern(&record), record)
-        }
-    };
-    let (number, side) = allowance(rng, library, &table, &pattern, &record);
+    let (pattern, record) = pair(rng, &table, library);
+    let (number, kinds) = allowance(rng, library.find(&table, &pattern, &record, MOST).0);
     let case = Case::new(Call::Match, vec![table, pattern, record]);
-    Case { number, side, room: room(rng), ..case }
+    Case { number, kinds, room: room(rng), ..case }
+}
+
+fn match_with_classes_case(rng: &mut Rng, table: Vec<u8>, library: &dyn Library) -> Case {
+    let UpToClass { classes, pattern, record, number, kinds } = up_to_class(rng, table, library);
+    let inputs = vec![classes.table, classes.list, pattern, record];
+    Case { number, kinds, room: room(rng), ..Case::new(Call::MatchWithClasses, inputs) }
+}
+
+/// What a match up to class is made of.
+struct UpToClass {
+    classes: Classes,
+    pattern: Vec<u8>,
+    record: Vec<u8>,
+    number: u32,
+    kinds: Vec<Kind>,
+}
+
+/// A match up to class, whose class list is damaged now and then.
+fn up_to_class(rng: &mut Rng, table: Vec<u8>, library: &dyn Library) -> UpToClass {
+    let mut classes = Classes::new(rng, table);
+    let (pattern, record, kind) = pair_with_classes(rng, &classes, library);
+    let Classes { table, list } = &classes;
+    let found = library.find_with_classes(table, list, &pattern, &record, MOST);
+    let decide = library.find(table, &pattern, &record, MOST) != found;
+    let (number, mut kinds) = allowance(rng, found.0);
+    kinds.push(classes.kind());
+    kinds.extend(kind);
+    kinds.extend(decide.then_some(Kind::ClassesDecide));
+    if rng.chance(20) {
+        kinds.extend(classes.damage(rng));
+    }
+    UpToClass { classes, pattern, record, number, kinds }
+}
+
+/// A pattern and a record.
+fn pair(rng: &mut Rng, table: &[u8], library: &dyn Library) -> (Vec<u8>, Vec<u8>) {
+    if rng.chance(4) {
+        return long_search(rng, table, library);
+    }
+    let mut maker = Maker::new(rng, table);
+    let record = maker.record();
+    (maker.pattern(&record), record)
+}
+
+/// A pattern and a record with symbols exchanged within classes, and their kind if they have one.
+fn pair_with_classes(
+    rng: &mut Rng,
+    classes: &Classes,
+    library: &dyn Library,
+) -> (Vec<u8>, Vec<u8>, Option<Kind>) {
+    if rng.chance(20) {
+        if let Some((pattern, record, kind)) = classes.twins(rng) {
+            return (pattern, record, Some(kind));
+        }
+    }
+    let (pattern, record) = pair(rng, &classes.table, library);
+    (pattern, classes.exchanged(rng, record), None)
 }
 
 /// A pattern and a record whose count is over 1,000, where some tries find one.
@@ -56,10 +109,19 @@ fn rules_case(rng: &mut Rng, table: Vec<u8>, library: &dyn Library) -> Case {
     let one = rng.below(rules.len().max(1));
     let none = Vec::new();
     let pattern = rules.get(one).unwrap_or(&none);
-    let (number, side) = allowance(rng, library, &table, pattern, &record);
+    let (number, kinds) = allowance(rng, library.find(&table, pattern, &record, MOST).0);
     let rules = perhaps_damaged(rng, sheet_of(&rules));
     let case = Case::new(Call::Rules, vec![table, rules, record]);
-    Case { number, side, room: room(rng), ..case }
+    Case { number, kinds, room: room(rng), ..case }
+}
+
+fn rules_with_classes_case(rng: &mut Rng, table: Vec<u8>, library: &dyn Library) -> Case {
+    let UpToClass { classes, pattern, record, number, kinds } = up_to_class(rng, table, library);
+    let mut rules = rules(rng, &classes.table, &record);
+    rules.insert(rng.below(rules.len() + 1), pattern);
+    let rules = perhaps_damaged(rng, sheet_of(&rules));
+    let inputs = vec![classes.table, classes.list, rules, record];
+    Case { number, kinds, room: room(rng), ..Case::new(Call::RulesWithClasses, inputs) }
 }
 
 fn write_case(rng: &mut Rng, table: Vec<u8>) -> Case {
@@ -153,24 +215,17 @@ fn room(rng: &mut Rng) -> usize {
 /// A count that is found out before a case is made.
 const MOST: u32 = 20_000;
 
-/// An allowance at, around or far from the count.
-fn allowance(
-    rng: &mut Rng,
-    library: &dyn Library,
-    table: &[u8],
-    pattern: &[u8],
-    record: &[u8],
-) -> (u32, Side) {
-    let outcome = library.find(table, pattern, record, MOST).0;
+/// An allowance at, around or far from the count of an outcome that had [`MOST`].
+fn allowance(rng: &mut Rng, outcome: Outcome) -> (u32, Vec<Kind>) {
     let (count, known) = (outcome.count as u32, outcome.word() != Some(Word::Spent));
     match rng.below(20) {
-        0 => (0, Side::Other),
-        1..=3 => (rng.below(count as usize + 1) as u32, Side::Other),
-        _ if !known => (rng.pick(&[100, 2_000, MOST]), Side::Other),
-        4..=7 => (count.saturating_sub(1), Side::OneBelow),
-        8..=12 => (count, Side::At),
-        13..=14 => (count + 1, Side::Other),
-        15..=16 => (rng.pick(&[u32::MAX, u32::MAX - 1, 1 << 31, 1 << 16]), Side::FarAbove),
-        _ => (100_000, Side::FarAbove),
+        0 => (0, vec![]),
+        1..=3 => (rng.below(count as usize + 1) as u32, vec![]),
+        _ if !known => (rng.pick(&[100, 2_000, MOST]), vec![]),
+        4..=7 => (count.saturating_sub(1), vec![Kind::OneBelow]),
+        8..=12 => (count, vec![Kind::AtTheCount]),
+        13..=14 => (count + 1, vec![]),
+        15..=16 => (rng.pick(&[u32::MAX, u32::MAX - 1, 1 << 31, 1 << 16]), vec![Kind::FarAbove]),
+        _ => (100_000, vec![Kind::FarAbove]),
     }
 }

@@ -3,6 +3,7 @@
 
 mod case;
 mod cases;
+mod classes;
 mod histogram;
 mod make;
 mod rng;

@@ -3,16 +3,25 @@
 use interface::{Library, Outcome, Part};
 use reference::Reference;
 
-/// The independent implementation with what it shows and writes spoiled.
+/// What becomes of a class list that is brought with a table.
+type Brought = fn(&[u8], &[u8]) -> Vec<u8>;
+
+/// The independent implementation with what it is brought, shows and writes spoiled.
 struct Faulty {
+    classes: Brought,
     outcome: fn(&mut Outcome),
     answer: fn(&Outcome, &mut [u16]),
     output: fn(&Outcome, &mut [u8]),
     part: fn(&mut Part),
 }
 
-const SOUND: Faulty =
-    Faulty { outcome: |_| (), answer: |_, _| (), output: |_, _| (), part: |_| () };
+const SOUND: Faulty = Faulty {
+    classes: |_, classes| classes.to_vec(),
+    outcome: |_| (),
+    answer: |_, _| (),
+    output: |_, _| (),
+    part: |_| (),
+};
 
 impl Faulty {
     fn spoil(&self, mut outcome: Outcome) -> Outcome {
@@ -28,8 +37,38 @@ impl Library for Faulty {
         self.spoil(outcome)
     }
 
+    fn match_one_with_classes(
+        &self,
+        t: &[u8],
+        classes: &[u8],
+        p: &[u8],
+        r: &[u8],
+        allowance: u32,
+        a: &mut [u16],
+    ) -> Outcome {
+        let classes = (self.classes)(t, classes);
+        let outcome = Reference.match_one_with_classes(t, &classes, p, r, allowance, a);
+        (self.answer)(&outcome, a);
+        self.spoil(outcome)
+    }
+
     fn match_rules(&self, t: &[u8], s: &[u8], r: &[u8], allowance: u32, a: &mut [u16]) -> Outcome {
         let outcome = Reference.match_rules(t, s, r, allowance, a);
+        (self.answer)(&outcome, a);
+        self.spoil(outcome)
+    }
+
+    fn match_rules_with_classes(
+        &self,
+        t: &[u8],
+        classes: &[u8],
+        s: &[u8],
+        r: &[u8],
+        allowance: u32,
+        a: &mut [u16],
+    ) -> Outcome {
+        let classes = (self.classes)(t, classes);
+        let outcome = Reference.match_rules_with_classes(t, &classes, s, r, allowance, a);
         (self.answer)(&outcome, a);
         self.spoil(outcome)
     }
@@ -93,4 +132,34 @@ fn faults_are_found() {
     assert!(differs(Faulty { answer: past, ..SOUND }));
     assert!(differs(Faulty { output: full, ..SOUND }));
     assert!(differs(Faulty { part: refused, ..SOUND }));
+}
+
+/// The class list of a table in which each symbol is its own class.
+fn own(table: &[u8]) -> Vec<u8> {
+    (0..table.len()).map(|symbol| symbol as u8).collect()
+}
+
+/// A class list with the entries at fault in one way replaced by their own index.
+fn mended(classes: &[u8], at_fault: impl Fn(usize, usize) -> bool) -> Vec<u8> {
+    let entries = classes.iter().enumerate();
+    let mend = |(i, &class): (usize, &u8)| if at_fault(i, class.into()) { i as u8 } else { class };
+    entries.map(mend).collect()
+}
+
+#[test]
+fn faults_of_class_lists_are_found() {
+    let faults: [Brought; 7] = [
+        |table, _| own(table),
+        |table, classes| if classes.is_empty() { own(table) } else { classes.to_vec() },
+        |table, classes| classes[..classes.len().min(table.len())].to_vec(),
+        |table, classes| [classes, &own(table)[classes.len().min(table.len())..]].concat(),
+        |_, classes| mended(classes, |i, class| class > i),
+        |_, classes| mended(classes, |_, class| classes.get(class) != Some(&(class as u8))),
+        |table, classes| mended(classes, |i, class| table.get(i) != table.get(class)),
+    ];
+    for (i, classes) in faults.into_iter().enumerate() {
+        assert!(differs(Faulty { classes, ..SOUND }), "fault {i}");
+    }
+    let class = |outcome: &mut Outcome| outcome.count += u64::from(outcome.number == 14);
+    assert!(differs(Faulty { outcome: class, ..SOUND }));
 }

@@ -1,4 +1,4 @@
-//! The six calls of `include/qonveshir.h` as a trait, so that the proved library and the
+//! The calls of `include/qonveshir.h` as a trait, so that the proved library and the
 //! independent implementation can stand in each other's place.
 
 use std::ops::Range;
@@ -34,7 +34,7 @@ pub const ANSWER: usize = 2 * (NAMES + RUNS);
 /// Offset shown for a name that is not free.
 pub const ABSENT: u16 = u16::MAX;
 
-/// Document 01's numbers and words; 0 is bound, written or accepted.
+/// The numbers and words of documents 01 and 02; 0 is bound, written or accepted.
 #[derive(Clone, Copy, Debug, PartialEq, Eq, PartialOrd, Ord)]
 #[repr(u8)]
 pub enum Word {
@@ -52,15 +52,16 @@ pub enum Word {
     Spent,
     Full,
     Unread,
+    Class,
 }
 
 impl Word {
     /// Every word, in the order of the numbers.
-    pub const ALL: [Word; 14] = {
+    pub const ALL: [Word; 15] = {
         use Word::*;
         [
             Bound, Table, Short, Spare, Code, Deep, Long, Stray, Narrow, Directory, None, Spent,
-            Full, Unread,
+            Full, Unread, Class,
         ]
     };
 
@@ -91,6 +92,7 @@ impl Word {
             Word::Spent => "spent",
             Word::Full => "full",
             Word::Unread => "unread",
+            Word::Class => "class",
         }
     }
 
@@ -111,6 +113,10 @@ impl Word {
             Word::Spent => "the count is over the allowance",
             Word::Full => "output too short for the sheet",
             Word::Unread => "the program can't open or read a file",
+            Word::Class => {
+                "a class list of the wrong length, an entry above its own index or not its own \
+                 class, or unlike table bytes within a class"
+            }
         }
     }
 }
@@ -138,7 +144,7 @@ impl Outcome {
     /// Accepted input.
     pub const ACCEPTED: Outcome = Outcome { number: 0, index: 0, count: 0 };
 
-    /// The outcome's word, if its number is one of document 01's.
+    /// The outcome's word, if its number has one.
     pub fn word(&self) -> Option<Word> {
         Word::of(self.number)
     }
@@ -196,7 +202,7 @@ pub fn sheet_of(entries: &[Vec<u8>]) -> Vec<u8> {
     sheet
 }
 
-/// The six calls; `include/qonveshir.h` says what each checks, shows and writes.
+/// The calls; `include/qonveshir.h` says what each checks, shows and writes.
 pub trait Library {
     /// Matches one pattern against one record.
     fn match_one(
@@ -208,10 +214,32 @@ pub trait Library {
         answer: &mut [u16],
     ) -> Outcome;
 
+    /// [`match_one`](Self::match_one) up to class.
+    fn match_one_with_classes(
+        &self,
+        table: &[u8],
+        classes: &[u8],
+        pattern: &[u8],
+        record: &[u8],
+        allowance: u32,
+        answer: &mut [u16],
+    ) -> Outcome;
+
     /// Tries the rules of a sheet up to the first that is bound or spent.
     fn match_rules(
         &self,
         table: &[u8],
+        rules: &[u8],
+        record: &[u8],
+        allowance: u32,
+        answer: &mut [u16],
+    ) -> Outcome;
+
+    /// [`match_rules`](Self::match_rules) up to class.
+    fn match_rules_with_classes(
+        &self,
+        table: &[u8],
+        classes: &[u8],
         rules: &[u8],
         record: &[u8],
         allowance: u32,
@@ -247,6 +275,22 @@ pub trait Library {
     ) -> (Outcome, Answer) {
         let mut answer = Answer([ABSENT; ANSWER]);
         let outcome = self.match_one(table, pattern, record, allowance, &mut answer.0);
+        (outcome, answer)
+    }
+    /// [`match_one_with_classes`](Self::match_one_with_classes) with a buffer of its own, as
+    /// [`find`](Self::find) has.
+    fn find_with_classes(
+        &self,
+        table: &[u8],
+        classes: &[u8],
+        pattern: &[u8],
+        record: &[u8],
+        allowance: u32,
+    ) -> (Outcome, Answer) {
+        let mut answer = Answer([ABSENT; ANSWER]);
+        let buffer = &mut answer.0;
+        let outcome =
+            self.match_one_with_classes(table, classes, pattern, record, allowance, buffer);
         (outcome, answer)
     }
 }

@@ -9,6 +9,14 @@
 //! let error = symbols.term("row(open)").unwrap_err();
 //! assert_eq!(error.to_string(), "column 9: row takes 2 children, this is 1");
 //! ```
+//!
+//! Symbols of one meaning are joined by `=`, which makes a class list:
+//!
+//! ```
+//! let symbols = notation::Symbols::parse("open held gate/1 stopped=held door=gate").unwrap();
+//! assert_eq!(symbols.table(), [0, 0, 1, 0, 1]);
+//! assert_eq!(symbols.classes(), [0, 1, 2, 1, 2]);
+//! ```
 
 mod parse;
 mod show;

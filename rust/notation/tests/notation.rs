@@ -37,6 +37,35 @@ fn tables_read_and_print() {
 }
 
 #[test]
+fn classes_read_and_print() {
+    let text = "open held gates/* stopped=held row/2 halted=stopped pair=row rows=gates";
+    let symbols = Symbols::parse(text).unwrap();
+    assert_eq!(symbols.table(), [0, 0, 255, 0, 2, 0, 2, 255]);
+    assert_eq!(symbols.classes(), [0, 1, 2, 1, 4, 1, 4, 2]);
+    let shown = symbols.to_string();
+    assert_eq!(shown, text.replace("=stopped", "=held"));
+    assert_eq!(Symbols::parse(&shown).unwrap(), symbols);
+    let plain = Symbols::parse("open held gates/* stopped row/2 halted pair/2 rows/*").unwrap();
+    assert_eq!(plain.classes(), [0, 1, 2, 3, 4, 5, 6, 7]);
+    assert_eq!(plain.clone().with_classes(symbols.classes()).unwrap(), symbols);
+    assert_eq!(symbols.clone().with_classes(plain.classes()).unwrap(), plain);
+}
+
+#[test]
+fn errors_of_class_lists_name_the_place() {
+    for (list, error) in [
+        (&[][..], "byte 0: a list for 6 symbols, this has 0 bytes"),
+        (&[0, 1, 2, 3, 4], "byte 5: a list for 6 symbols, this has 5 bytes"),
+        (&[0, 1, 2, 3, 4, 5, 5], "byte 6: a list for 6 symbols, this has 7 bytes"),
+        (&[0, 2, 2, 3, 4, 5], "byte 1: the class of shut is at most 1, this is 2"),
+        (&[0, 0, 1, 3, 4, 5], "byte 2: shut is not its own class, so not that of held"),
+        (&[0, 1, 2, 0, 4, 5], "byte 3: gate has not as many children as open"),
+    ] {
+        assert_eq!(symbols().with_classes(list).unwrap_err().to_string(), error, "{list:?}");
+    }
+}
+
+#[test]
 fn errors_of_texts_name_the_place() {
     for (text, error) in [
         ("", "column 1: expected a symbol, ?name, @run or !, found the end"),
@@ -72,6 +101,14 @@ fn errors_of_tables_name_the_place() {
         ("open\n gate/9", "line 2, column 2: expected 0 to 8 children or *, found \"9\""),
         ("open shut open", "column 11: open is named twice"),
         ("7", "column 1: expected a name of letters, digits, _ and -, found \"7\""),
+        ("open # \n shut\tstopped=held", "line 2, column 15: \"held\" is not named before"),
+        ("open open=open", "column 6: open is named twice"),
+        ("open shut=shut", "column 11: \"shut\" is not named before"),
+        ("open shut=", "column 11: \"\" is not named before"),
+        (
+            "gate/1 door/1=gate",
+            "column 8: expected a name of letters, digits, _ and -, found \"door/1\"",
+        ),
     ] {
         assert_eq!(Symbols::parse(text).unwrap_err().to_string(), error);
     }

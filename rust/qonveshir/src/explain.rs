@@ -2,7 +2,9 @@
 
 use crate::{read, trouble, Reply, Stop};
 use interface::*;
-use reference::{pattern::Steps, record::Record, sheet::Sheet, table::Table, Refusal};
+use reference::{
+    classes::Classes, pattern::Steps, record::Record, sheet::Sheet, table::Table, Refusal,
+};
 
 /// Explains what the arguments name: a number, or a table and inputs over it.
 pub fn explain(arguments: &[&str]) -> Reply {
@@ -14,6 +16,7 @@ pub fn explain(arguments: &[&str]) -> Reply {
     let mut text = input("table", path, &table, &table)?;
     while let [option, path, later @ ..] = rest {
         let kind = match *option {
+            "--classes" => "classes",
             "--rules" => "rules",
             "--states" => "states",
             "--pattern" => "pattern",
@@ -32,7 +35,7 @@ pub fn explain(arguments: &[&str]) -> Reply {
 fn meaning(number: u32) -> Reply {
     match Word::of(number) {
         Some(word) => Ok(format!("{number} {}: {}\n", word.text(), word.meaning())),
-        None => trouble(format!("{number}: numbers are 0 to {}", Word::Unread.number())),
+        None => trouble(format!("{number}: numbers are 0 to {}", Word::ALL.len() - 1)),
     }
 }
 
@@ -40,13 +43,14 @@ fn meaning(number: u32) -> Reply {
 fn input(kind: &str, path: &str, bytes: &[u8], table: &[u8]) -> Reply {
     match check(kind, bytes, table) {
         Ok(()) => Ok(format!("{path}: accepted as {kind}\n")),
-        Err(refusal) => Err(Stop::No(refused(kind, path, bytes, table.len(), refusal))),
+        Err(refusal) => Err(Stop::No(refused(kind, path, bytes, table, refusal))),
     }
 }
 
 fn check(kind: &str, bytes: &[u8], table: &[u8]) -> Result<(), Refusal> {
     let symbols = Table::read(table)?;
     match kind {
+        "classes" => Classes::read(symbols, bytes).map(|_| ())?,
         "rules" => reference::check_rules(table, bytes)?,
         "states" => reference::check_states(table, bytes)?,
         "pattern" => Steps::new().read(symbols, bytes).map(|_| ())?,
@@ -57,7 +61,7 @@ fn check(kind: &str, bytes: &[u8], table: &[u8]) -> Result<(), Refusal> {
 }
 
 /// Number, word, input, byte and what was expected there.
-fn refused(kind: &str, path: &str, bytes: &[u8], symbols: usize, refusal: Refusal) -> String {
+fn refused(kind: &str, path: &str, bytes: &[u8], table: &[u8], refusal: Refusal) -> String {
     let (word, within) = (refusal.fault.word, refusal.fault.at as usize);
     let start = refusal.entry.and_then(|entry| Sheet::read(bytes).ok()?.range(entry));
     let at = start.map_or(0, |range| range.start) + within;
@@ -76,7 +80,8 @@ fn refused(kind: &str, path: &str, bytes: &[u8], symbols: usize, refusal: Refusa
     let in_entry = refusal.entry.is_some();
     text + "\nexpected: "
         + &match word {
-            Word::Code => codes(kind, symbols),
+            Word::Code => codes(kind, table.len()),
+            Word::Class => class(bytes, at, table),
             Word::Directory => directory(bytes, at).into(),
             _ => expected(kind, word, in_entry, at).into(),
         }
@@ -105,6 +110,19 @@ fn codes(kind: &str, symbols: usize) -> String {
     };
     let more = ", a name 200 to 231, a run name 232 to 247 or the complement 248";
     symbols + if kind == "pattern" || kind == "rules" { more } else { "" }
+}
+
+/// What a class list should have at a place.
+fn class(list: &[u8], at: usize, table: &[u8]) -> String {
+    if list.len() != table.len() {
+        return format!("a list as long as the table, which has {} bytes", table.len());
+    }
+    let class = list[at];
+    match list[..=at].get(usize::from(class)) {
+        None => format!("at most its own index, which is {at}"),
+        Some(&own) if own != class => format!("its own class; {class} has the class {own}"),
+        _ => format!("a symbol with the table's byte {}", table[at]),
+    }
 }
 
 /// What a sheet's directory should have at a place.

@@ -13,21 +13,25 @@ qonveshir: matches rules against states
 
 usage:
   qonveshir pack table SYMBOLS OUT          write a table
+  qonveshir pack classes SYMBOLS OUT        write its class list
   qonveshir pack rules SYMBOLS TEXT OUT     write a rule sheet, a line of text for each rule
   qonveshir pack states SYMBOLS TEXT OUT    write a state sheet, a line of text for each state
+  qonveshir unpack classes SYMBOLS CLASSES  print the symbols with the classes of a class list
   qonveshir unpack rules SYMBOLS SHEET      print the rules of a sheet, a line for each
   qonveshir unpack states SYMBOLS SHEET     print the states of a sheet, a line for each
   qonveshir match [--allowance N] SYMBOLS RULE STATE
                                             match a rule against a state, both given as text
-  qonveshir explain TABLE [--rules SHEET] [--states SHEET] [--pattern FILE] [--record FILE]
+  qonveshir explain TABLE [--classes CLASSES] [--rules SHEET] [--states SHEET]
+                    [--pattern FILE] [--record FILE]
                                             say why an input is refused
   qonveshir explain NUMBER                  say what a number means
   qonveshir --help, qonveshir --version
 
-SYMBOLS is a text file of names in order, such as `open shut gate/1 row/2 gates/*`: a number of
-children follows /, and * is a list. Rules and states are written as in `gates(@0, !open, @1)` and
-`gates(open, shut)`; in a TEXT file # starts a comment and empty lines are passed over. TABLE,
-SHEET and FILE are in bytes.
+SYMBOLS is a text file of names in order, such as `open held gate/1 row/2 gates/* stopped=held`: a
+number of children follows /, and * is a list; = is followed by a symbol named before, of the same
+meaning and as many children. Symbols of one meaning count as the same in a match. Rules and states
+are written as in `gates(@0, !open, @1)` and `gates(open, held)`; in a TEXT file # starts a comment
+and empty lines are passed over. TABLE, CLASSES, SHEET and FILE are in bytes.
 
 exit status: 0 done, bound or accepted; 1 none, spent or refused; 2 a wrong call, a file that
 can't be read or written, or text that can't be read
@@ -84,8 +88,10 @@ fn reply(arguments: &[&str]) -> Reply {
             Ok(format!("qonveshir {}, with {}\n", env!("CARGO_PKG_VERSION"), ENGINE.1))
         }
         ["pack", "table", symbols, out] => sheets::pack_table(symbols, out),
+        ["pack", "classes", symbols, out] => sheets::pack_classes(symbols, out),
         ["pack", "rules", symbols, text, out] => sheets::pack_rules(symbols, text, out),
         ["pack", "states", symbols, text, out] => sheets::pack_states(symbols, text, out),
+        ["unpack", "classes", symbols, list] => sheets::unpack_classes(symbols, list),
         ["unpack", "rules", symbols, sheet] => sheets::unpack_rules(symbols, sheet),
         ["unpack", "states", symbols, sheet] => sheets::unpack_states(symbols, sheet),
         ["match", "--allowance", allowance, symbols, rule, state] => match allowance.parse() {

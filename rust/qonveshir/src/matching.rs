@@ -5,12 +5,15 @@ use interface::{Word, NAMES, RUNS};
 use notation::{Error, Symbols};
 use std::ops::Range;
 
-/// Matches a rule against a state and shows what each free name and run name stands for.
+/// Matches a rule against a state, up to the classes that the symbols have, and shows what each
+/// free name and run name stands for.
 pub fn find(symbols: &str, rule: &str, state: &str, allowance: u32) -> Reply {
     let symbols = read_symbols(symbols)?;
     let pattern = symbols.pattern(rule).or_else(|error| trouble(format!("rule, {error}")))?;
     let record = symbols.term(state).or_else(|error| trouble(format!("state, {error}")))?;
-    let (outcome, answer) = ENGINE.0.find(symbols.table(), &pattern, &record, allowance);
+    let (table, classes) = (symbols.table(), symbols.classes());
+    let (outcome, answer) =
+        ENGINE.0.find_with_classes(table, classes, &pattern, &record, allowance);
     let count = outcome.count;
     match outcome.word() {
         Some(Word::Bound) => {

@@ -1,11 +1,15 @@
 //! `pack` and `unpack`.
 
 use crate::{read, read_symbols, read_text, trouble, write, Reply, Stop, ENGINE};
-use interface::{sheet_of, Outcome, SHEET_LIMIT};
+use interface::{sheet_of, Outcome, Word, SHEET_LIMIT};
 use notation::Error;
 
 pub fn pack_table(symbols: &str, out: &str) -> Reply {
     write(out, read_symbols(symbols)?.table())
+}
+
+pub fn pack_classes(symbols: &str, out: &str) -> Reply {
+    write(out, read_symbols(symbols)?.classes())
 }
 
 pub fn pack_states(symbols: &str, text: &str, out: &str) -> Reply {
@@ -23,6 +27,16 @@ pub fn pack_rules(symbols: &str, text: &str, out: &str) -> Reply {
     let sheet = sheet_of(&entries(text, |line| symbols.pattern(line))?);
     accepted(text, ENGINE.0.check_rules(symbols.table(), &sheet))?;
     write(out, &sheet)
+}
+
+pub fn unpack_classes(symbols: &str, path: &str) -> Reply {
+    match read_symbols(symbols)?.with_classes(&read(path)?) {
+        Ok(symbols) => Ok(format!("{symbols}\n")),
+        Err(error) => {
+            let (number, word) = (Word::Class.number(), Word::Class.text());
+            Err(Stop::No(format!("{path}: refused {number} {word}, {error}")))
+        }
+    }
 }
 
 pub fn unpack_rules(symbols: &str, path: &str) -> Reply {

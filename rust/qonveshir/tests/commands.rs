@@ -42,6 +42,28 @@ fn matches() {
 }
 
 #[test]
+fn matches_up_to_class() {
+    let folder = folder("classes");
+    let text = "open held gate/1 row/2 gates/* stopped=held door=gate";
+    fs::write(folder.join("classes"), text).unwrap();
+    fs::write(folder.join("plain"), "open held gate/1 row/2 gates/* stopped door/1").unwrap();
+    let find = |symbols, rule, state| run(&folder, &["match", symbols, rule, state]);
+    let (rule, state) = ("row(?0, ?0)", "row(gate(stopped), door(held))");
+    let bound = "bound 3\n?0 = gate(stopped)  (offset 1, length 2)\n";
+    assert_eq!(find("classes", rule, state), (0, bound.into()));
+    assert_eq!(find("plain", rule, state), (1, "none 3\n".into()));
+    assert_eq!(find("classes", "row(!held, ?0)", "row(stopped, open)"), (1, "none 4\n".into()));
+    let command = |text: &str| run(&folder, &text.split(' ').collect::<Vec<_>>());
+    assert_eq!(command("pack classes classes c"), (0, "c: 7 bytes\n".into()));
+    assert_eq!(fs::read(folder.join("c")).unwrap(), [0, 1, 2, 3, 4, 1, 2]);
+    assert_eq!(command("unpack classes plain c"), (0, format!("{text}\n")));
+    fs::write(folder.join("c"), [0, 1, 2]).unwrap();
+    let expected = "c: refused 14 class, byte 3: a list for 7 symbols, this has 3 bytes\n";
+    assert_eq!(command("unpack classes plain c"), (1, expected.into()));
+    fs::remove_dir_all(folder).unwrap();
+}
+
+#[test]
 fn packs_and_unpacks() {
     let folder = folder("pack");
     let rules = "row(!?0, ?0)\nrow(open, !shut)\n";
@@ -85,6 +107,39 @@ fn explains() {
     assert_eq!(run(&folder, &["explain", "t", "--record", "p"]), (1, expected.into()));
     let stray = "7 stray: run name elsewhere than as a list's child\n";
     assert_eq!(run(&folder, &["explain", "7"]), (0, stray.into()));
+    let class = "14 class: a class list of the wrong length, an entry above its own index or not \
+                 its own class, or unlike table bytes within a class\n";
+    assert_eq!(run(&folder, &["explain", "14"]), (0, class.into()));
+    fs::remove_dir_all(folder).unwrap();
+}
+
+#[test]
+fn explains_class_lists() {
+    let folder = folder("lists");
+    fs::write(folder.join("t"), [0, 1, 255, 0]).unwrap();
+    let explain = |list: &[u8]| {
+        fs::write(folder.join("c"), list).unwrap();
+        run(&folder, &["explain", "t", "--classes", "c"])
+    };
+    let accepted = "t: accepted as table\nc: accepted as classes\n";
+    assert_eq!(explain(&[0, 1, 2, 0]), (0, accepted.into()));
+    let long = "a list as long as the table, which has 4 bytes";
+    for (list, byte, expected) in [
+        (&[][..], "0, past the end", long),
+        (&[0, 1, 2], "3, past the end", long),
+        (&[0, 1, 2, 3, 4], "4, which is 4", long),
+        (&[0, 1, 3, 3], "2, which is 3", "at most its own index, which is 2"),
+        (&[0, 0, 2, 1], "1, which is 0", "a symbol with the table's byte 1"),
+        (&[0, 1, 255, 0], "2, which is 255", "at most its own index, which is 2"),
+    ] {
+        let text =
+            format!("c: refused 14 class\ninput: classes\nbyte: {byte}\nexpected: {expected}\n");
+        assert_eq!(explain(list), (1, text), "{list:?}");
+    }
+    fs::write(folder.join("t"), [0, 0, 0]).unwrap();
+    let (status, text) = explain(&[0, 0, 1]);
+    assert_eq!(status, 1);
+    assert!(text.ends_with("expected: its own class; 1 has the class 0\n"), "{text}");
     fs::remove_dir_all(folder).unwrap();
 }
 
@@ -93,7 +148,7 @@ fn wrong_calls() {
     let folder = folder("calls");
     assert_eq!(run(&folder, &[]).0, 2);
     assert_eq!(run(&folder, &["match", "nowhere", "open", "open"]).0, 2);
-    assert_eq!(run(&folder, &["explain", "14"]).0, 2);
+    assert_eq!(run(&folder, &["explain", "15"]).0, 2);
     assert_eq!(run(&folder, &["--help"]).0, 0);
     assert!(run(&folder, &["--version"]).1.starts_with("qonveshir 0."));
     fs::remove_dir_all(folder).unwrap();

@@ -1,9 +1,12 @@
-//! An independent implementation of the six calls, written from document 01 alone.
+//! An independent implementation of the calls, written from documents 01 and 02 alone.
 //!
 //! A pattern is compiled to a short list of steps ([`pattern`]), a record is read once into a
 //! table of where each term ends ([`record`]), and the search ([`search`]) goes back by a stack
-//! of run names. A record's bytes determine its term, so equal terms are equal bytes.
+//! of run names. A record's bytes determine its term, so equal terms are equal bytes. Up to class
+//! the same search runs on a pattern and a record whose symbols are replaced by their classes
+//! ([`classes`]); where parts lie is not changed by that.
 
+pub mod classes;
 pub mod fault;
 pub mod pattern;
 pub mod record;
@@ -11,6 +14,7 @@ pub mod search;
 pub mod sheet;
 pub mod table;
 
+use classes::Classes;
 use fault::Fault;
 use interface::{Library, Outcome, Part, Word, ANSWER, SHEET_LIMIT};
 use pattern::Steps;
@@ -32,23 +36,19 @@ impl Library for Reference {
         allowance: u32,
         answer: &mut [u16],
     ) -> Outcome {
-        shown((|| {
-            let answer = wide(answer)?;
-            let table = Table::read(table)?;
-            let mut steps = Steps::new();
-            let start = steps.read(table, pattern)?;
-            let ends = &mut Vec::new();
-            let record = Record::read(table, record, ends)?;
-            let mut search = Search::new(&steps, record);
-            Ok(match search.run(start, allowance) {
-                (Found::Bound, count) => {
-                    search.answer(answer);
-                    Outcome::counted(Word::Bound, 0, count)
-                }
-                (Found::None, count) => Outcome::counted(Word::None, 0, count),
-                (Found::Spent, count) => Outcome::counted(Word::Spent, 0, count),
-            })
-        })())
+        shown(match_one(table, None, pattern, record, allowance, answer))
+    }
+
+    fn match_one_with_classes(
+        &self,
+        table: &[u8],
+        classes: &[u8],
+        pattern: &[u8],
+        record: &[u8],
+        allowance: u32,
+        answer: &mut [u16],
+    ) -> Outcome {
+        shown(match_one(table, Some(classes), pattern, record, allowance, answer))
     }
 
     fn match_rules(
@@ -59,29 +59,19 @@ impl Library for Reference {
         allowance: u32,
         answer: &mut [u16],
     ) -> Outcome {
-        shown((|| {
-            let answer = wide(answer)?;
-            let table = Table::read(table)?;
-            let mut steps = Steps::new();
-            let starts = read_rules(table, rules, &mut steps)?;
-            let ends = &mut Vec::new();
-            let record = Record::read(table, record, ends)?;
-            let mut search = Search::new(&steps, record);
-            let mut sum = 0;
-            for (rule, start) in starts.into_iter().enumerate() {
-                let (found, count) = search.run(start, allowance);
-                sum += count;
-                match found {
-                    Found::None => {}
-                    Found::Spent => return Ok(Outcome::counted(Word::Spent, rule, sum)),
-                    Found::Bound => {
-                        search.answer(answer);
-                        return Ok(Outcome::counted(Word::Bound, rule, sum));
-                    }
-                }
-            }
-            Ok(Outcome::counted(Word::None, 0, sum))
-        })())
+        shown(match_rules(table, None, rules, record, allowance, answer))
+    }
+
+    fn match_rules_with_classes(
+        &self,
+        table: &[u8],
+        classes: &[u8],
+        rules: &[u8],
+        record: &[u8],
+        allowance: u32,
+        answer: &mut [u16],
+    ) -> Outcome {
+        shown(match_rules(table, Some(classes), rules, record, allowance, answer))
     }
 
     fn write_sheet(
@@ -162,6 +152,88 @@ pub fn check_states(table: &[u8], sheet: &[u8]) -> Result<(), Refusal> {
         Record::check(table, bytes).map_err(|fault| fault.of_entry(index))?;
     }
     Ok(())
+}
+
+/// Matches one pattern, up to class if a class list is brought; inlined, as what it calls, so that
+/// a call without one is as fast as if there were none.
+#[inline(always)]
+fn match_one(
+    table: &[u8],
+    brought: Option<&[u8]>,
+    pattern: &[u8],
+    record: &[u8],
+    allowance: u32,
+    answer: &mut [u16],
+) -> Result<Outcome, Refusal> {
+    let answer = wide(answer)?;
+    let table = Table::read(table)?;
+    let classes = read_classes(table, brought)?;
+    let mut steps = Steps::new();
+    let start = steps.read(table, pattern)?;
+    first_of(table, classes, steps, &[start], record, allowance, answer)
+}
+
+/// Tries the patterns of a sheet, up to class if a class list is brought.
+#[inline(always)]
+fn match_rules(
+    table: &[u8],
+    brought: Option<&[u8]>,
+    rules: &[u8],
+    record: &[u8],
+    allowance: u32,
+    answer: &mut [u16],
+) -> Result<Outcome, Refusal> {
+    let answer = wide(answer)?;
+    let table = Table::read(table)?;
+    let classes = read_classes(table, brought)?;
+    let mut steps = Steps::new();
+    let starts = read_rules(table, rules, &mut steps)?;
+    first_of(table, classes, steps, &starts, record, allowance, answer)
+}
+
+/// Reads a record and tries the patterns that start at these steps, up to the first that is bound
+/// or spent.
+#[inline(always)]
+fn first_of(
+    table: Table,
+    classes: Option<Classes>,
+    mut steps: Steps,
+    starts: &[usize],
+    record: &[u8],
+    allowance: u32,
+    answer: &mut [u16; ANSWER],
+) -> Result<Outcome, Refusal> {
+    let ends = &mut Vec::new();
+    let mut record = Record::read(table, record, ends)?;
+    let merged;
+    if let Some(classes) = classes {
+        steps.merge(classes);
+        merged = classes.merged(record.bytes);
+        record.bytes = &merged;
+    }
+    let mut search = Search::new(&steps, record);
+    let mut sum = 0;
+    for (rule, &start) in starts.iter().enumerate() {
+        let (found, count) = search.run(start, allowance);
+        sum += count;
+        match found {
+            Found::None => {}
+            Found::Spent => return Ok(Outcome::counted(Word::Spent, rule, sum)),
+            Found::Bound => {
+                search.answer(answer);
+                return Ok(Outcome::counted(Word::Bound, rule, sum));
+            }
+        }
+    }
+    Ok(Outcome::counted(Word::None, 0, sum))
+}
+
+/// The class list, if one is brought.
+fn read_classes<'a>(
+    table: Table<'a>,
+    brought: Option<&'a [u8]>,
+) -> Result<Option<Classes<'a>>, Fault> {
+    brought.map(|list| Classes::read(table, list)).transpose()
 }
 
 /// Reads the patterns of a rule sheet, and gives the step at which each starts.

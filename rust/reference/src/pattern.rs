@@ -1,6 +1,6 @@
 //! Patterns, checked and compiled to steps in one pass.
 
-use crate::{fault::Fault, table::Table};
+use crate::{classes::Classes, fault::Fault, table::Table};
 use interface::{
     Word, COMPLEMENT, FIRST_NAME, FIRST_RUN, LIST, NAMES, NESTING_LIMIT, PATTERN_LIMIT,
 };
@@ -59,6 +59,15 @@ impl Steps {
             return Err(Fault::new(Word::Spare, reader.at));
         }
         Ok(start)
+    }
+
+    /// Replaces each symbol by its class.
+    pub fn merge(&mut self, classes: Classes) {
+        for step in &mut self.0 {
+            if let Step::Symbol { symbol, .. } | Step::List { symbol, .. } = step {
+                *symbol = classes.of(*symbol);
+            }
+        }
     }
 }
 

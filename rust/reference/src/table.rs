@@ -19,6 +19,11 @@ impl<'a> Table<'a> {
         }
     }
 
+    /// The number of symbols.
+    pub fn symbols(self) -> usize {
+        self.0.len()
+    }
+
     /// The table's byte for a symbol: its number of children, or [`LIST`].
     pub fn children(self, symbol: u8) -> Option<u8> {
         self.0.get(usize::from(symbol)).copied()

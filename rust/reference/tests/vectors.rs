@@ -1,11 +1,11 @@
-//! Runs the vectors of `crates/vectors` that are one of the library's six calls, and compares what
+//! Runs the vectors of `crates/vectors` that are one of the library's calls, and compares what
 //! is answered with the outcome that the line states. `QONVESHIR_VECTORS` names another folder.
 
 use interface::{Library, Outcome, Word, ANSWER, NAMES, RUNS};
 use reference::Reference;
 use std::{collections::BTreeMap, env, fs, path::PathBuf};
 
-const FILES: [&str; 3] = ["matches.txt", "rules.txt", "sheets.txt"];
+const FILES: [&str; 4] = ["matches.txt", "classes.txt", "rules.txt", "sheets.txt"];
 
 #[test]
 fn every_vector_has_its_outcome() {
@@ -22,17 +22,26 @@ fn every_vector_has_its_outcome() {
             let words: Vec<&str> = call.split(' ').collect();
             if let Some(answered) = outcome(words[1], &words[2..], stated) {
                 assert_eq!(answered, stated, "{line}");
-                *run.entry(words[1].to_string()).or_insert(0) += 1;
+                let classes = if words.len() == 8 { " with classes" } else { "" };
+                *run.entry(format!("{}{classes}", words[1])).or_insert(0) += 1;
             }
         }
     }
-    let calls =
-        ["check_rules", "check_states", "match_one", "match_rules", "place_of", "write_sheet"];
+    let calls = [
+        "check_rules",
+        "check_states",
+        "match_one",
+        "match_one with classes",
+        "match_rules",
+        "match_rules with classes",
+        "place_of",
+        "write_sheet",
+    ];
     assert!(run.keys().eq(calls), "calls that were run: {run:?}");
     assert!(run["match_one"] >= 800, "only {} matches", run["match_one"]);
 }
 
-/// What is answered, as a line states it, or nothing where it is none of the six calls.
+/// What is answered, as a line states it, or nothing where it is none of the calls.
 fn outcome(call: &str, fields: &[&str], stated: &str) -> Option<String> {
     Some(match (call, fields) {
         ("match_one", [table, pattern, record, allowance, width]) => {
@@ -46,6 +55,26 @@ fn outcome(call: &str, fields: &[&str], stated: &str) -> Option<String> {
             let [table, rules, record] = [table, rules, record].map(|text| bytes(text));
             let find = |answer: &mut [u16]| {
                 Reference.match_rules(&table, &rules, &record, number(allowance), answer)
+            };
+            matched(number(width), true, find)
+        }
+        ("match_one", [table, classes, pattern, record, allowance, width]) => {
+            let [table, classes, pattern, record] =
+                [table, classes, pattern, record].map(|text| bytes(text));
+            let find = |answer: &mut [u16]| {
+                let allowance = number(allowance);
+                Reference
+                    .match_one_with_classes(&table, &classes, &pattern, &record, allowance, answer)
+            };
+            matched(number(width), false, find)
+        }
+        ("match_rules", [table, classes, rules, record, allowance, width]) => {
+            let [table, classes, rules, record] =
+                [table, classes, rules, record].map(|text| bytes(text));
+            let find = |answer: &mut [u16]| {
+                let allowance = number(allowance);
+                Reference
+                    .match_rules_with_classes(&table, &classes, &rules, &record, allowance, answer)
             };
             matched(number(width), true, find)
         }

@@ -7,7 +7,7 @@ use Rattle.matcher.proofs.match_checked.Statement.{statement}
 use Rattle.matcher.proofs.match_checked.Tie as tie
 
 returns : tie.Need-returns
-returns c = narrow-matched _ _ _ _ _ (omega arith)
+returns c = narrow-matched _ _ _ _ _ _ (omega arith)
 
 search-requires : tie.Need-search-requires
 search-requires c κs = search needs
@@ -15,14 +15,14 @@ search-requires c κs = search needs
 enum-told : tie.Need-enum-told
 enum-told c = search needs
 
-sub-t15 : tie.Need-sub-t15
-sub-t15 c = omega (arith, left-within _ _ _ _ _ (c .before .before .before .before .search .ensures .0))
+sub-t16 : tie.Need-sub-t16
+sub-t16 c = omega (arith, left-within _ _ _ _ _ _ (c .before .before .before .before .search .ensures .0))
 
 enum-told-2 : tie.Need-enum-told-2
 enum-told-2 c = search needs
 
-sub-t16 : tie.Need-sub-t16
-sub-t16 c = omega (arith, left-within _ _ _ _ _ (c .before .before .before .before .search .ensures .0))
+sub-t17 : tie.Need-sub-t17
+sub-t17 c = omega (arith, left-within _ _ _ _ _ _ (c .before .before .before .before .search .ensures .0))
 
 enum-told-3 : tie.Need-enum-told-3
 enum-told-3 c = search needs
@@ -33,8 +33,7 @@ same-length c = search needs
 returns-2 : tie.Need-returns-2
 returns-2 c =
     let from = c .before .before .before .before in
-    search-matched _ _ _ _ _ (omega arith) Found _ (c .enum-told .given .1) (from .search .ensures .0) _ (same-length c)
-    (from .search .ensures .1)
+    search-matched _ _ _ _ _ _ (omega arith) Found _ (c .enum-told .given .1) (from .search .ensures .0) _ (from .search .ensures .1)
 
 same-length-2 : tie.Need-same-length-2
 same-length-2 c = search needs
@@ -42,8 +41,7 @@ same-length-2 c = search needs
 returns-3 : tie.Need-returns-3
 returns-3 c =
     let from = c .before .before .before .before in
-    search-matched _ _ _ _ _ (omega arith) Failed _ (c .enum-told2 .given .1) (from .search .ensures .0) _ (same-length-2 c)
-    (from .search .ensures .1)
+    search-matched _ _ _ _ _ _ (omega arith) Failed _ (c .enum-told2 .given .1) (from .search .ensures .0) _ (from .search .ensures .1)
 
 same-length-3 : tie.Need-same-length-3
 same-length-3 c = search needs
@@ -51,8 +49,7 @@ same-length-3 c = search needs
 returns-4 : tie.Need-returns-4
 returns-4 c =
     let from = c .before .before .before .before in
-    search-matched _ _ _ _ _ (omega arith) Spent _ (c .enum-told3 .given .1) (from .search .ensures .0) _ (same-length-3 c)
-    (from .search .ensures .1)
+    search-matched _ _ _ _ _ _ (omega arith) Spent _ (c .enum-told3 .given .1) (from .search .ensures .0) _ (from .search .ensures .1)
 
 pub match-checked-spec : {M : Type 1} → statement M
 match-checked-spec =
@@ -61,9 +58,9 @@ match-checked-spec =
     returns
     search-requires
     enum-told
-    sub-t15
-    enum-told-2
     sub-t16
+    enum-told-2
+    sub-t17
     enum-told-3
     same-length
     returns-2

@@ -1,19 +1,21 @@
 -- `rules::match_rules_checked` meets its contract. The invariant: the rules before index i are none. The measure is the number of rules left.
 use Prim.Native.Nat.{_-_}
 use native.Mathlib.Omega.{arith}
+use mathlib.Core.Path.{ap}
+use lib.ListN.{length}
 use borrow.Author.Needs.{needs}
-use Rattle.rules.proofs.Turns.{narrow-matched, Turn, turn-starts, turn-next, turn-stops, turn-ends}
+use Rattle.rules.proofs.Turns.{narrow-matched, Turn, turn-starts, turn-room, turn-next, turn-stops, turn-ends}
 use Rattle.rules.proofs.match_rules_checked.Statement.{statement}
 use Rattle.rules.proofs.match_rules_checked.Tie as tie
 
 abbrev Inv-loop : tie.InvT-loop
-Inv-loop table sheet «record» allowance answer₀ rules sum₀ i₀ answer sum i = Turn table sheet «record» allowance answer₀ rules answer sum i
+Inv-loop table classes sheet «record» allowance answer₀ rules sum₀ i₀ answer sum i = Turn table classes sheet «record» allowance answer₀ rules answer sum i
 
 abbrev μ-loop : tie.MeasureT-loop
-μ-loop table sheet «record» allowance answer₀ rules sum₀ i₀ answer sum i = rules - i
+μ-loop table classes sheet «record» allowance answer₀ rules sum₀ i₀ answer sum i = rules - i
 
 returns : tie.Need-returns Inv-loop μ-loop
-returns c = narrow-matched _ _ _ _ _ (c .if1 .taken)
+returns c = narrow-matched _ _ _ _ _ _ (c .if1 .taken)
 
 count-requires : tie.Need-count-requires Inv-loop μ-loop
 count-requires c κs = search needs
@@ -22,7 +24,7 @@ cast-rules : tie.Need-cast-rules Inv-loop μ-loop
 cast-rules c = search needs
 
 loop-holds : tie.Need-loop-holds Inv-loop μ-loop
-loop-holds c = turn-starts _ _ _ _ _ _ (c .before .if1 .left) (c .count .ensures) (omega arith)
+loop-holds c = turn-starts _ _ _ _ _ _ _ (c .before .if1 .left) (c .count .ensures) (omega arith)
 
 part-at-requires : tie.Need-part-at-requires Inv-loop μ-loop
 part-at-requires c κs = search needs
@@ -33,14 +35,14 @@ match-checked-requires c κs = search needs
 enum-known-own : tie.Need-enum-known-own Inv-loop μ-loop
 enum-known-own c = search needs
 
-cast-t22 : tie.Need-cast-t22 Inv-loop μ-loop
-cast-t22 c = search needs
+cast-total : tie.Need-cast-total Inv-loop μ-loop
+cast-total c = search needs
 
-add-t23 : tie.Need-add-t23 Inv-loop μ-loop
-add-t23 c = omega (arith, c .before .before .before .before .before .before .before .before .before .loop .inv .fits, c .before .before .before .before .before .before .before .before .before .loop .inv .reached, c .before .before .before .before .before .before .before .before .before .loop .inv .few)
+add-total : tie.Need-add-total Inv-loop μ-loop
+add-total c = omega (arith, turn-room (c .before .before .before .before .before .before .before .before .before .loop .inv))
 
 same-length : tie.Need-same-length Inv-loop μ-loop
-same-length c = search needs
+same-length c = search (needs, ap length (c .before .before .before .before .before .before .before .before .before .loop .inv .untouched))
 
 returns-2 : tie.Need-returns-2 Inv-loop μ-loop
 returns-2 c =
@@ -50,14 +52,14 @@ returns-2 c =
 enum-known-own-2 : tie.Need-enum-known-own-2 Inv-loop μ-loop
 enum-known-own-2 c = search needs
 
-cast-t24 : tie.Need-cast-t24 Inv-loop μ-loop
-cast-t24 c = search needs
+cast-total-2 : tie.Need-cast-total-2 Inv-loop μ-loop
+cast-total-2 c = search needs
 
-add-t25 : tie.Need-add-t25 Inv-loop μ-loop
-add-t25 c = omega (arith, c .before .before .before .before .before .before .before .before .before .loop .inv .fits, c .before .before .before .before .before .before .before .before .before .loop .inv .reached, c .before .before .before .before .before .before .before .before .before .loop .inv .few)
+add-total-2 : tie.Need-add-total-2 Inv-loop μ-loop
+add-total-2 c = omega (arith, turn-room (c .before .before .before .before .before .before .before .before .before .loop .inv))
 
 same-length-2 : tie.Need-same-length-2 Inv-loop μ-loop
-same-length-2 c = search needs
+same-length-2 c = search (needs, ap length (c .before .before .before .before .before .before .before .before .before .loop .inv .untouched))
 
 returns-3 : tie.Need-returns-3 Inv-loop μ-loop
 returns-3 c =
@@ -68,7 +70,7 @@ enum-known-own-3 : tie.Need-enum-known-own-3 Inv-loop μ-loop
 enum-known-own-3 c = search needs
 
 same-length-3 : tie.Need-same-length-3 Inv-loop μ-loop
-same-length-3 c = search needs
+same-length-3 c = search (needs, ap length (c .before .before .before .before .before .before .before .before .before .loop .inv .untouched))
 
 returns-4 : tie.Need-returns-4 Inv-loop μ-loop
 returns-4 c =
@@ -82,7 +84,7 @@ cast-sum : tie.Need-cast-sum Inv-loop μ-loop
 cast-sum c = search needs
 
 add-sum : tie.Need-add-sum Inv-loop μ-loop
-add-sum c = omega (arith, c .before .before .before .before .before .before .before .before .before .loop .inv .fits, c .before .before .before .before .before .before .before .before .before .loop .inv .reached, c .before .before .before .before .before .before .before .before .before .loop .inv .few)
+add-sum c = omega (arith, turn-room (c .before .before .before .before .before .before .before .before .before .loop .inv))
 
 add-i : tie.Need-add-i Inv-loop μ-loop
 add-i c = search needs
@@ -114,13 +116,13 @@ match-rules-checked-spec =
     part-at-requires
     match-checked-requires
     enum-known-own
-    cast-t22
-    add-t23
+    cast-total
+    add-total
     same-length
     returns-2
     enum-known-own-2
-    cast-t24
-    add-t25
+    cast-total-2
+    add-total-2
     same-length-2
     returns-3
     enum-known-own-3

@@ -8,9 +8,9 @@ use denote.Ref.{now}
 use borrow.Author.Needs.{needs}
 use borrow.Author.Tests.{not-true, not-false}
 use Rattle.search.specs.Level.{levels}
-use Rattle.search.specs.Memory.{packed, putByIn}
-use Rattle.search.specs.Bounds.{StopsAt, Unassigned}
-use Rattle.search.specs.Replies.{Decides}
+use Rattle.search.specs.Inner.Memory.{packed, putByIn}
+use Rattle.search.specs.Inner.Bounds.{StopsAt, Unassigned}
+use Rattle.search.specs.Inner.Replies.{Decides}
 use Rattle.search.specs.declared.Place.{Place}
 use Rattle.search.proofs.Steps.{rest-length}
 use Rattle.search.proofs.Kept.{past, past-holds, none-free}
@@ -63,74 +63,74 @@ use Rattle.term.proofs.extent.Reads as extent-reads
 use Rattle.search.proofs.+complement+complements+follow+lengths+level+rest+start_level.{statement}
 use Rattle.search.proofs.+complement+complements+follow+lengths+level+rest+start_level.Tie.{close}
 
-abbrev μ-complement : Measures 7 complement-kinds.ps ℕ
-μ-complement κs a = 5 * levels (now (a .1 .0)) (length (now (a .1 .0)))
+abbrev μ-complement : Measures 8 complement-kinds.ps ℕ
+μ-complement κs a = 5 * levels (now (a .1 .1 .0)) (length (now (a .1 .1 .0)))
 
-abbrev μ-complements : Measures 7 complements-kinds.ps ℕ
-μ-complements κs a = 5 * levels (now (a .1 .0)) (length (now (a .1 .0))) + 1
+abbrev μ-complements : Measures 8 complements-kinds.ps ℕ
+μ-complements κs a = 5 * levels (now (a .1 .1 .0)) (length (now (a .1 .1 .0))) + 1
 
-abbrev μ-follow : Measures 7 follow-kinds.ps ℕ
-μ-follow κs a = 5 * levels (now (a .1 .0)) (a .1 .1 .1 .1 .1 .1 .1 .1 .1 .0 .at) + 2
+abbrev μ-follow : Measures 8 follow-kinds.ps ℕ
+μ-follow κs a = 5 * levels (now (a .1 .1 .0)) (a .1 .1 .1 .1 .1 .1 .1 .1 .1 .1 .0 .at) + 2
 
-abbrev μ-lengths : Measures 7 lengths-kinds.ps ℕ
-μ-lengths κs a = 5 * levels (now (a .1 .0)) (a .1 .1 .1 .1 .1 .1 .1 .1 .1 .0 .at) + 1
+abbrev μ-lengths : Measures 8 lengths-kinds.ps ℕ
+μ-lengths κs a = 5 * levels (now (a .1 .1 .0)) (a .1 .1 .1 .1 .1 .1 .1 .1 .1 .1 .0 .at) + 1
 
-abbrev μ-level : Measures 7 level-kinds.ps ℕ
-μ-level κs a = 5 * levels (now (a .1 .0)) (a .1 .1 .1 .1 .1 .1 .1 .1 .1 .1 .1 .1 .0 .at) + 4
+abbrev μ-level : Measures 8 level-kinds.ps ℕ
+μ-level κs a = 5 * levels (now (a .1 .1 .0)) (a .1 .1 .1 .1 .1 .1 .1 .1 .1 .1 .1 .1 .1 .0 .at) + 4
 
-abbrev μ-rest : Measures 7 rest-kinds.ps ℕ
-μ-rest κs a = 5 * levels (now (a .1 .0)) (a .1 .1 .1 .1 .1 .1 .1 .1 .0 .at) + 3
+abbrev μ-rest : Measures 8 rest-kinds.ps ℕ
+μ-rest κs a = 5 * levels (now (a .1 .1 .0)) (a .1 .1 .1 .1 .1 .1 .1 .1 .1 .0 .at) + 3
 
-abbrev μ-start-level : Measures 7 start-level-kinds.ps ℕ
-μ-start-level κs a = 5 * levels (now (a .1 .0)) 0 + 5
+abbrev μ-start-level : Measures 8 start-level-kinds.ps ℕ
+μ-start-level κs a = 5 * levels (now (a .1 .1 .0)) 0 + 5
 
-abbrev complement-at : ℕ → In 7 complement-kinds.ps
+abbrev complement-at : ℕ → In 8 complement-kinds.ps
 complement-at t =
-    and 7 complement-kinds.ps (is 7 complement-kinds.ps μ-complement t) complement.Pre
+    and 8 complement-kinds.ps (is 8 complement-kinds.ps μ-complement t) complement.Pre
 
-abbrev complement-below : ℕ → In 7 complement-kinds.ps
+abbrev complement-below : ℕ → In 8 complement-kinds.ps
 complement-below t =
-    and 7 complement-kinds.ps (falls 7 complement-kinds.ps _<_ μ-complement t) complement.Pre
+    and 8 complement-kinds.ps (falls 8 complement-kinds.ps _<_ μ-complement t) complement.Pre
 
-abbrev complements-at : ℕ → In 7 complements-kinds.ps
+abbrev complements-at : ℕ → In 8 complements-kinds.ps
 complements-at t =
-    and 7 complements-kinds.ps (is 7 complements-kinds.ps μ-complements t) complements.Pre
+    and 8 complements-kinds.ps (is 8 complements-kinds.ps μ-complements t) complements.Pre
 
-abbrev complements-below : ℕ → In 7 complements-kinds.ps
+abbrev complements-below : ℕ → In 8 complements-kinds.ps
 complements-below t =
-    and 7 complements-kinds.ps (falls 7 complements-kinds.ps _<_ μ-complements t) complements.Pre
+    and 8 complements-kinds.ps (falls 8 complements-kinds.ps _<_ μ-complements t) complements.Pre
 
-abbrev follow-at : ℕ → In 7 follow-kinds.ps
-follow-at t = and 7 follow-kinds.ps (is 7 follow-kinds.ps μ-follow t) follow.Pre
+abbrev follow-at : ℕ → In 8 follow-kinds.ps
+follow-at t = and 8 follow-kinds.ps (is 8 follow-kinds.ps μ-follow t) follow.Pre
 
-abbrev follow-below : ℕ → In 7 follow-kinds.ps
-follow-below t = and 7 follow-kinds.ps (falls 7 follow-kinds.ps _<_ μ-follow t) follow.Pre
+abbrev follow-below : ℕ → In 8 follow-kinds.ps
+follow-below t = and 8 follow-kinds.ps (falls 8 follow-kinds.ps _<_ μ-follow t) follow.Pre
 
-abbrev lengths-at : ℕ → In 7 lengths-kinds.ps
-lengths-at t = and 7 lengths-kinds.ps (is 7 lengths-kinds.ps μ-lengths t) lengths.Pre
+abbrev lengths-at : ℕ → In 8 lengths-kinds.ps
+lengths-at t = and 8 lengths-kinds.ps (is 8 lengths-kinds.ps μ-lengths t) lengths.Pre
 
-abbrev lengths-below : ℕ → In 7 lengths-kinds.ps
-lengths-below t = and 7 lengths-kinds.ps (falls 7 lengths-kinds.ps _<_ μ-lengths t) lengths.Pre
+abbrev lengths-below : ℕ → In 8 lengths-kinds.ps
+lengths-below t = and 8 lengths-kinds.ps (falls 8 lengths-kinds.ps _<_ μ-lengths t) lengths.Pre
 
-abbrev level-at : ℕ → In 7 level-kinds.ps
-level-at t = and 7 level-kinds.ps (is 7 level-kinds.ps μ-level t) level.Pre
+abbrev level-at : ℕ → In 8 level-kinds.ps
+level-at t = and 8 level-kinds.ps (is 8 level-kinds.ps μ-level t) level.Pre
 
-abbrev level-below : ℕ → In 7 level-kinds.ps
-level-below t = and 7 level-kinds.ps (falls 7 level-kinds.ps _<_ μ-level t) level.Pre
+abbrev level-below : ℕ → In 8 level-kinds.ps
+level-below t = and 8 level-kinds.ps (falls 8 level-kinds.ps _<_ μ-level t) level.Pre
 
-abbrev rest-at : ℕ → In 7 rest-kinds.ps
-rest-at t = and 7 rest-kinds.ps (is 7 rest-kinds.ps μ-rest t) rest.Pre
+abbrev rest-at : ℕ → In 8 rest-kinds.ps
+rest-at t = and 8 rest-kinds.ps (is 8 rest-kinds.ps μ-rest t) rest.Pre
 
-abbrev rest-below : ℕ → In 7 rest-kinds.ps
-rest-below t = and 7 rest-kinds.ps (falls 7 rest-kinds.ps _<_ μ-rest t) rest.Pre
+abbrev rest-below : ℕ → In 8 rest-kinds.ps
+rest-below t = and 8 rest-kinds.ps (falls 8 rest-kinds.ps _<_ μ-rest t) rest.Pre
 
-abbrev start-level-at : ℕ → In 7 start-level-kinds.ps
+abbrev start-level-at : ℕ → In 8 start-level-kinds.ps
 start-level-at t =
-    and 7 start-level-kinds.ps (is 7 start-level-kinds.ps μ-start-level t) start-level.Pre
+    and 8 start-level-kinds.ps (is 8 start-level-kinds.ps μ-start-level t) start-level.Pre
 
-abbrev start-level-below : ℕ → In 7 start-level-kinds.ps
+abbrev start-level-below : ℕ → In 8 start-level-kinds.ps
 start-level-below t =
-    and 7 start-level-kinds.ps (falls 7 start-level-kinds.ps _<_ μ-start-level t) start-level.Pre
+    and 8 start-level-kinds.ps (falls 8 start-level-kinds.ps _<_ μ-start-level t) start-level.Pre
 
 abbrev complement-claims : ℕ → complement-lts.Claims
 complement-claims t = (
@@ -166,7 +166,7 @@ complement-part-inside-start : (t : ℕ) → complement-lts.Need-part-inside-sta
 complement-part-inside-start t c = omega arith
 
 complement-part-inside-end : (t : ℕ) → complement-lts.Need-part-inside-end (complement-claims t) (complement-at t) complement.Post
-complement-part-inside-end t c = omega (arith, c .before .before .before .pre .1 .0 .within)
+complement-part-inside-end t c = omega (arith, c .before .before .before .before .pre .1 .0 .within)
 
 complement-first-pair-requires : (t : ℕ) → complement-lts.Need-first-pair-requires (complement-claims t) (complement-at t) complement.Post
 complement-first-pair-requires t c κs = search needs
@@ -175,15 +175,15 @@ complement-enum-known-first : (t : ℕ) → complement-lts.Need-enum-known-first
 complement-enum-known-first t c = search needs
 
 complement-sub-left : (t : ℕ) → complement-lts.Need-sub-left (complement-claims t) (complement-at t) complement.Post
-complement-sub-left t c = subst (Decides _ _ _ _ _) (c .before .first .given .1) (c .before .before .before .first-pair .ensures) .some
+complement-sub-left t c = subst (Decides _ _ _ _ _ _) (c .before .first .given .1) (c .before .before .before .first-pair .ensures) .some
 
 complement-opposite-requires : (t : ℕ) → complement-lts.Need-opposite-requires (complement-claims t) (complement-at t) complement.Post
 complement-opposite-requires t c κs = search needs
 
 complement-returns : (t : ℕ) → complement-lts.Need-returns (complement-claims t) (complement-at t) complement.Post
 complement-returns t c =
-    complement-ends _ _ (c .before .before .before .before .before .before .before .before .before .before .pre .1 .0 .within) _ _ _ _ _ _ _
-    (subst (Decides _ _ _ _ _) (c .before .before .first .given .1) (c .before .before .before .before .first-pair .ensures)) (c .opposite .ensures)
+    complement-ends _ _ (c .before .before .before .before .before .before .before .before .before .before .before .pre .1 .0 .within) _ _ _ _ _ _ _ _
+    (subst (Decides _ _ _ _ _ _) (c .before .before .first .given .1) (c .before .before .before .before .first-pair .ensures)) (c .opposite .ensures)
 
 complement-enum-told : (t : ℕ) → complement-lts.Need-enum-told (complement-claims t) (complement-at t) complement.Post
 complement-enum-told t c = search needs
@@ -193,7 +193,7 @@ complement-inside-requires t c κs = search needs
 
 complement-start-level-requires : (t : ℕ) → complement-lts.Need-start-level-requires (complement-claims t) (complement-at t) complement.Post
 complement-start-level-requires t c κs =
-    let entered = c .before .before .before .before .before .before .before .before .before .before .before .before .before in
+    let entered = c .before .before .before .before .before .before .before .before .before .before .before .before .before .before in
     let pre = entered .pre in
     let w = pre .1 .0 .within in
     let d = inside-length (entered .args .pattern .now) (putByIn (entered .args .c)) w in
@@ -207,8 +207,8 @@ complement-opposite-requires-2 t c κs = search needs
 
 complement-returns-2 : (t : ℕ) → complement-lts.Need-returns-2 (complement-claims t) (complement-at t) complement.Post
 complement-returns-2 t c =
-    let pre = c .before .before .before .before .before .before .before .before .before .before .before .before .before .before .before .pre in
-    complement-tests _ _ (pre .1 .0 .within) _ _ _ _ _ _ _ (pre .1 .1 .of-pattern) (c .before .before .inside2 .ensures) (c .before .start-level .ensures)
+    let pre = c .before .before .before .before .before .before .before .before .before .before .before .before .before .before .before .before .pre in
+    complement-tests _ _ (pre .1 .0 .within) _ _ _ _ _ _ _ _ (pre .1 .1 .of-pattern) (c .before .before .inside2 .ensures) (c .before .start-level .ensures)
     (c .opposite2 .ensures)
 
 abbrev complements-claims : ℕ → complements-lts.Claims
@@ -220,18 +220,18 @@ complements-claims t = (
 )
 
 abbrev complements-Inv-loop : complements-lts.InvT-loop
-complements-Inv-loop table pattern «record» parts₀ stack₀ assigned₀ left₀ marks outside end i₀ parts stack assigned left i =
-    Testing table pattern «record» assigned₀ left₀ parts₀ stack₀ marks assigned left parts stack i
+complements-Inv-loop table classes pattern «record» parts₀ stack₀ assigned₀ left₀ marks outside end i₀ parts stack assigned left i =
+    Testing table classes pattern «record» assigned₀ left₀ parts₀ stack₀ marks assigned left parts stack i
 
 abbrev complements-μ-loop : complements-lts.MeasureT-loop
-complements-μ-loop table pattern «record» parts₀ stack₀ assigned₀ left₀ marks outside end i₀ parts stack assigned left i =
+complements-μ-loop table classes pattern «record» parts₀ stack₀ assigned₀ left₀ marks outside end i₀ parts stack assigned left i =
     marks .waiting - i
 
 complements-loop-holds : (t : ℕ) → complements-lts.Need-loop-holds (complements-claims t) (complements-at t) complements.Post complements-Inv-loop complements-μ-loop
-complements-loop-holds t c = test-first _ _ _ _ _ _ _ _
+complements-loop-holds t c = test-first _ _ _ _ _ _ _ _ _
 
 complements-sub-c : (t : ℕ) → complements-lts.Need-sub-c (complements-claims t) (complements-at t) complements.Post complements-Inv-loop complements-μ-loop
-complements-sub-c t c = omega (arith, c .before .before .before .before .before .before .pre .1 .0 .holding .holds .room)
+complements-sub-c t c = omega (arith, c .before .before .before .before .before .before .before .pre .1 .0 .holding .holds .room)
 
 complements-mul-c : (t : ℕ) → complements-lts.Need-mul-c (complements-claims t) (complements-at t) complements.Post complements-Inv-loop complements-μ-loop
 complements-mul-c t c = omega arith
@@ -241,15 +241,15 @@ complements-element-copy-out-c t c = omega arith
 
 complements-complement-requires : (t : ℕ) → complements-lts.Need-complement-requires (complements-claims t) (complements-at t) complements.Post complements-Inv-loop complements-μ-loop
 complements-complement-requires t c κs =
-    let pre = c .before .before .before .before .before .before .before .before .before .before .before .pre in
-    (omega arith, (test-next _ _ _ _ _ _ _ _ (c .before .before .before .before .before .before .loop .inv) (c .before .before .before .before .before .loop-test .taken) (pre .1 .0), pre .1 .1))
+    let pre = c .before .before .before .before .before .before .before .before .before .before .before .before .pre in
+    (omega arith, (test-next _ _ _ _ _ _ _ _ _ (c .before .before .before .before .before .before .loop .inv) (c .before .before .before .before .before .loop-test .taken) (pre .1 .0), pre .1 .1))
 
 complements-is-found-requires : (t : ℕ) → complements-lts.Need-is-found-requires (complements-claims t) (complements-at t) complements.Post complements-Inv-loop complements-μ-loop
 complements-is-found-requires t c κs = search needs
 
 complements-returns : (t : ℕ) → complements-lts.Need-returns (complements-claims t) (complements-at t) complements.Post complements-Inv-loop complements-μ-loop
 complements-returns t c =
-    test-stop _ _ _ _ _ _ _ _ (c .before .before .before .before .before .before .before .before .before .loop .inv)
+    test-stop _ _ _ _ _ _ _ _ _ (c .before .before .before .before .before .before .before .before .before .loop .inv)
     (c .before .before .before .before .before .before .before .before .loop-test .taken) (c .before .before .complement .ensures)
     (sym (c .before .is-found .ensures) ∙ not-true _ (c .if1 .taken))
 
@@ -261,12 +261,12 @@ complements-loop-less t c = omega arith
 
 complements-loop-again : (t : ℕ) → complements-lts.Need-loop-again (complements-claims t) (complements-at t) complements.Post complements-Inv-loop complements-μ-loop
 complements-loop-again t c =
-    test-on _ _ _ _ _ _ _ _ (c .before .before .before .before .before .before .before .before .before .loop .inv)
+    test-on _ _ _ _ _ _ _ _ _ (c .before .before .before .before .before .before .before .before .before .loop .inv)
     (c .before .before .before .before .before .before .before .before .loop-test .taken) (c .before .before .complement .ensures)
     (sym (c .before .is-found .ensures) ∙ not-false _ (c .if1 .left))
 
 complements-returns-2 : (t : ℕ) → complements-lts.Need-returns-2 (complements-claims t) (complements-at t) complements.Post complements-Inv-loop complements-μ-loop
-complements-returns-2 t c = test-end _ _ _ _ _ _ _ _ (c .before .loop .inv) (omega arith)
+complements-returns-2 t c = test-end _ _ _ _ _ _ _ _ _ (c .before .loop .inv) (omega arith)
 
 abbrev follow-claims : ℕ → follow-lts.Claims
 follow-claims t = (
@@ -287,8 +287,8 @@ follow-enum-told-3 t c = search needs
 
 follow-complements-requires : (t : ℕ) → follow-lts.Need-complements-requires (follow-claims t) (follow-at t) follow.Post
 follow-complements-requires t c κs =
-    let pre = c .before .before .before .before .before .before .before .before .before .pre in
-    (omega (arith, pre .0), (record { place = c .before .before .before .before .before .before .before .before .before .args .place; holding = pre .1 .0 }, pre .1 .3))
+    let pre = c .before .before .before .before .before .before .before .before .before .before .pre in
+    (omega (arith, pre .0), (record { place = c .before .before .before .before .before .before .before .before .before .before .args .place; holding = pre .1 .0 }, pre .1 .3))
 
 follow-enum-known-stop : (t : ℕ) → follow-lts.Need-enum-known-stop (follow-claims t) (follow-at t) follow.Post
 follow-enum-known-stop t c = search needs
@@ -296,18 +296,18 @@ follow-enum-known-stop t c = search needs
 follow-lengths-requires : (t : ℕ) → follow-lts.Need-lengths-requires (follow-claims t) (follow-at t) follow.Post
 follow-lengths-requires t c κs =
     let is-run = c .before .before .before .before .before .stop .given .1 in
-    let pre = c .before .before .before .before .before .before .before .before .before .before .pre in
+    let pre = c .before .before .before .before .before .before .before .before .before .before .before .pre in
     (omega (arith, pre .0), (pre .1 .0, subst (StopsAt _ _) is-run (pre .1 .1), subst (Unassigned _) is-run (pre .1 .2), pre .1 .3))
 
 follow-returns : (t : ℕ) → follow-lts.Need-returns (follow-claims t) (follow-at t) follow.Post
-follow-returns t c = follow-fails _ _ _ _ _ _ _ _ _ _ (c .enum-told .given .1)
+follow-returns t c = follow-fails _ _ _ _ _ _ _ _ _ _ _ (c .enum-told .given .1)
 
 follow-returns-2 : (t : ℕ) → follow-lts.Need-returns-2 (follow-claims t) (follow-at t) follow.Post
-follow-returns-2 t c = follow-spent _ _ _ _ _ _ _ _ _ _ (c .enum-told2 .given .1)
+follow-returns-2 t c = follow-spent _ _ _ _ _ _ _ _ _ _ _ (c .enum-told2 .given .1)
 
 follow-returns-3 : (t : ℕ) → follow-lts.Need-returns-3 (follow-claims t) (follow-at t) follow.Post
 follow-returns-3 t c =
-    follow-tests _ _ _ _ _ _ _ _ _ _ (c .before .before .before .before .before .enum-told3 .given .1) (c .complements .ensures)
+    follow-tests _ _ _ _ _ _ _ _ _ _ _ (c .before .before .before .before .before .enum-told3 .given .1) (c .complements .ensures)
 
 follow-returns-4 : (t : ℕ) → follow-lts.Need-returns-4 (follow-claims t) (follow-at t) follow.Post
 follow-returns-4 t c = rw (c .before .before .before .before .before .before .stop .given .1) (c .lengths .ensures)
@@ -331,14 +331,14 @@ lengths-claims t = (
 )
 
 lengths-returns : (t : ℕ) → lengths-lts.Need-returns (lengths-claims t) (lengths-at t) lengths.Post
-lengths-returns t c = follow-none _ _ _ _ _ _ _ _ _ _ (c .if1 .taken)
+lengths-returns t c = follow-none _ _ _ _ _ _ _ _ _ _ _ (c .if1 .taken)
 
 lengths-sub-left : (t : ℕ) → lengths-lts.Need-sub-left (lengths-claims t) (lengths-at t) lengths.Post
 lengths-sub-left t c = omega arith
 
 lengths-passed-requires : (t : ℕ) → lengths-lts.Need-passed-requires (lengths-claims t) (lengths-at t) lengths.Post
 lengths-passed-requires t c κs =
-    let pre = c .before .before .before .before .before .pre .1 in
+    let pre = c .before .before .before .before .before .before .pre .1 in
     (pre .1 .children, omega arith, omega (arith, pre .1 .at, pre .3 .of-pattern), omega (arith, pre .0 .holds .node, pre .3 .of-record))
 
 lengths-wide-requires : (t : ℕ) → lengths-lts.Need-wide-requires (lengths-claims t) (lengths-at t) lengths.Post
@@ -359,7 +359,7 @@ lengths-next-requires t c κs = search needs
 lengths-level-requires : (t : ℕ) → lengths-lts.Need-level-requires (lengths-claims t) (lengths-at t) lengths.Post
 lengths-level-requires t c κs =
     let passed = c .before .before .before .before .before .before .before .before .before in
-    let pre = passed .before .before .before .before .before .before .pre in
+    let pre = passed .before .before .before .before .before .before .before .pre in
     rw (
       c .next .ensures,
       c .before .remaining .ensures,
@@ -380,8 +380,8 @@ lengths-level-requires t c κs =
 lengths-returns-2 : (t : ℕ) → lengths-lts.Need-returns-2 (lengths-claims t) (lengths-at t) lengths.Post
 lengths-returns-2 t c =
     let passed = c .before .before .before .before .before .before .before .before .before .before in
-    follow-tries _ _ _ _ _ _ _ _ _ _ _ _ (c .before .before .before .before .before .wide .ensures) (passed .passed .ensures) (passed .before .if1 .left)
-    (passed .before .before .before .before .before .before .pre .1 .1 .at)
+    follow-tries _ _ _ _ _ _ _ _ _ _ _ _ _ (c .before .before .before .before .before .wide .ensures) (passed .passed .ensures) (passed .before .if1 .left)
+    (passed .before .before .before .before .before .before .before .pre .1 .1 .at)
     (level-from (rw (c .before .before .before .queue .ensures, c .before .before .before .before .nodes .ensures)) (rw (c .before .next .ensures, c .before .before .remaining .ensures))
     (c .level .ensures))
 
@@ -406,35 +406,35 @@ level-claims t = (
 )
 
 abbrev level-Inv-loop : level-lts.InvT-loop
-level-Inv-loop table pattern «record» parts₀ stack₀ assigned₀ left₀ v most marks seen node place₀ n₀ parts stack assigned left place n =
-    Trying table pattern «record» assigned₀ left₀ parts₀ stack₀ v most marks place₀ left parts stack place n
+level-Inv-loop table classes pattern «record» parts₀ stack₀ assigned₀ left₀ v most marks seen node place₀ n₀ parts stack assigned left place n =
+    Trying table classes pattern «record» assigned₀ left₀ parts₀ stack₀ v most marks place₀ left parts stack place n
 
 abbrev level-μ-loop : level-lts.MeasureT-loop
-level-μ-loop table pattern «record» parts₀ stack₀ assigned₀ left₀ v most marks seen node place₀ n₀ parts stack assigned left place n =
+level-μ-loop table classes pattern «record» parts₀ stack₀ assigned₀ left₀ v most marks seen node place₀ n₀ parts stack assigned left place n =
     most - n
 
 -- the variable's part is written
 level-written : (t : ℕ) (c : level-lts.After-packed (level-claims t) (level-at t) level.Post level-Inv-loop level-μ-loop)
-    → Written _ _ _ _ _ _ _ _ _ _ _ (c .before .before .before .loop .inv) (c .packed .result) (c .before .before .before .before .also .result)
+    → Written _ _ _ _ _ _ _ _ _ _ _ _ (c .before .before .before .loop .inv) (c .packed .result) (c .before .before .before .before .also .result)
 level-written t c = record {
-  holding = rw (c .before .before .before .before .before .before .of2 .ensures, c .before .before .before .before .before .before .before .of .ensures) (c .before .before .before .before .before .before .before .before .before .before .before .pre .1 .0);
-  free = c .before .before .before .before .before .before .before .before .before .before .before .pre .1 .1;
-  short = c .before .before .before .before .before .before .before .before .before .before .before .pre .1 .3 .of-record;
-  byte = omega (arith, c .before .before .before .loop .inv .few, c .before .before .before .before .before .before .before .before .before .before .before .fits .most);
+  holding = rw (c .before .before .before .before .before .before .of2 .ensures, c .before .before .before .before .before .before .before .of .ensures) (c .before .before .before .before .before .before .before .before .before .before .before .before .pre .1 .0);
+  free = c .before .before .before .before .before .before .before .before .before .before .before .before .pre .1 .1;
+  short = c .before .before .before .before .before .before .before .before .before .before .before .before .pre .1 .3 .of-record;
+  byte = omega (arith, c .before .before .before .loop .inv .few, c .before .before .before .before .before .before .before .before .before .before .before .before .fits .most);
   is-part = c .packed .ensures ∙ ap packed (c .before .bound .ensures);
   is-seen = c .before .before .before .before .also .ensures;
 }
 
 -- one element more stays within the record
 level-grows : (t : ℕ) (c : level-lts.After-extent (level-claims t) (level-at t) level.Post level-Inv-loop level-μ-loop)
-    → c .before .before .before .before .before .before .before .before .before .before .before .before .before .before .before .loop .place .node + c .extent .result ≤ length (c .before .before .before .before .before .before .before .before .before .before .before .before .before .before .before .before .before .before .before .before .before .before .before .args .«record» .now)
+    → c .before .before .before .before .before .before .before .before .before .before .before .before .before .before .before .loop .place .node + c .extent .result ≤ length (c .before .before .before .before .before .before .before .before .before .before .before .before .before .before .before .before .before .before .before .before .before .before .before .before .args .«record» .now)
 level-grows t c =
     let loop = c .before .before .before .before .before .before .before .before .before .before .before .before .before .before .before .loop in
     omega (
       arith,
       loop .inv .within,
       c .extent .ensures .1,
-      rest-length (loop .place .node) (c .before .before .before .before .before .before .before .before .before .before .before .before .before .before .before .before .before .before .before .before .before .before .before .args .«record» .now),
+      rest-length (loop .place .node) (c .before .before .before .before .before .before .before .before .before .before .before .before .before .before .before .before .before .before .before .before .before .before .before .before .args .«record» .now),
     )
 
 level-of-requires : (t : ℕ) → level-lts.Need-of-requires (level-claims t) (level-at t) level.Post level-Inv-loop level-μ-loop
@@ -444,11 +444,11 @@ level-of-requires-2 : (t : ℕ) → level-lts.Need-of-requires-2 (level-claims t
 level-of-requires-2 t c κs = search needs
 
 level-also-requires : (t : ℕ) → level-lts.Need-also-requires (level-claims t) (level-at t) level.Post level-Inv-loop level-μ-loop
-level-also-requires t c κs = c .before .before .before .before .before .before .pre .1 .1 .below
+level-also-requires t c κs = c .before .before .before .before .before .before .before .pre .1 .1 .below
 
 level-loop-holds : (t : ℕ) → level-lts.Need-loop-holds (level-claims t) (level-at t) level.Post level-Inv-loop level-μ-loop
 level-loop-holds t c =
-    try-first _ _ _ _ _ _ _ _ _ _ (c .before .before .of2 .result) (rw (c .before .before .of2 .ensures) (c .before .before .before .before .before .before .before .pre .1 .0 .holds .node))
+    try-first _ _ _ _ _ _ _ _ _ _ _ (c .before .before .of2 .result) (rw (c .before .before .of2 .ensures) (c .before .before .before .before .before .before .before .before .pre .1 .0 .holds .node))
 
 level-sub-bound : (t : ℕ) → level-lts.Need-sub-bound (level-claims t) (level-at t) level.Post level-Inv-loop level-μ-loop
 level-sub-bound t c = c .before .loop .inv .further
@@ -460,17 +460,17 @@ level-packed-requires : (t : ℕ) → level-lts.Need-packed-requires (level-clai
 level-packed-requires t c κs = search needs
 
 level-mul-parts : (t : ℕ) → level-lts.Need-mul-parts (level-claims t) (level-at t) level.Post level-Inv-loop level-μ-loop
-level-mul-parts t c = omega (arith, c .before .before .before .before .before .before .before .before .before .before .before .pre .1 .1 .below)
+level-mul-parts t c = omega (arith, c .before .before .before .before .before .before .before .before .before .before .before .before .pre .1 .1 .below)
 
 level-element-write-parts : (t : ℕ) → level-lts.Need-element-write-parts (level-claims t) (level-at t) level.Post level-Inv-loop level-μ-loop
-level-element-write-parts t c = omega (arith, c .before .before .before .before .before .before .before .before .before .before .before .pre .1 .1 .below)
+level-element-write-parts t c = omega (arith, c .before .before .before .before .before .before .before .before .before .before .before .before .pre .1 .1 .below)
 
 level-rest-requires : (t : ℕ) → level-lts.Need-rest-requires (level-claims t) (level-at t) level.Post level-Inv-loop level-μ-loop
 level-rest-requires t c κs =
-    let pre = c .before .before .before .before .before .before .before .before .before .before .before .before .before .before .before .pre in
+    let pre = c .before .before .before .before .before .before .before .before .before .before .before .before .before .before .before .before .pre in
     let inv = c .before .before .before .before .before .before .before .loop .inv in
     let at = ap (λ (x : Place). x .at) (c .before .before .before .before .before .before .before .before .before .before .of2 .ensures) in
-    (omega (arith, pre .0, inv .at, at), (written-holding _ _ _ _ _ _ _ _ _ _ _ inv (level-written t (c .before .before .before .before)), pre .1 .3))
+    (omega (arith, pre .0, inv .at, at), (written-holding _ _ _ _ _ _ _ _ _ _ _ _ inv (level-written t (c .before .before .before .before)), pre .1 .3))
 
 level-is-failed-requires : (t : ℕ) → level-lts.Need-is-failed-requires (level-claims t) (level-at t) level.Post level-Inv-loop level-μ-loop
 level-is-failed-requires t c κs = search needs
@@ -494,19 +494,19 @@ level-extent-requires t c κs = search needs
 
 level-add-place : (t : ℕ) → level-lts.Need-add-place (level-claims t) (level-at t) level.Post level-Inv-loop level-μ-loop
 level-add-place t c =
-    let pre = c .before .before .before .before .before .before .before .before .before .before .before .before .before .before .before .before .before .before .before .before .before .before .before .pre in
+    let pre = c .before .before .before .before .before .before .before .before .before .before .before .before .before .before .before .before .before .before .before .before .before .before .before .before .pre in
     omega (arith, level-grows t c, pre .1 .3 .of-record)
 
 level-sub-place : (t : ℕ) → level-lts.Need-sub-place (level-claims t) (level-at t) level.Post level-Inv-loop level-μ-loop
 level-sub-place t c =
-    let pre = c .before .before .before .before .before .before .before .before .before .before .before .before .before .before .before .before .before .before .before .before .before .before .before .before .pre in
+    let pre = c .before .before .before .before .before .before .before .before .before .before .before .before .before .before .before .before .before .before .before .before .before .before .before .before .before .pre in
     let inv = c .before .before .before .before .before .before .before .before .before .before .before .before .before .before .before .before .loop .inv in
     let elements = ap (λ (x : Place). x .elements) (c .before .before .before .before .before .before .before .before .before .before .before .before .before .before .before .before .before .before .before .of2 .ensures) in
     omega (arith, inv .elements, c .before .before .before .before .before .if2 .left, pre .1 .2, elements)
 
 level-add-n : (t : ℕ) → level-lts.Need-add-n (level-claims t) (level-at t) level.Post level-Inv-loop level-μ-loop
 level-add-n t c =
-    let fits = c .before .before .before .before .before .before .before .before .before .before .before .before .before .before .before .before .before .before .before .before .before .before .before .before .fits in
+    let fits = c .before .before .before .before .before .before .before .before .before .before .before .before .before .before .before .before .before .before .before .before .before .before .before .before .before .fits in
     omega (arith, c .before .before .before .before .before .if2 .left, fits .most)
 
 level-loop-less : (t : ℕ) → level-lts.Need-loop-less (level-claims t) (level-at t) level.Post level-Inv-loop level-μ-loop
@@ -514,7 +514,7 @@ level-loop-less t c = omega (arith, c .before .before .before .before .before .i
 
 level-loop-again : (t : ℕ) → level-lts.Need-loop-again (level-claims t) (level-at t) level.Post level-Inv-loop level-μ-loop
 level-loop-again t c =
-    try-more _ _ _ _ _ _ _ _ _ _ _
+    try-more _ _ _ _ _ _ _ _ _ _ _ _
     (c .before .before .before .before .before .before .before .before .before .before .before .before .before .before .before .before .loop .inv)
     (level-written t (c .before .before .before .before .before .before .before .before .before .before .before .before .before))
     (c .before .before .before .before .before .before .before .before .rest .ensures)
@@ -525,7 +525,7 @@ level-returns : (t : ℕ) → level-lts.Need-returns (level-claims t) (level-at 
 level-returns t c =
     level-from (c .before .before .before .before .before .before .before .before .before .before .before .before .before .before .of .ensures)
     (c .before .before .before .before .before .before .before .before .before .before .before .before .before .of2 .ensures)
-    (try-hit _ _ _ _ _ _ _ _ _ _ _ (c .before .before .before .before .before .before .before .before .before .before .loop .inv)
+    (try-hit _ _ _ _ _ _ _ _ _ _ _ _ (c .before .before .before .before .before .before .before .before .before .before .loop .inv)
     (level-written t (c .before .before .before .before .before .before .before)) (c .before .before .rest .ensures)
     (sym (c .before .is-failed .ensures) ∙ not-true _ (c .if1 .taken)))
 
@@ -533,7 +533,7 @@ level-returns-2 : (t : ℕ) → level-lts.Need-returns-2 (level-claims t) (level
 level-returns-2 t c =
     level-from (c .before .before .before .before .before .before .before .before .before .before .before .before .before .before .before .of .ensures)
     (c .before .before .before .before .before .before .before .before .before .before .before .before .before .before .of2 .ensures)
-    (try-last _ _ _ _ _ _ _ _ _ _ _ (c .before .before .before .before .before .before .before .before .before .before .before .loop .inv)
+    (try-last _ _ _ _ _ _ _ _ _ _ _ _ (c .before .before .before .before .before .before .before .before .before .before .before .loop .inv)
     (level-written t (c .before .before .before .before .before .before .before .before)) (c .before .before .before .rest .ensures)
     (c .if2 .taken))
 
@@ -541,7 +541,7 @@ level-returns-3 : (t : ℕ) → level-lts.Need-returns-3 (level-claims t) (level
 level-returns-3 t c =
     level-from (c .before .before .before .before .before .before .before .before .before .before .before .before .before .before .before .before .before .of .ensures)
     (c .before .before .before .before .before .before .before .before .before .before .before .before .before .before .before .before .of2 .ensures)
-    (try-spent _ _ _ _ _ _ _ _ _ _ _
+    (try-spent _ _ _ _ _ _ _ _ _ _ _ _
     (c .before .before .before .before .before .before .before .before .before .before .before .before .before .loop .inv)
     (level-written t (c .before .before .before .before .before .before .before .before .before .before))
     (c .before .before .before .before .before .rest .ensures)
@@ -558,26 +558,26 @@ rest-claims t = (
 )
 
 rest-walk-requires : (t : ℕ) → rest-lts.Need-walk-requires (rest-claims t) (rest-at t) rest.Post
-rest-walk-requires t c κs = c .before .before .before .before .before .before .before .pre .1
+rest-walk-requires t c κs = c .before .before .before .before .before .before .before .before .pre .1
 
 rest-is-failure-requires : (t : ℕ) → rest-lts.Need-is-failure-requires (rest-claims t) (rest-at t) rest.Post
 rest-is-failure-requires t c κs = search needs
 
 rest-returns : (t : ℕ) → rest-lts.Need-returns (rest-claims t) (rest-at t) rest.Post
 rest-returns t c =
-    rest-fails (c .before .before .before .before .before .before .before .before .before .before .before .before .pre .1 .0)
+    rest-fails (c .before .before .before .before .before .before .before .before .before .before .before .before .before .pre .1 .0)
     (c .before .before .before .before .walk .ensures) (sym (c .before .is-failure .ensures) ∙ c .if1 .taken)
 
 rest-follow-requires : (t : ℕ) → rest-lts.Need-follow-requires (rest-claims t) (rest-at t) rest.Post
 rest-follow-requires t c κs =
-    let pre = c .before .before .before .before .before .before .before .before .before .before .before .before .before .before .before .before .pre in
+    let pre = c .before .before .before .before .before .before .before .before .before .before .before .before .before .before .before .before .before .pre in
     let w = c .before .before .before .before .before .before .before .before .walk .ensures (pre .1 .0 .state) (pre .1 .0 .holds) in
     (omega (arith, pre .0, w .further), (record { state = w .end; holds = w .holds }, w .stops, w .unassigned, pre .1 .1))
 
 rest-returns-2 : (t : ℕ) → rest-lts.Need-returns-2 (rest-claims t) (rest-at t) rest.Post
 rest-returns-2 t c =
     rest-follows
-    (c .before .before .before .before .before .before .before .before .before .before .before .before .before .before .before .before .before .pre .1 .0)
+    (c .before .before .before .before .before .before .before .before .before .before .before .before .before .before .before .before .before .before .pre .1 .0)
     (c .before .before .before .before .before .before .before .before .before .walk .ensures) (c .follow .ensures)
 
 abbrev start-level-claims : ℕ → start-level-lts.Claims
@@ -614,7 +614,7 @@ start-level-next-requires t c κs = search needs
 start-level-level-requires : (t : ℕ) → start-level-lts.Need-level-requires (start-level-claims t) (start-level-at t) start-level.Post
 start-level-level-requires t c κs =
     let started = c .before .before .before .before .before .before .before .before in
-    let pre = started .before .before .before .before .pre in
+    let pre = started .before .before .before .before .before .pre in
     rw (
       c .next .ensures,
       c .before .remaining .ensures,

@@ -2,6 +2,7 @@
 use Prim.Native.Nat.{_-_}
 use native.Mathlib.Omega.{arith}
 use lib.ListN.{length-set}
+use Rattle.term.specs.Code.{variables}
 use Rattle.search.proofs.Shown.{Clearing, clear-first, clear-next, clear-end}
 use Rattle.search.proofs.clear.Statement.{statement}
 use Rattle.search.proofs.clear.Tie as tie
@@ -10,7 +11,7 @@ abbrev Inv-loop : tie.InvT-loop
 Inv-loop answer₀ v₀ answer v = Clearing answer₀ answer v
 
 abbrev μ-loop : tie.MeasureT-loop
-μ-loop answer₀ v₀ answer v = 48 - v
+μ-loop answer₀ v₀ answer v = variables - v
 
 loop-holds : tie.Need-loop-holds Inv-loop μ-loop
 loop-holds c = clear-first _

@@ -1,6 +1,8 @@
 -- `search::first_pair` meets its contract. Assumes nothing.
 use native.Mathlib.Omega.{arith}
+use mathlib.Core.Path.{sym, _∙_}
 use borrow.Author.Needs.{needs}
+use borrow.Author.Tests.{not-true, not-false}
 use Rattle.search.proofs.FirstPairs.{symbol-differs, symbol-agrees}
 use Rattle.search.proofs.first_pair.Statement.{statement}
 use Rattle.search.proofs.first_pair.Tie as tie
@@ -26,23 +28,26 @@ enum-known-code c = search needs
 returns-4 : tie.Need-returns-4
 returns-4 c = search needs
 
-shared-slice-read-if4 : tie.Need-shared-slice-read-if4
-shared-slice-read-if4 c = search needs
+shared-slice-read-same-symbol : tie.Need-shared-slice-read-same-symbol
+shared-slice-read-same-symbol c = search needs
+
+same-symbol-requires : tie.Need-same-symbol-requires
+same-symbol-requires c κs = search needs
 
 returns-5 : tie.Need-returns-5
 returns-5 c =
-    symbol-differs _ _ _ _ _ _ (c .before .before .before .before .before .before .before .before .before .if1 .left)
-    (omega arith) (omega arith) _ (c .before .before .before .before .before .decode .ensures)
-    (c .before .before .before .code .given .1) (c .if4 .taken)
+    symbol-differs _ _ _ _ _ _ _ (c .before .before .before .before .before .before .before .before .before .before .if1 .left)
+    (omega arith) (omega arith) _ (c .before .before .before .before .before .before .decode .ensures)
+    (c .before .before .before .before .code .given .1) (sym (c .before .same-symbol .ensures) ∙ not-true _ (c .if4 .taken))
 
 entry-of-requires : tie.Need-entry-of-requires
 entry-of-requires c κs = search needs
 
 returns-6 : tie.Need-returns-6
 returns-6 c =
-    symbol-agrees _ _ _ _ _ _ (c .before .before .before .before .before .before .before .before .before .before .before .if1 .left)
-    (omega arith) (omega arith) _ (c .before .before .before .before .before .before .before .decode .ensures)
-    (c .before .before .before .before .before .code .given .1) (c .before .before .if4 .left) _ (c .before .entry-of .ensures) (c .if5 .taken)
+    symbol-agrees _ _ _ _ _ _ _ (c .before .before .before .before .before .before .before .before .before .before .before .before .if1 .left)
+    (omega arith) (omega arith) _ (c .before .before .before .before .before .before .before .before .decode .ensures)
+    (c .before .before .before .before .before .before .code .given .1) (sym (c .before .before .before .same-symbol .ensures) ∙ not-false _ (c .before .before .if4 .left)) _ (c .before .entry-of .ensures) (c .if5 .taken)
 
 returns-7 : tie.Need-returns-7
 returns-7 c = search needs
@@ -58,7 +63,8 @@ first-pair-spec =
     decode-requires
     enum-known-code
     returns-4
-    shared-slice-read-if4
+    shared-slice-read-same-symbol
+    same-symbol-requires
     returns-5
     entry-of-requires
     returns-6

@@ -17,7 +17,7 @@ enum-known-code-2 c = search needs
 
 part-of-requires : tie.Need-part-of-requires
 unfolding VariableBelow
-part-of-requires c κs = subst VariableBelow (c .before .code2 .given .1) (c .before .before .before .before .before .before .before .pre .0)
+part-of-requires c κs = subst VariableBelow (c .before .code2 .given .1) (c .before .before .before .before .before .before .before .before .pre .0)
 
 name-requires : tie.Need-name-requires
 name-requires c κs = search needs

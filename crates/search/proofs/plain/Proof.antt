@@ -38,12 +38,12 @@ part-pair-end-2 : tie.Need-part-pair-end-2
 part-pair-end-2 c = search needs
 
 pair-requires : tie.Need-pair-requires
-pair-requires c κs = let r = rest-length (c .before .before .before .before .before .before .before .before .before .args .place .node)
-    (c .before .before .before .before .before .before .before .before .before .args .«record» .now) in
-    (c .before .before .before .before .before .before .before .before .before .pre .0, omega arith)
+pair-requires c κs = let r = rest-length (c .before .before .before .before .before .before .before .before .before .before .args .place .node)
+    (c .before .before .before .before .before .before .before .before .before .before .args .«record» .now) in
+    (c .before .before .before .before .before .before .before .before .before .before .pre .0, omega arith)
 
 returns-4 : tie.Need-returns-4
-returns-4 c = plain-pair _ _ _ _ _ _ (c .before .before .before .before .before .before .before .before .before .before .args .place) _ _
+returns-4 c = plain-pair _ _ _ _ _ _ _ (c .before .before .before .before .before .before .before .before .before .before .before .args .place) _ _
     (c .before .before .before .before .before .if1 .left) (omega arith) (c .before .before .before .if3 .left) (c .pair .ensures)
 
 pub plain-spec : {M : Type 1} → statement M

@@ -24,7 +24,7 @@ unfolding runStep
 returns-3 c = rw (
   ← c .before .before .before .is-absent .ensures,
   c .before .before .if1 .left,
-  ne-eqb (c .before .before .before .before .before .before .args .left) 0 (c .before .if2 .left),
+  ne-eqb (c .before .before .before .before .before .before .before .before .args .left) 0 (c .before .if2 .left),
 ) (c .assigned-step .ensures)
 
 pub run-name-spec : {M : Type 1} → statement M

@@ -14,7 +14,7 @@ cast-n c = search needs
 
 returns : tie.Need-returns
 unfolding standsOf
-returns c = simp (lt-leb (c .before .before .before .before .args .part .length) (length (c .before .before .before .before .args .r .now))
+returns c = simp (lt-leb (c .before .before .before .before .before .before .args .part .length) (length (c .before .before .before .before .before .before .args .r .now))
     (c .if1 .taken))
 
 bytes-of-requires : tie.Need-bytes-of-requires
@@ -28,7 +28,7 @@ same-requires c κs = search needs
 
 returns-2 : tie.Need-returns-2
 unfolding standsOf
-returns-2 c = let args = c .before .before .before .before .before .before .before .args in
+returns-2 c = let args = c .before .before .before .before .before .before .before .before .before .args in
     rw (le-leb (args .part .length) (length (args .r .now)) (c .before .before .before .if1 .left), ← c .before .before .bytes-of .ensures)
     (c .same .ensures)
 

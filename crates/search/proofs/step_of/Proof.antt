@@ -15,7 +15,7 @@ use Rattle.term.specs.Code.{VariableBelow}
 use Rattle.term.specs.declared.Code.the-variants.{Symbol, Name, Run, Complement}
 use Rattle.term.specs.declared.Code.{Code}
 use Rattle.term.specs.declared.Part.{Part}
-use Rattle.search.specs.Memory.{partIn}
+use Rattle.search.specs.Inner.Memory.{partIn}
 use Rattle.search.specs.State.{variableOf, stepOf, codeStep, plainStep}
 use Rattle.search.specs.declared.Place.{Place}
 use Rattle.search.specs.declared.Step.{Step}
@@ -24,15 +24,15 @@ use Rattle.search.proofs.step_of.Statement.{statement}
 use Rattle.search.proofs.step_of.Tie as tie
 
 -- the codes of the arm for plain child patterns
-plain-code : (outermost : Bool) (code : Code) (table pattern bytes : List ℕ) (had : Part) (p : Place) (left : ℕ) (x : Step)
-    → OneOf (0 ∷ 1 ∷ 3 ∷ []) (Declared.tagOf codes.the-type code) → x ≡ plainStep outermost code table pattern bytes had p left
-    → x ≡ codeStep outermost code table pattern bytes had p left
+plain-code : (outermost : Bool) (code : Code) (table classes pattern bytes : List ℕ) (had : Part) (p : Place) (left : ℕ) (x : Step)
+    → OneOf (0 ∷ 1 ∷ 3 ∷ []) (Declared.tagOf codes.the-type code) → x ≡ plainStep outermost code table classes pattern bytes had p left
+    → x ≡ codeStep outermost code table classes pattern bytes had p left
 unfolding codeStep
-plain-code outermost (Symbol b) table pattern bytes had p left x k e = e
-plain-code outermost (Name v) table pattern bytes had p left x k e = e
-plain-code outermost (Run v) table pattern bytes had p left x k e = absurd (miss (0 ∷ 1 ∷ 3 ∷ []) 2 tt k)
-plain-code outermost Complement table pattern bytes had p left x k e = e
-plain-code outermost Code.Refused table pattern bytes had p left x k e = absurd (miss (0 ∷ 1 ∷ 3 ∷ []) 4 tt k)
+plain-code outermost (Symbol b) table classes pattern bytes had p left x k e = e
+plain-code outermost (Name v) table classes pattern bytes had p left x k e = e
+plain-code outermost (Run v) table classes pattern bytes had p left x k e = absurd (miss (0 ∷ 1 ∷ 3 ∷ []) 2 tt k)
+plain-code outermost Complement table classes pattern bytes had p left x k e = e
+plain-code outermost Code.Refused table classes pattern bytes had p left x k e = absurd (miss (0 ∷ 1 ∷ 3 ∷ []) 4 tt k)
 
 over-requires : tie.Need-over-requires
 over-requires c κs = search needs
@@ -57,7 +57,7 @@ enum-known-code c = search needs
 part-of-requires : tie.Need-part-of-requires
 unfolding VariableBelow
 part-of-requires c κs =
-    let args = c .before .before .before .before .before .before .before .before .before .before .before .args in
+    let args = c .before .before .before .before .before .before .before .before .before .before .before .before .args in
     subst VariableBelow (sym (c .before .before .before .decode .ensures) ∙ c .before .code .given .1)
     (decode-below (getD (args .pattern .now) (args .place .at) 0))
 
@@ -82,8 +82,8 @@ enum-told c = search needs
 returns-3 : tie.Need-returns-3
 unfolding codeStep
 returns-3 c =
-    let args = c .before .before .before .before .before .before .before .before .before .before .before .before .before .before .args in
-    step-at _ _ _ _ (partIn (args .assigned) (args .parts .now)) _ _ (c .before .before .before .before .before .before .decode .result)
+    let args = c .before .before .before .before .before .before .before .before .before .before .before .before .before .before .before .args in
+    step-at _ _ _ _ _ (partIn (args .assigned) (args .parts .now)) _ _ (c .before .before .before .before .before .before .decode .result)
     (c .run-name .result) (c .before .before .before .before .before .before .before .before .before .if1 .left) (omega arith)
     (c .before .before .before .before .before .before .decode .ensures)
     (rw (
@@ -94,18 +94,18 @@ returns-3 c =
 
 returns-4 : tie.Need-returns-4
 returns-4 c =
-    let args = c .before .before .before .before .before .before .before .before .before .before .args in
-    step-at _ _ _ _ (partIn (args .assigned) (args .parts .now)) _ _ (c .before .before .decode .result) (c .plain .result)
+    let args = c .before .before .before .before .before .before .before .before .before .before .before .args in
+    step-at _ _ _ _ _ (partIn (args .assigned) (args .parts .now)) _ _ (c .before .before .decode .result) (c .plain .result)
     (c .before .before .before .before .before .if1 .left) (omega arith) (c .before .before .decode .ensures)
-    (plain-code _ (c .before .before .decode .result) _ _ _
+    (plain-code _ (c .before .before .decode .result) _ _ _ _
     (partIn (args .assigned) (args .parts .now) (variableOf (c .before .before .decode .result))) _ _ (c .plain .result) (c .before .match .keys2)
     (c .plain .ensures))
 
 returns-5 : tie.Need-returns-5
 unfolding codeStep
 returns-5 c =
-    let args = c .before .before .before .before .before .before .before .before .before .before .args in
-    step-at _ _ _ _ (partIn (args .assigned) (args .parts .now)) _ _ (c .before .before .decode .result) _
+    let args = c .before .before .before .before .before .before .before .before .before .before .before .args in
+    step-at _ _ _ _ _ (partIn (args .assigned) (args .parts .now)) _ _ (c .before .before .decode .result) _
     (c .before .before .before .before .before .if1 .left) (omega arith) (c .before .before .decode .ensures)
     (rw (c .enum-told .given .1))
 

@@ -7,8 +7,8 @@ use mathlib.Core.Path.{_≡_}
 use lib.Dec.{eqb}
 use lib.ListN.{length, getD}
 use borrow.Author.Needs.{needs}
-use Rattle.search.specs.Bounds.{Short}
-use Rattle.search.specs.Memory.{partIn, outer, Holds, Holding}
+use Rattle.search.specs.Inner.Bounds.{Short}
+use Rattle.search.specs.Inner.Memory.{partIn, outer, Holds, Holding}
 use Rattle.search.specs.State.{State, variableAt}
 use Rattle.search.specs.declared.Step.the-variants.{Closes}
 use Rattle.search.specs.declared.Step.{Step}
@@ -29,12 +29,12 @@ use Rattle.search.proofs.walk.Statement.{statement}
 use Rattle.search.proofs.walk.Tie as tie
 
 abbrev Inv-loop : tie.InvT-loop
-Inv-loop table pattern «record» parts₀ stack₀ assigned₀ left₀ marks₀ place₀ parts stack assigned left marks place =
+Inv-loop table classes pattern «record» parts₀ stack₀ assigned₀ left₀ marks₀ place₀ parts stack assigned left marks place =
     (s₀ : State) → Holds (length pattern) (length «record») assigned₀ parts₀ stack₀ marks₀ place₀ s₀
-    → Walking table pattern «record» assigned₀ left₀ parts₀ stack₀ marks₀ place₀ s₀ parts stack place marks assigned left
+    → Walking table classes pattern «record» assigned₀ left₀ parts₀ stack₀ marks₀ place₀ s₀ parts stack place marks assigned left
 
 abbrev μ-loop : tie.MeasureT-loop
-μ-loop table pattern «record» parts₀ stack₀ assigned₀ left₀ marks₀ place₀ parts stack assigned left marks place =
+μ-loop table classes pattern «record» parts₀ stack₀ assigned₀ left₀ marks₀ place₀ parts stack assigned left marks place =
     512 * (length pattern - place .at) + marks .inner
 
 abbrev claims : lts.Claims
@@ -62,56 +62,56 @@ claims = (
 -- once the step is known
 module _ (c : lts.After-step-of claims reads.Pre reads.Post Inv-loop μ-loop) where
   turn : (s₀ : State)
-      → Holds (length (c .before .before .before .before .before .before .args .pattern .now))
-      (length (c .before .before .before .before .before .before .args .«record» .now))
-      (c .before .before .before .before .before .before .args .assigned) (c .before .before .before .before .before .before .args .parts .now)
-      (c .before .before .before .before .before .before .args .stack .now)
-      (c .before .before .before .before .before .before .args .marks) (c .before .before .before .before .before .before .args .place) s₀
-      → Turn (c .before .before .before .before .before .before .args .table .now)
-      (c .before .before .before .before .before .before .args .pattern .now)
-      (c .before .before .before .before .before .before .args .«record» .now) (c .before .before .before .before .before .before .args .assigned)
-      (c .before .before .before .before .before .before .args .left) (c .before .before .before .before .before .before .args .parts .now)
-      (c .before .before .before .before .before .before .args .stack .now) (c .before .before .before .before .before .before .args .marks)
-      (c .before .before .before .before .before .before .args .place) s₀ (c .before .before .loop .parts) (c .before .before .loop .stack)
+      → Holds (length (c .before .before .before .before .before .before .before .args .pattern .now))
+      (length (c .before .before .before .before .before .before .before .args .«record» .now))
+      (c .before .before .before .before .before .before .before .args .assigned) (c .before .before .before .before .before .before .before .args .parts .now)
+      (c .before .before .before .before .before .before .before .args .stack .now)
+      (c .before .before .before .before .before .before .before .args .marks) (c .before .before .before .before .before .before .before .args .place) s₀
+      → Turn (c .before .before .before .before .before .before .before .args .table .now) (c .before .before .before .before .before .before .before .args .classes .now)
+      (c .before .before .before .before .before .before .before .args .pattern .now)
+      (c .before .before .before .before .before .before .before .args .«record» .now) (c .before .before .before .before .before .before .before .args .assigned)
+      (c .before .before .before .before .before .before .before .args .left) (c .before .before .before .before .before .before .before .args .parts .now)
+      (c .before .before .before .before .before .before .before .args .stack .now) (c .before .before .before .before .before .before .before .args .marks)
+      (c .before .before .before .before .before .before .before .args .place) s₀ (c .before .before .loop .parts) (c .before .before .loop .stack)
       (c .before .before .loop .place) (c .before .before .loop .marks) (c .before .before .loop .assigned)
       (c .before .before .loop .left) (c .step-of .result)
   turn s₀ h = record { walking = c .before .before .loop .inv s₀ h; is-step = c .step-of .ensures }
 
-  short : Short (c .before .before .before .before .before .before .args .pattern .now)
-      (c .before .before .before .before .before .before .args .«record» .now)
-  short = c .before .before .before .before .before .before .pre .1
+  short : Short (c .before .before .before .before .before .before .before .args .pattern .now)
+      (c .before .before .before .before .before .before .before .args .«record» .now)
+  short = c .before .before .before .before .before .before .before .pre .1
 
   asks : (y : Step) → c .step-of .result ≡ y
-      → Asks (eqb (c .before .before .loop .marks .inner) 0) (c .before .before .before .before .before .before .args .pattern .now)
-      (c .before .before .before .before .before .before .args .«record» .now)
+      → Asks (eqb (c .before .before .loop .marks .inner) 0) (c .before .before .before .before .before .before .before .args .pattern .now)
+      (c .before .before .before .before .before .before .before .args .«record» .now)
       (partIn (c .before .before .loop .assigned) (c .before .before .loop .parts)
-      (variableAt (c .before .before .before .before .before .before .args .pattern .now) (c .before .before .loop .place .at)))
+      (variableAt (c .before .before .before .before .before .before .before .args .pattern .now) (c .before .before .loop .place .at)))
       (c .before .before .loop .place) (c .before .before .loop .left) y
-  asks = asked _ _ _ _ _ _ _ _ _ _
-      (turn (c .before .before .before .before .before .before .pre .0 .state) (c .before .before .before .before .before .before .pre .0 .holds))
+  asks = asked _ _ _ _ _ _ _ _ _ _ _
+      (turn (c .before .before .before .before .before .before .before .pre .0 .state) (c .before .before .before .before .before .before .before .pre .0 .holds))
 
   inside : c .step-of .result ≡ Closes
       → (0 < c .before .before .loop .marks .inner) ×
       (outer (getD (c .before .before .loop .stack) (c .before .before .loop .marks .inner - 1) 0) < c .before .before .loop .marks .inner)
-  inside = closes-inside _ _ _ _ _ _ _ _ _ _
-      (turn (c .before .before .before .before .before .before .pre .0 .state) (c .before .before .before .before .before .before .pre .0 .holds))
+  inside = closes-inside _ _ _ _ _ _ _ _ _ _ _
+      (turn (c .before .before .before .before .before .before .before .pre .0 .state) (c .before .before .before .before .before .before .before .pre .0 .holds))
 
-  held : Holding (length (c .before .before .before .before .before .before .args .pattern .now))
-      (length (c .before .before .before .before .before .before .args .«record» .now)) (c .before .before .loop .assigned)
+  held : Holding (length (c .before .before .before .before .before .before .before .args .pattern .now))
+      (length (c .before .before .before .before .before .before .before .args .«record» .now)) (c .before .before .loop .assigned)
       (c .before .before .loop .parts) (c .before .before .loop .stack) (c .before .before .loop .marks)
       (c .before .before .loop .place)
   held = record {
     state = _;
-    holds = c .before .before .loop .inv (c .before .before .before .before .before .before .pre .0 .state)
-        (c .before .before .before .before .before .before .pre .0 .holds) .holds;
+    holds = c .before .before .loop .inv (c .before .before .before .before .before .before .before .pre .0 .state)
+        (c .before .before .before .before .before .before .before .pre .0 .holds) .holds;
   }
 
 loop-holds : tie.Need-loop-holds Inv-loop μ-loop
-loop-holds c = λ s₀ h. walk-starts _ _ _ _ _ _ _ _ _ _ (c .before .before .before .pre .1) h
+loop-holds c = λ s₀ h. walk-starts _ _ _ _ _ _ _ _ _ _ _ (c .before .before .before .before .pre .1) h
 
 step-of-requires : tie.Need-step-of-requires Inv-loop μ-loop
-step-of-requires c κs = c .before .loop .inv (c .before .before .before .before .before .pre .0 .state)
-    (c .before .before .before .before .before .pre .0 .holds) .holds .node
+step-of-requires c κs = c .before .loop .inv (c .before .before .before .before .before .before .pre .0 .state)
+    (c .before .before .before .before .before .before .pre .0 .holds) .holds .node
 
 enum-known-step : tie.Need-enum-known-step Inv-loop μ-loop
 enum-known-step c = search needs
@@ -158,7 +158,7 @@ loop-less c =
 loop-again : tie.Need-loop-again Inv-loop μ-loop
 loop-again c =
     rw (c .closed .ensures, c .before .reopened .ensures)
-    (λ s₀ h. walk-closes _ _ _ _ _ _ _ _ _ _ (turn (c .before .before .before .before .before .before) s₀ h)
+    (λ s₀ h. walk-closes _ _ _ _ _ _ _ _ _ _ _ (turn (c .before .before .before .before .before .before) s₀ h)
     (c .before .before .before .before .enum-told2 .given .1))
 
 enum-known-step-2 : tie.Need-enum-known-step-2 Inv-loop μ-loop
@@ -191,7 +191,7 @@ loop-again-2 : tie.Need-loop-again-2 Inv-loop μ-loop
 loop-again-2 c =
     let f = c .before .push-frame .ensures in
     rw (f .marks, f .written, c .entered .ensures)
-    (λ s₀ h. walk-opens _ _ _ _ _ _ _ _ _ _ (turn (c .before .before .before .before .before .before) s₀ h) _ _ _ _ (c .before .before .before .before .step2 .given .1) (f .is, f .link))
+    (λ s₀ h. walk-opens _ _ _ _ _ _ _ _ _ _ _ (turn (c .before .before .before .before .before .before) s₀ h) _ _ _ _ (c .before .before .before .before .step2 .given .1) (f .is, f .link))
 
 enum-known-step-3 : tie.Need-enum-known-step-3 Inv-loop μ-loop
 enum-known-step-3 c = search needs
@@ -215,7 +215,7 @@ loop-less-3 c =
 loop-again-3 : tie.Need-loop-again-3 Inv-loop μ-loop
 loop-again-3 c =
     rw (c .passed .ensures)
-    (λ s₀ h. walk-passes _ _ _ _ _ _ _ _ _ _ (turn (c .before .before .before .before) s₀ h) _ _ (c .before .before .step3 .given .1))
+    (λ s₀ h. walk-passes _ _ _ _ _ _ _ _ _ _ _ (turn (c .before .before .before .before) s₀ h) _ _ (c .before .before .step3 .given .1))
 
 enum-known-step-4 : tie.Need-enum-known-step-4 Inv-loop μ-loop
 enum-known-step-4 c = search needs
@@ -244,7 +244,7 @@ loop-less-4 c =
 loop-again-4 : tie.Need-loop-again-4 Inv-loop μ-loop
 loop-again-4 c =
     rw (c .passed2 .ensures, c .before .bind .ensures .0, c .before .bind .ensures .1)
-    (λ s₀ h. walk-binds _ _ _ _ _ _ _ _ _ _ (turn (c .before .before .before .before .before .before) s₀ h) _ _ (c .before .before .before .before .step4 .given .1) (short (c .before .before .before .before .before .before)))
+    (λ s₀ h. walk-binds _ _ _ _ _ _ _ _ _ _ _ (turn (c .before .before .before .before .before .before) s₀ h) _ _ (c .before .before .before .before .step4 .given .1) (short (c .before .before .before .before .before .before)))
 
 enum-known-step-5 : tie.Need-enum-known-step-5 Inv-loop μ-loop
 enum-known-step-5 c = search needs
@@ -276,7 +276,7 @@ loop-again-5 : tie.Need-loop-again-5 Inv-loop μ-loop
 loop-again-5 c =
     let f = c .before .push-complement .ensures in
     rw (f .marks, f .written, c .passed3 .ensures)
-    (λ s₀ h. walk-puts _ _ _ _ _ _ _ _ _ _ (turn (c .before .before .before .before .before .before) s₀ h) _ _ _ (c .before .before .before .before .step5 .given .1) (f .is))
+    (λ s₀ h. walk-puts _ _ _ _ _ _ _ _ _ _ _ (turn (c .before .before .before .before .before .before) s₀ h) _ _ _ (c .before .before .before .before .step5 .given .1) (f .is))
 
 of-requires : tie.Need-of-requires Inv-loop μ-loop
 of-requires c κs = search needs
@@ -286,8 +286,8 @@ returns c =
     let t = turn (c .before .before) in
     rw (c .of .ensures)
     (⊎-elim
-    (λ w. rw (w .3, w .4) (λ s₀ h. walk-stops _ _ _ _ _ _ _ _ _ _ (t s₀ h) _ (w .1 .given .1)))
-    (λ w. rw (w .2, w .3) (λ s₀ h. walk-fails _ _ _ _ _ _ _ _ _ _ (t s₀ h) (w .1 .given .1)))
+    (λ w. rw (w .3, w .4) (λ s₀ h. walk-stops _ _ _ _ _ _ _ _ _ _ _ (t s₀ h) _ (w .1 .given .1)))
+    (λ w. rw (w .2, w .3) (λ s₀ h. walk-fails _ _ _ _ _ _ _ _ _ _ _ (t s₀ h) (w .1 .given .1)))
     (c .before .match .came))
 
 pub walk-spec : {M : Type 1} → statement M

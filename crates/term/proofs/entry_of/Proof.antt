@@ -1,7 +1,8 @@
 -- `term::entry_of` meets its contract.
-use Rattle.term.specs.Extent.{entryOf}
-use borrow.Author.Tests.{lt-ltb, le-ltb, eq-eqb, ne-eqb}
+use Rattle.term.specs.Extent.{kidsOf, entryOf}
+use borrow.Author.Tests.{lt-ltb, le-ltb}
 use native.Mathlib.Omega.{arith}
+use mathlib.Core.Path.{ap, _∙_}
 use lib.ListN.{length}
 use borrow.Author.Needs.{needs}
 use Rattle.term.proofs.entry_of.Statement.{statement}
@@ -19,18 +20,25 @@ returns c =
     let args = c .before .before .before .before .args in
     rw (c .before .before .wide .ensures, lt-ltb (args .b) (length (args .table .now)) (omega arith))
 
+decode-requires : tie.Need-decode-requires
+decode-requires c κs = search needs
+
+kids-of-requires : tie.Need-kids-of-requires
+kids-of-requires c κs = search needs
+
 returns-2 : tie.Need-returns-2
 unfolding entryOf
 returns-2 c =
-    let args = c .before .before .before .before .args in
-    rw (le-ltb (args .b) (length (args .table .now)) (omega arith), eq-eqb (args .b) 248 (omega arith))
-
-returns-3 : tie.Need-returns-3
-unfolding entryOf
-returns-3 c =
-    let args = c .before .before .before .before .args in
-    rw (le-ltb (args .b) (length (args .table .now)) (omega arith), ne-eqb (args .b) 248 (c .if2 .left))
+    let args = c .before .before .before .before .before .args in
+    rw (le-ltb (args .b) (length (args .table .now)) (omega arith)) (c .kids-of .ensures ∙ ap kidsOf (c .before .decode .ensures))
 
 pub entry-of-spec : {M : Type 1} → statement M
 entry-of-spec =
-    tie.close (tie.spec wide-requires shared-slice-read-result returns returns-2 returns-3)
+    tie.close
+    (tie.spec
+    wide-requires
+    shared-slice-read-result
+    returns
+    decode-requires
+    kids-of-requires
+    returns-2)

@@ -1,4 +1,5 @@
 -- `term::is_shallow` meets its contract. The invariant: some frames with enough nesting left are still to come. The measure is what is left of the bytes.
+use Rattle.term.specs.Limits.{longestRecord}
 use Rattle.term.proofs.Shallow.{Passing, passing-starts, passing-ends, pass-leaf, pass-fixed, pass-list}
 use Prim.Native.Nat.{_+_, _-_, _≤_}
 use native.Mathlib.Omega.{arith}
@@ -9,7 +10,7 @@ use Rattle.term.proofs.is_shallow.Statement.{statement}
 use Rattle.term.proofs.is_shallow.Tie as tie
 
 abbrev Inv-loop : tie.InvT-loop
-Inv-loop table s at₀ end₀ parents₀ at end parents = (length s ≤ 4096) × (at ≤ length s) × Passing table s at end parents
+Inv-loop table s at₀ end₀ parents₀ at end parents = (length s ≤ longestRecord) × (at ≤ length s) × Passing table s at end parents
 
 abbrev μ-loop : tie.MeasureT-loop
 μ-loop table s at₀ end₀ parents₀ at end parents = length s - at

@@ -1,12 +1,11 @@
 -- `term::read_tree` meets its contract. The invariant: the trees of the frames are still to come. The measure is what is left of the bytes.
 use Rattle.term.proofs.Frames.{Reading, reading-starts, node-refuses, node-ends, depth-within, next-tree, next-around, no-more, child-last, place-free, child-first}
-use Rattle.term.specs.Reading.{nodeRefusal}
 use borrow.Author.Needs.{needs}
 use native.Mathlib.Omega.{arith}
 use Prim.Native.Nat.{_-_}
 use lib.ListN.{length}
 use mathlib.Core.Logic.{⊎-elim}
-use mathlib.Core.Path.{refl, sym, ap, _∙_}
+use mathlib.Core.Path.{refl, sym}
 use Rattle.term.proofs.read_tree.Statement.{statement}
 use Rattle.term.proofs.read_tree.Tie as tie
 
@@ -44,7 +43,7 @@ node-refusal-requires : tie.Need-node-refusal-requires Inv-loop μ-loop
 node-refusal-requires c κs = search needs
 
 returns : tie.Need-returns Inv-loop μ-loop
-returns c = c .node-refusal .ensures ∙ ap nodeRefusal (c .before .enum-told .given .1) ∙ sym (node-refuses (c .before .before .before .before .before .loop .inv) (c .before .before .before .node-at .ensures) (c .before .enum-told .given .1))
+returns c = node-refuses (c .before .before .before .before .before .loop .inv) (c .before .before .before .node-at .ensures) (c .before .enum-told .given .1) (c .node-refusal .ensures)
 
 add-at : tie.Need-add-at Inv-loop μ-loop
 add-at c = omega (arith, node-ends (c .before .before .before .before .before .loop .inv) (c .before .before .before .node-at .ensures) (c .before .node .given .1))

@@ -1,4 +1,5 @@
 -- `term::symbol_node` meets its contract.
+use Rattle.term.specs.Table.{list}
 use Rattle.term.specs.Node.{openNode, codeNode}
 use native.Mathlib.Omega.{arith}
 use lib.ListN.{length, getD}
@@ -27,7 +28,7 @@ returns-2 c =
     let args = c .before .before .before .before .before .before .before .args in
     rw (
       lt-ltb (args .b) (length (args .table .now)) (omega (arith, at, c .before .before .before .if1 .left)),
-      eq-eqb (getD (args .table .now) (args .b) 0) 255 (rw at at (c .before .if2 .taken)),
+      eq-eqb (getD (args .table .now) (args .b) 0) list (rw at at (c .before .if2 .taken)),
     )
     (c .list-node .ensures)
 
@@ -41,7 +42,7 @@ returns-3 c =
     let args = c .before .before .before .before .before .before .before .args in
     rw (
       lt-ltb (args .b) (length (args .table .now)) (omega (arith, at, c .before .before .before .if1 .left)),
-      ne-eqb (getD (args .table .now) (args .b) 0) 255 (rw at at (c .before .if2 .left)),
+      ne-eqb (getD (args .table .now) (args .b) 0) list (rw at at (c .before .if2 .left)),
     )
     (rw at at (c .plain-node .ensures))
 

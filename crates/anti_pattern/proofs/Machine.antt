@@ -23,13 +23,13 @@ frame qs ts n = record { patterns = qs; elements = ts; at = n }
 abbrev pub pending : Pattern → Term → ℕ → Pending
 pending q t n = record { inside = q; term = t; at = n }
 
-module _ (table : List ℕ) where
+module _ (table classes : List ℕ) where
   abbrev pub deferred : Pending → Deferred
-  deferred p = λ e. level table (p .inside) (p .term) (p .at) e
+  deferred p = λ e. level table classes (p .inside) (p .term) (p .at) e
 
   abbrev pub resume : List Frame → Next
   resume [] = finish
-  resume (f ∷ fs) = λ e put. searches table (f .patterns) (f .elements) (f .at) e put (resume fs)
+  resume (f ∷ fs) = λ e put. searches table classes (f .patterns) (f .elements) (f .at) e put (resume fs)
 
   unfoldable pub machine : List Frame → Env → List Pending → Result
   machine fs e ds = resume fs e (map deferred ds)

@@ -6,6 +6,8 @@ use mathlib.Core.List.{List, [], _∷_}
 use mathlib.Core.Bool.{Bool, true, false, cond}
 use lib.ListN.{length, getD, set}
 use lib.Dec.{eqb}
+use Rattle.term.specs.Code.{variables}
+use Rattle.term.specs.Limits.{longestPattern}
 use Rattle.term.specs.Part.{part, absent, isAbsent}
 use Rattle.term.specs.declared.Part.{Part}
 use Rattle.search.specs.State.{Frame, PutBy, State, frame, putBy, partAt}
@@ -28,7 +30,15 @@ unpacked x = part (x % 65536) (x / 65536 % 65536) (x / 4294967296 % 256)
 abbrev pub partIn : ℕ → List ℕ → ℕ → Part
 partIn assigned parts v = cond (bit assigned v) (unpacked (getD parts v 0)) absent
 
--- How much of the buffers is in use
+-- The buffers: a part for each variable and one for none; a place in the stack for each byte of the longest pattern
+
+abbrev pub partPlaces : ℕ
+partPlaces = variables + 1
+
+abbrev pub stackPlaces : ℕ
+stackPlaces = longestPattern
+
+-- How much of them is in use
 
 abbrev pub marks : ℕ → ℕ → ℕ → ℕ → Marks
 marks inner frames first waiting = record { inner = inner; frames = frames; first = first; waiting = waiting }
@@ -73,7 +83,10 @@ Linked stack inner [] = inner ≡ 0
 Linked stack inner (f ∷ fs) =
     (0 < inner) × (frameIn (getD stack (inner - 1) 0) ≡ f) × (outer (getD stack (inner - 1) 0) < inner) × Linked stack (outer (getD stack (inner - 1) 0)) fs
 
--- Complements put by, from the back of the stack, the i-th at 255 - i: each is a number
+-- Complements put by, from the back of the stack: each is a number
+
+abbrev pub fromBack : ℕ → ℕ
+fromBack i = stackPlaces - 1 - i
 
 abbrev pub putByIn : ℕ → PutBy
 putByIn x = putBy (x % 256) (x / 256 % 256) (x / 65536)
@@ -86,19 +99,19 @@ putByMarks m = marks (m .inner) (m .frames) (m .first) (m .waiting + 1)
 pub record ComplementPushed (m : Marks) (p : Place) (codes : ℕ) (stack stack′ : List ℕ) (r : Marks) : Type 0 where
   pub number : ℕ
   pub is : putByIn number ≡ putBy (p .at) (codes - 1) (p .node)
-  pub written : stack′ ≡ set stack (255 - m .waiting) number
+  pub written : stack′ ≡ set stack (fromBack (m .waiting)) number
   pub marks : r ≡ putByMarks m
 
 -- those from the one at first up to the end
 abbrev pub Queued : List ℕ → ℕ → ℕ → List PutBy → Type 0
 Queued stack first end [] = first ≡ end
-Queued stack first end (c ∷ cs) = (first < end) × (putByIn (getD stack (255 - first) 0) ≡ c) × Queued stack (suc first) end cs
+Queued stack first end (c ∷ cs) = (first < end) × (putByIn (getD stack (fromBack first) 0) ≡ c) × Queued stack (suc first) end cs
 
 -- the inside of one lies within the pattern, and the stack has room for its search
 pub record Inside (codes bytes at : ℕ) (m : Marks) (c : PutBy) : Type 0 where
   pub within : c .at + 1 + c .size ≤ codes
   pub node : c .node ≤ bytes
-  pub room : m .frames + m .waiting + c .size + (codes - at) ≤ 256
+  pub room : m .frames + m .waiting + c .size + (codes - at) ≤ stackPlaces
 
 abbrev pub Insides : ℕ → ℕ → ℕ → Marks → List PutBy → Type 0
 Insides codes bytes at m [] = Unit {0}
@@ -106,24 +119,24 @@ Insides codes bytes at m (c ∷ cs) = Inside codes bytes at m c × Insides codes
 
 -- the buffers' lengths
 pub record Sized (parts stack : List ℕ) : Type 0 where
-  pub of-parts : length parts ≡ 49
-  pub of-stack : length stack ≡ 256
+  pub of-parts : length parts ≡ partPlaces
+  pub of-stack : length stack ≡ stackPlaces
 
 -- The invariant: the buffers hold the state s of a level, whose pattern has so many bytes, on a record of so many; every byte of the pattern that
 -- is left has room in the stack
 pub record Holds (codes bytes assigned : ℕ) (parts stack : List ℕ) (m : Marks) (p : Place) (s : State) : Type 0 where
   pub sized : Sized parts stack
   pub place : s .place ≡ p
-  pub variables : length (s .parts) ≡ 48
-  pub shown : (v : ℕ) → v < 48 → partAt s v ≡ partIn assigned parts v
-  pub present : (v : ℕ) → v < 48 → bit assigned v ≡ true → isAbsent (partAt s v) ≡ false
+  pub all-variables : length (s .parts) ≡ variables
+  pub shown : (v : ℕ) → v < variables → partAt s v ≡ partIn assigned parts v
+  pub present : (v : ℕ) → v < variables → bit assigned v ≡ true → isAbsent (partAt s v) ≡ false
   pub linked : Linked stack (m .inner) (s .frames)
   pub innermost : m .inner ≤ m .frames
   pub queued : Queued stack (m .first) (m .waiting) (s .waiting)
   pub insides : Insides codes bytes (p .at) m (s .waiting)
   pub at : p .at ≤ codes
   pub node : p .node ≤ bytes
-  pub room : m .frames + m .waiting + (codes - p .at) ≤ 256
+  pub room : m .frames + m .waiting + (codes - p .at) ≤ stackPlaces
 
 pub record Holding (codes bytes assigned : ℕ) (parts stack : List ℕ) (m : Marks) (p : Place) : Type 0 where
   pub state : State
@@ -131,7 +144,7 @@ pub record Holding (codes bytes assigned : ℕ) (parts stack : List ℕ) (m : Ma
 
 -- The frame condition: what a call with these marks leaves alone
 pub record Kept (assigned : ℕ) (m : Marks) (parts stack parts′ stack′ : List ℕ) : Type 0 where
-  pub of-parts : (v : ℕ) → v < 48 → bit assigned v ≡ true → getD parts′ v 0 ≡ getD parts v 0
+  pub of-parts : (v : ℕ) → v < variables → bit assigned v ≡ true → getD parts′ v 0 ≡ getD parts v 0
   pub of-frames : (i : ℕ) → i < m .frames → getD stack′ i 0 ≡ getD stack i 0
-  pub of-waiting : (i : ℕ) → i < m .waiting → getD stack′ (255 - i) 0 ≡ getD stack (255 - i) 0
+  pub of-waiting : (i : ℕ) → i < m .waiting → getD stack′ (fromBack i) 0 ≡ getD stack (fromBack i) 0
   pub sized : Sized parts stack → Sized parts′ stack′

@@ -5,12 +5,13 @@ use mathlib.Core.List.{List, [], _∷_}
 use mathlib.Core.Bool.{Bool, true, false, cond}
 use lib.ListN.{length, drop, set}
 use lib.Dec.{eqb}
+use Rattle.term.specs.Code.{variables}
 use Rattle.term.specs.Extent.{extentOf}
 use Rattle.term.specs.Part.{boundPart}
 use Rattle.term.specs.declared.Part.{Part}
 use Rattle.search.specs.State.{PutBy, State, place, state}
 use Rattle.search.specs.Level.{Reply, reply, failedAt, spentAt, startOf, orElse, insideOf, complementsOf, stopBy, levelOf, levels, endOf}
-use Rattle.search.specs.Memory.{bit, partIn, Holds, Holding, Kept}
+use Rattle.search.specs.Inner.Memory.{bit, partIn, Holds, Holding, Kept}
 use Rattle.search.specs.declared.Place.{Place}
 use Rattle.search.specs.declared.Marks.{Marks}
 use Rattle.search.specs.declared.Stop.{Stop}
@@ -43,7 +44,7 @@ partsIn assigned parts v (suc k) = partIn assigned parts v ∷ partsIn assigned 
 
 -- the reply that outcome, allowance, mask and parts stand for
 abbrev pub replyOf : Outcome → ℕ → ℕ → List ℕ → Reply
-replyOf Found left assigned parts = reply Found left (partsIn assigned parts 0 48)
+replyOf Found left assigned parts = reply Found left (partsIn assigned parts 0 variables)
 replyOf Failed left assigned parts = failedAt left
 replyOf Spent left assigned parts = spentAt left
 
@@ -65,10 +66,10 @@ triesOf lv table bytes v s (suc k) n size left =
 
 -- What is asked for
 
--- a variable that is not assigned, or 48 for none
+-- a variable that is not assigned, or the number after the last for none
 pub record Free (assigned v : ℕ) : Type 0 where
-  pub below : v ≤ 48
-  pub free : v < 48 → bit assigned v ≡ false
+  pub below : v ≤ variables
+  pub free : v < variables → bit assigned v ≡ false
 
 -- the buffers hold a state at some place
 pub record Resting (codes bytes assigned : ℕ) (parts stack : List ℕ) (m : Marks) : Type 0 where
@@ -87,47 +88,47 @@ pub record Testable (codes bytes assigned : ℕ) (parts stack : List ℕ) (m : M
 -- The first pair
 
 -- the search of the level from a node counts its first pair and no other
-pub record EndsAtOnce (table pattern bytes : List ℕ) (node left : ℕ) (outcome : Outcome) : Type 0 where
+pub record EndsAtOnce (table classes pattern bytes : List ℕ) (node left : ℕ) (outcome : Outcome) : Type 0 where
   pub some : 0 < left
   pub ends : (shown : List Part) (n : ℕ) → 0 < n
-      → endOf (levelOf n table bytes pattern (startOf shown node) left) ≡ record { outcome = outcome; left = left - 1 }
+      → endOf (levelOf n table classes bytes pattern (startOf shown node) left) ≡ record { outcome = outcome; left = left - 1 }
 
 -- what the first pair decides alone
-abbrev pub Decides : List ℕ → List ℕ → List ℕ → ℕ → ℕ → First → Type 0
-Decides table pattern bytes node left (Decided outcome) = EndsAtOnce table pattern bytes node left outcome
-Decides table pattern bytes node left Unsure = Unit {0}
+abbrev pub Decides : List ℕ → List ℕ → List ℕ → List ℕ → ℕ → ℕ → First → Type 0
+Decides table classes pattern bytes node left (Decided outcome) = EndsAtOnce table classes pattern bytes node left outcome
+Decides table classes pattern bytes node left Unsure = Unit {0}
 
 -- The replies: the definition's, with any number of levels that is enough, and what is left alone
 
-pub record LevelIs (table pattern bytes : List ℕ) (assigned left : ℕ) (parts stack : List ℕ) (v most : ℕ) (m : Marks) (p : Place)
+pub record LevelIs (table classes pattern bytes : List ℕ) (assigned left : ℕ) (parts stack : List ℕ) (v most : ℕ) (m : Marks) (p : Place)
     (outcome : Outcome) (assigned′ left′ : ℕ) (parts′ stack′ : List ℕ) : Type 0 where
   pub replies : (s : State) → Holds (length pattern) (length bytes) assigned parts stack m p s → (n : ℕ) → levels pattern (p .at) ≤ n
-      → replyOf outcome left′ assigned′ parts′ ≡ triesOf (levelOf n table bytes pattern) table bytes v s most 0 0 left
+      → replyOf outcome left′ assigned′ parts′ ≡ triesOf (levelOf n table classes bytes pattern) table bytes v s most 0 0 left
   pub kept : Kept assigned m parts stack parts′ stack′
 
-pub record RestIs (table pattern bytes : List ℕ) (assigned left : ℕ) (parts stack : List ℕ) (m : Marks) (p : Place)
+pub record RestIs (table classes pattern bytes : List ℕ) (assigned left : ℕ) (parts stack : List ℕ) (m : Marks) (p : Place)
     (outcome : Outcome) (assigned′ left′ : ℕ) (parts′ stack′ : List ℕ) : Type 0 where
   pub replies : (s : State) → Holds (length pattern) (length bytes) assigned parts stack m p s → (n : ℕ) → levels pattern (p .at) ≤ n
-      → replyOf outcome left′ assigned′ parts′ ≡ levelOf n table bytes pattern s left
+      → replyOf outcome left′ assigned′ parts′ ≡ levelOf n table classes bytes pattern s left
   pub kept : Kept assigned m parts stack parts′ stack′
 
-pub record FollowIs (table pattern bytes : List ℕ) (assigned left : ℕ) (parts stack : List ℕ) (stop : Stop) (m : Marks) (p : Place)
+pub record FollowIs (table classes pattern bytes : List ℕ) (assigned left : ℕ) (parts stack : List ℕ) (stop : Stop) (m : Marks) (p : Place)
     (outcome : Outcome) (assigned′ left′ : ℕ) (parts′ stack′ : List ℕ) : Type 0 where
   pub replies : (s : State) → Holds (length pattern) (length bytes) assigned parts stack m p s → (n : ℕ) → levels pattern (p .at) ≤ suc n
-      → replyOf outcome left′ assigned′ parts′ ≡ stopBy stop (levelOf n table bytes) table pattern bytes s left
+      → replyOf outcome left′ assigned′ parts′ ≡ stopBy stop (levelOf n table classes bytes) table pattern bytes s left
   pub kept : Kept assigned m parts stack parts′ stack′
 
-pub record ComplementIs (table pattern bytes : List ℕ) (assigned left : ℕ) (parts stack : List ℕ) (c : PutBy) (m : Marks)
+pub record ComplementIs (table classes pattern bytes : List ℕ) (assigned left : ℕ) (parts stack : List ℕ) (c : PutBy) (m : Marks)
     (outcome : Outcome) (left′ : ℕ) (parts′ stack′ : List ℕ) : Type 0 where
   pub replies : (shown : List Part)
       → Holds (c .size) (length bytes) assigned parts stack (inside m) (place 1 1 0 (c .node)) (startOf shown (c .node))
       → (n : ℕ) → levels pattern (length pattern) ≤ suc n
-      → (outcome ≡ turned (insideOf (levelOf n table bytes) pattern shown c left .outcome)) × (left′ ≡ insideOf (levelOf n table bytes) pattern shown c left .left)
+      → (outcome ≡ turned (insideOf (levelOf n table classes bytes) pattern shown c left .outcome)) × (left′ ≡ insideOf (levelOf n table classes bytes) pattern shown c left .left)
   pub kept : Kept assigned m parts stack parts′ stack′
 
-pub record ComplementsAre (table pattern bytes : List ℕ) (assigned left : ℕ) (parts stack : List ℕ) (m : Marks)
+pub record ComplementsAre (table classes pattern bytes : List ℕ) (assigned left : ℕ) (parts stack : List ℕ) (m : Marks)
     (outcome : Outcome) (assigned′ left′ : ℕ) (parts′ stack′ : List ℕ) : Type 0 where
   pub replies : (p : Place) (s : State) → Holds (length pattern) (length bytes) assigned parts stack m p s
       → (n : ℕ) → levels pattern (length pattern) ≤ suc n
-      → replyOf outcome left′ assigned′ parts′ ≡ complementsOf (levelOf n table bytes) pattern (s .parts) (s .waiting) left
+      → replyOf outcome left′ assigned′ parts′ ≡ complementsOf (levelOf n table classes bytes) pattern (s .parts) (s .waiting) left
   pub kept : Kept assigned m parts stack parts′ stack′

@@ -4,8 +4,10 @@ use mathlib.Core.Path.{_≡_}
 use mathlib.Core.List.{List}
 use mathlib.Core.Bool.{true, false}
 use lib.ListN.{length}
-use Rattle.search.specs.State.{State, walked, walkOf}
-use Rattle.search.specs.Memory.{bit, Holds, Kept}
+use Rattle.term.specs.Code.{variables}
+use Rattle.term.specs.Limits.{longestRecord, longestPattern}
+use Rattle.search.specs.State.{State, walked, turns, walkOf}
+use Rattle.search.specs.Inner.Memory.{bit, Holds, Kept}
 use Rattle.search.specs.declared.Place.{Place}
 use Rattle.search.specs.declared.Marks.{Marks}
 use Rattle.search.specs.declared.Stop.{Stop}
@@ -14,8 +16,8 @@ use Rattle.search.specs.declared.Reached.{Reached}
 
 -- pattern and record keep document 01's limits
 pub record Short (pattern bytes : List ℕ) : Type 0 where
-  pub of-pattern : length pattern ≤ 256
-  pub of-record : length bytes ≤ 4096
+  pub of-pattern : length pattern ≤ longestPattern
+  pub of-record : length bytes ≤ longestRecord
 
 -- where a walk stopped
 abbrev pub reached : Stop → ℕ → ℕ → Marks → Place → Reached
@@ -23,7 +25,7 @@ reached stop left assigned m p = record { stop = stop; left = left; assigned = a
 
 -- a run name
 pub record Ready (codes v : ℕ) (p : Place) : Type 0 where
-  pub variable : v < 48
+  pub variable : v < variables
   pub children : 0 < p .children
   pub at : p .at < codes
 
@@ -41,10 +43,10 @@ Unassigned assigned NoPair = Unit {0}
 Unassigned assigned (RunName v) = bit assigned v ≡ false
 
 -- the walk from the state s ends in another, which the buffers then hold
-pub record WalkIs (table pattern bytes : List ℕ) (assigned left : ℕ) (parts stack : List ℕ) (m : Marks) (p : Place)
+pub record WalkIs (table classes pattern bytes : List ℕ) (assigned left : ℕ) (parts stack : List ℕ) (m : Marks) (p : Place)
     (parts′ stack′ : List ℕ) (r : Reached) (s : State) : Type 0 where
   pub end : State
-  pub is : walkOf 1024 table pattern bytes s left ≡ walked (r .stop) (r .left) end
+  pub is : walkOf turns table classes pattern bytes s left ≡ walked (r .stop) (r .left) end
   pub holds : Holds (length pattern) (length bytes) (r .assigned) parts′ stack′ (r .marks) (r .place) end
   pub kept : Kept assigned m parts stack parts′ stack′
   pub still : (v : ℕ) → bit assigned v ≡ true → bit (r .assigned) v ≡ true
@@ -55,7 +57,7 @@ pub record WalkIs (table pattern bytes : List ℕ) (assigned left : ℕ) (parts 
   pub stops : StopsAt (length pattern) (r .place) (r .stop)
   pub unassigned : Unassigned (r .assigned) (r .stop)
 
-abbrev pub Walks : List ℕ → List ℕ → List ℕ → ℕ → ℕ → List ℕ → List ℕ → Marks → Place → List ℕ → List ℕ → Reached → Type 0
-Walks table pattern bytes assigned left parts stack m p parts′ stack′ r =
+abbrev pub Walks : List ℕ → List ℕ → List ℕ → List ℕ → ℕ → ℕ → List ℕ → List ℕ → Marks → Place → List ℕ → List ℕ → Reached → Type 0
+Walks table classes pattern bytes assigned left parts stack m p parts′ stack′ r =
     (s : State) → Holds (length pattern) (length bytes) assigned parts stack m p s
-    → WalkIs table pattern bytes assigned left parts stack m p parts′ stack′ r s
+    → WalkIs table classes pattern bytes assigned left parts stack m p parts′ stack′ r s

@@ -7,15 +7,15 @@ use mathlib.Core.Option.{some}
 use lib.ListN.{length, getD, take, drop}
 use Rattle.term.specs.Tree.{Trees}
 use Rattle.term.specs.Term.{Terms, count, single, sizes, termTrees, termsBytes}
-use Rattle.term.specs.Pattern.{Children, end, plain, arity, childTrees, patternBytes, childrenBytes}
+use Rattle.term.specs.Pattern.{Children, end, plain, childTrees, patternBytes}
 use Rattle.term.specs.Limits.{FitAll}
 use Rattle.term.specs.Part.{part}
 use Rattle.term.specs.declared.Part.{Part}
+use Rattle.term.proofs.Sizes.{arity, childrenBytes}
 use Rattle.anti_pattern.specs.Search.{Env}
 use Rattle.anti_pattern.specs.Place.{partOf}
-use Rattle.anti_pattern.specs.Answer.{Answer, bound, nothing, spent}
-use Rattle.anti_pattern.specs.Machine.{Frame, Pending}
-use Rattle.anti_pattern.specs.Meter.{Metered, met, missed, usedUp}
+use Rattle.anti_pattern.proofs.Machine.{Frame, Pending}
+use Rattle.anti_pattern.proofs.Meter.{Metered, met, missed, usedUp}
 use Rattle.search.specs.State.{Frame as Counts, frame as counts, PutBy, State}
 use Rattle.search.specs.Level.{Reply, reply, failedAt, spentAt}
 use Rattle.search.specs.declared.Place.{Place}
@@ -112,12 +112,3 @@ pub data Agrees (table bytes : List ℕ) : Metered → Reply → Type 0 where
   is-found : {e : Env} {left : ℕ} {parts : List Part} → Shown table bytes parts e → Agrees table bytes (met e left) (reply Found left parts)
   is-failed : {left : ℕ} → Agrees table bytes (missed left) (failedAt left)
   is-spent : {left : ℕ} → Agrees table bytes usedUp (spentAt left)
-
--- the answer under an allowance that it comes to
-abbrev pub repliedBy : Outcome → ℕ → ℕ → List Part → Answer
-repliedBy Found allowance left parts = bound parts (allowance - left)
-repliedBy Failed allowance left parts = nothing (allowance - left)
-repliedBy Spent allowance left parts = spent allowance
-
-abbrev pub replied : ℕ → Reply → Answer
-replied allowance r = repliedBy (r .outcome) allowance (r .left) (r .parts)

@@ -1,0 +1,4 @@
+-- The code's own invariant, which the contracts of its private functions cite. The public contract cites none of it.
+pub mod Memory
+pub mod Bounds
+pub mod Replies
