@@ -40,7 +40,8 @@ enum {
 };
 
 /* Limits, in bytes; of a rule sheet in patterns, of nesting in nodes from the
-   root to a node, both counted. */
+   root to a node, both counted. A complement's child has the complement's own
+   nesting, so a pattern may hold 255 complements in a row. */
 #define QONVESHIR_TABLE_LIMIT 200
 #define QONVESHIR_PATTERN_LIMIT 256
 #define QONVESHIR_RECORD_LIMIT 4096

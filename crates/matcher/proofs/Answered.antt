@@ -55,7 +55,7 @@ mutual
   vars-below : (table : List ℕ) (q : Pattern) (left : ℕ) (inList : Bool) → Fits table false (patternTree q) left inList
       → (v : ℕ) (vs : List ℕ) → (among v vs ≡ true → v < 48) → among v (vars q vs) ≡ true → v < 48
   vars-below table (name u) left inList f v vs k h = first-below u v vs (omega (arith, f .1)) k h
-  vars-below table (symbol s qs) left inList f v vs k h = all-below table qs (belowOf left) (listCode table (Symbol s)) (f .3) v vs k h
+  vars-below table (symbol s qs) left inList f v vs k h = all-below table qs (belowOf (Symbol s) left) (listCode table (Symbol s)) (f .3) v vs k h
   vars-below table (complement q) left inList f v vs k h = k h
 
   all-below : (table : List ℕ) (qs : Children) (left : ℕ) (inList : Bool) → FitAll table false (childTrees qs) left inList

@@ -33,7 +33,7 @@ limited-rest h = record { left = h .left; inList = h .inList; fit = h .fit .1 }
 
 pub limited-children : {table : List ℕ} {records : Bool} {c : Code} {us ts : Trees} → Limited table records (more (branch c us) ts) → Limited table records us
 unfolding Fits
-limited-children {table} {records} {c} h = record { left = belowOf (h .left); inList = listCode table c; fit = h .fit .0 .3 }
+limited-children {table} {records} {c} h = record { left = belowOf c (h .left); inList = listCode table c; fit = h .fit .0 .3 }
 
 -- a symbol that has no children by the table
 pub childless : {table : List ℕ} {records : Bool} {s : ℕ} {us ts : Trees} → Limited table records (more (branch (Symbol s) us) ts) → getD table s 0 ≡ 0

@@ -140,7 +140,7 @@ module _ (table : List ℕ) (small : length table ≤ largestTable) where
         → spanOf table (encode table t bs) false (suc n) ≡ length (encode table t []) + spanOf table bs false n
     span-tree records (branch c ts) left inList n bs h =
         span-own (listCode table c) (byteOf c) (number ts) n (encodes table ts bs) (entry-says records inList c (number ts) (h .1) (h .2))
-        ∙ omega (arith, span-trees records ts (belowOf left) (listCode table c) n bs (h .3), branch-length table c ts)
+        ∙ omega (arith, span-trees records ts (belowOf c left) (listCode table c) n bs (h .3), branch-length table c ts)
 
     pub span-trees : (records : Bool) (ts : Trees) (left : ℕ) (inList : Bool) (n : ℕ) (bs : List ℕ) → FitAll table records ts left inList
         → spanOf table (encodes table ts bs) false (number ts + n) ≡ length (encodes table ts []) + spanOf table bs false n

@@ -72,7 +72,7 @@ module _ (table : List ℕ) (records : Bool) where
 -- a node's own bytes, and then what its children are read from
 node-step : (table : List ℕ) (records : Bool) (left : ℕ) (inList : Bool) (c : Code) (k : ℕ) (r : List ℕ) → 0 < left → Written records c → Shape table inList c k
     → readTree table records left inList (own table c k r)
-    ≡ grow c (ownSize table c) (readAll (readTree table records (belowOf left) (listCode table c)) k r)
+    ≡ grow c (ownSize table c) (readAll (readTree table records (belowOf c left) (listCode table c)) k r)
 unfolding enter
 node-step table records left inList c k r l w h =
     tree-unfold table records left inList (own table c k r)
@@ -89,7 +89,7 @@ mutual
   complete table records (branch c ts) left inList bs f =
       rw (
         node-step table records left inList c (number ts) (encodes table ts bs) (f .0) (f .1) (f .2),
-        completes table records ts (belowOf left) (listCode table c) bs (f .3),
+        completes table records ts (belowOf c left) (listCode table c) bs (f .3),
         branch-length table c ts,
       )
 

@@ -1,5 +1,5 @@
 -- A node's own bytes: what they are read as, and what they are written from.
-use Prim.Native.Nat.{ℕ, _+_, _≤_, _<_}
+use Prim.Native.Nat.{ℕ, _+_, _-_, _≤_, _<_}
 use native.Mathlib.Omega.{arith}
 use mathlib.Core.Path.{_≡_, refl, sym, ap, _∙_}
 use mathlib.Core.List.{List, [], _∷_}
@@ -55,7 +55,7 @@ module _ (table : List ℕ) (records inList : Bool) (left : ℕ) (s : List ℕ) 
     unfolding nodeAt
     node-code = rw (ne-eqb (length s) 0 long, ← is)
 
-    pub node-open : known table c ≡ true → (left ≡ 0 → ⊥) → nodeAt table records inList left s ≡ openNode table inList (belowOf left) s c
+    pub node-open : known table c ≡ true → (left ≡ 0 → ⊥) → nodeAt table records inList left s ≡ openNode table inList (belowOf c left) s c
     unfolding codeNode
     node-open k d = node-code ∙ rw (k, ne-eqb left 0 d)
 
@@ -111,11 +111,11 @@ module _ (table : List ℕ) where
       by false = refl
 
 pub node-complete : (table : List ℕ) (records inList : Bool) (left : ℕ) (c : Code) (k : ℕ) (r : List ℕ) → 0 < left → Written records c → Shape table inList c k
-    → nodeAt table records inList left (own table c k r) ≡ Open (ownSize table c) k (listCode table c) (belowOf left)
+    → nodeAt table records inList left (own table c k r) ≡ Open (ownSize table c) k (listCode table c) (belowOf c left)
 node-complete table records inList left c k r l w h =
     node-open table records inList left (own table c k r) c (own-long table c k r) (sym (ap (codeIn records) (own-first table c k r) ∙ code-back records c w))
     (shape-known table inList c k h) (λ e. omega arith)
-    ∙ open-complete table inList (belowOf left) c k r h
+    ∙ open-complete table inList (belowOf c left) c k r h
 
 -- An open node: its own bytes stand at the start, and its code allows it
 
@@ -127,38 +127,40 @@ module _ (table : List ℕ) (records inList : Bool) (left : ℕ) where
     pub shape : Octets s → Shape table inList c k
     pub is-list : list ≡ listCode table c
     pub levels : 0 < left
-    pub is-low : low ≡ belowOf left
+    pub is-low : low ≡ belowOf c left
+    -- less nesting is left for two children or more
+    pub fewer : low < left + (2 - k)
 
   sized : (s : List ℕ) (c : Code) (x k : ℕ) (list : Bool) → byteOf c ≡ x → listCode table c ≡ list → Written records c
-      → (Octets (x ∷ cond list (k ∷ s) s) → Shape table inList c k) → 0 < left
-      → NodeSound (x ∷ cond list (k ∷ s) s) c (cond list 2 1) k list (belowOf left)
+      → (Octets (x ∷ cond list (k ∷ s) s) → Shape table inList c k) → 0 < left → belowOf c left < left + (2 - k)
+      → NodeSound (x ∷ cond list (k ∷ s) s) c (cond list 2 1) k list (belowOf c left)
   unfolding own
-  sized s c x k true b i w h l = record { bytes = rw (i, b); long = rw i; written = w; shape = h; is-list = sym i; levels = l; is-low = refl }
-  sized s c x k false b i w h l = record { bytes = rw (i, b); long = rw i; written = w; shape = h; is-list = sym i; levels = l; is-low = refl }
+  sized s c x k true b i w h l f = record { bytes = rw (i, b); long = rw i; written = w; shape = h; is-list = sym i; levels = l; is-low = refl; fewer = f }
+  sized s c x k false b i w h l f = record { bytes = rw (i, b); long = rw i; written = w; shape = h; is-list = sym i; levels = l; is-low = refl; fewer = f }
 
   sound-list : (n x : ℕ) (s : List ℕ) → byteOf (Symbol n) ≡ x → Written records (Symbol n) → 2 ≤ length (x ∷ s) → n < length table → isList table n ≡ true → 0 < left
-      → NodeSound (x ∷ s) (Symbol n) 2 (getD (x ∷ s) 1 0) true (belowOf left)
+      → NodeSound (x ∷ s) (Symbol n) 2 (getD (x ∷ s) 1 0) true (belowOf (Symbol n) left)
   unfolding Shape listCode
   sound-list n x [] b w m h e l = absurd (omega arith)
-  sound-list n x (y ∷ s) b w m h e l = sized s (Symbol n) x y true b e w (λ o. (h, rw e (o 1))) l
+  sound-list n x (y ∷ s) b w m h e l = sized s (Symbol n) x y true b e w (λ o. (h, rw e (o 1))) l (omega arith)
 
   sound-symbol : (n x : ℕ) (s : List ℕ) → byteOf (Symbol n) ≡ x → Written records (Symbol n) → n < length table → 0 < left
-      → Opened (NodeSound (x ∷ s) (Symbol n)) (openNode table inList (belowOf left) (x ∷ s) (Symbol n))
+      → Opened (NodeSound (x ∷ s) (Symbol n)) (openNode table inList (belowOf (Symbol n) left) (x ∷ s) (Symbol n))
   unfolding openNode Shape listCode
   sound-symbol n x s b w h l =
       cond-all (Opened (NodeSound (x ∷ s) (Symbol n))) (isList table n)
       (λ e. cond-all (Opened (NodeSound (x ∷ s) (Symbol n))) (ltb (length (x ∷ s)) 2) (λ d. tt)
       (λ d. sound-list n x s b w (ltb-false (length (x ∷ s)) 2 d) h e l))
-      (λ e. sized s (Symbol n) x (getD table n 0) false b e w (λ o. (h, rw e refl)) l)
+      (λ e. sized s (Symbol n) x (getD table n 0) false b e w (λ o. (h, rw e refl)) l (omega arith))
 
   sound-open : (x : ℕ) (s : List ℕ) (c : Code) → Coded records x c → known table c ≡ true → 0 < left
-      → Opened (NodeSound (x ∷ s) c) (openNode table inList (belowOf left) (x ∷ s) c)
+      → Opened (NodeSound (x ∷ s) c) (openNode table inList (belowOf c left) (x ∷ s) c)
   unfolding openNode listCode Shape
   sound-open x s (Symbol n) h k l = sound-symbol n x s (h .1) (h .0) (ltb-true n (length table) k) l
-  sound-open x s (Name v) h k l = sized s (Name v) x 0 false (h .1) refl (h .0) (λ o. refl) l
+  sound-open x s (Name v) h k l = sized s (Name v) x 0 false (h .1) refl (h .0) (λ o. refl) l (omega arith)
   sound-open x s (Run v) h k l =
-      cond-all (Opened (NodeSound (x ∷ s) (Run v))) inList (λ e. sized s (Run v) x 0 false (h .1) refl (h .0) (λ o. (refl, e)) l) (λ e. tt)
-  sound-open x s Complement h k l = sized s Complement x 1 false (h .1) refl (h .0) (λ o. refl) l
+      cond-all (Opened (NodeSound (x ∷ s) (Run v))) inList (λ e. sized s (Run v) x 0 false (h .1) refl (h .0) (λ o. (refl, e)) l (omega arith)) (λ e. tt)
+  sound-open x s Complement h k l = sized s Complement x 1 false (h .1) refl (h .0) (λ o. refl) l (omega arith)
   sound-open x s Code.Refused h k l = tt
 
   sound-code : (x : ℕ) (s : List ℕ) (c : Code) → Coded records x c → Opened (NodeSound (x ∷ s) c) (codeNode table inList left (x ∷ s) c)

@@ -217,7 +217,7 @@ module _ (table : List ℕ) where
         → Fits table records t left inList → Fits table records u left′ inList′ → encode table t bs ≡ encode table u cs → (t ≡ u) × (bs ≡ cs)
     one-tree records (branch c ts) (branch d us) left left′ inList inList′ bs cs g h e =
         let a = own-one records c d inList inList′ (number ts) (number us) (encodes table ts bs) (encodes table us cs) (g .1) (h .1) (g .2) (h .2) e in
-        let b = one-run records ts us (belowOf left) (belowOf left′) (listCode table c) (listCode table d) bs cs (g .3) (h .3) (a .1) (a .2) in
+        let b = one-run records ts us (belowOf c left) (belowOf d left′) (listCode table c) (listCode table d) bs cs (g .3) (h .3) (a .1) (a .2) in
         (ap₂ branch (a .0) (b .0), b .1)
 
     pub one-run : (records : Bool) (ts us : Trees) (left left′ : ℕ) (inList inList′ : Bool) (bs cs : List ℕ)

@@ -37,9 +37,8 @@ module _ (table : List ℕ) (records inList : Bool) (left : ℕ) (s : List ℕ) 
       let c = codeIn records (getD s 0 0) in
       (omega (arith, ap length (node-sound .bytes) ∙ own-length table c k (drop size s), node-sound .long), omega (arith, node-sound .long, own-size table c))
 
-  -- less nesting is left for two children or more
   pub node-below : (0 < left) × (low < left + (2 - k))
-  node-below = (node-sound .levels, omega (arith, node-sound .levels, node-sound .is-low))
+  node-below = (node-sound .levels, node-sound .fewer)
 
 pub tree-ends : (table : List ℕ) (records : Bool) (left : ℕ) (inList : Bool) (s : List ℕ) (n : ℕ) → shown (readTree table records left inList s) ≡ Ends n → n ≤ length s
 tree-ends table records left inList s n e =

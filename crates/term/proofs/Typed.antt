@@ -50,7 +50,7 @@ mutual
   unfolding Fits Written termOf byteOf
 
   term-tree : (table : List ℕ) (t : Tree) (left : ℕ) (inList : Bool) → Fits table true t left inList → termTree (termOf t) ≡ t
-  term-tree table (branch (Symbol s) ts) left inList f = ap (branch (Symbol s)) (term-trees table ts (belowOf left) (listCode table (Symbol s)) (f .3))
+  term-tree table (branch (Symbol s) ts) left inList f = ap (branch (Symbol s)) (term-trees table ts (belowOf (Symbol s) left) (listCode table (Symbol s)) (f .3))
   term-tree table (branch (Name v) ts) left inList f = absurd (f .1)
   term-tree table (branch (Run v) ts) left inList f = absurd (f .1)
   term-tree table (branch Complement ts) left inList f = absurd (f .1)
@@ -89,12 +89,12 @@ mutual
   child-tree : (table : List ℕ) (t : Tree) (left : ℕ) (inList : Bool) → Fits table false t left inList → (qs : Children)
       → childTrees (child t (patternOf t) qs) ≡ more t (childTrees qs)
   child-tree table (branch (Symbol s) ts) left inList f qs =
-      ap (λ (us : Trees). more (branch (Symbol s) us) (childTrees qs)) (child-trees table ts (belowOf left) (listCode table (Symbol s)) (f .3))
+      ap (λ (us : Trees). more (branch (Symbol s) us) (childTrees qs)) (child-trees table ts (belowOf (Symbol s) left) (listCode table (Symbol s)) (f .3))
   child-tree table (branch (Name v) ts) left inList f qs = ap (λ (us : Trees). more (branch (Name v) us) (childTrees qs)) (no-trees ts (f .2))
   child-tree table (branch (Run v) ts) left inList f qs = ap (λ (us : Trees). more (branch (Run v) us) (childTrees qs)) (no-trees ts (f .2 .0))
   child-tree table (branch Complement ts) left inList f qs =
       ap (λ (us : Trees). more (branch Complement us) (childTrees qs))
-      (inside table ts (belowOf left) (f .2) (f .3) (child-trees table ts (belowOf left) (listCode table Complement) (f .3)))
+      (inside table ts (belowOf Complement left) (f .2) (f .3) (child-trees table ts (belowOf Complement left) (listCode table Complement) (f .3)))
   child-tree table (branch Code.Refused ts) left inList f qs = absurd (f .1)
 
   child-trees : (table : List ℕ) (ts : Trees) (left : ℕ) (inList : Bool) → FitAll table false ts left inList → childTrees (childrenOf ts) ≡ ts

@@ -38,15 +38,19 @@ Shape table inList (Run v) n = (n ≡ 0) × (inList ≡ true)
 Shape table inList Complement n = n ≡ 1
 Shape table inList Code.Refused n = ⊥
 
--- the nesting left for a node's children, of what is left for the node; a complement counts as a node
-abbrev pub belowOf : ℕ → ℕ
-belowOf left = left - 1
+-- the nesting left for a node's children, of what is left for the node. Document 02's L5: "A complement's child now has the complement's own nesting."
+abbrev pub belowOf : Code → ℕ → ℕ
+belowOf (Symbol b) left = left - 1
+belowOf (Name v) left = left - 1
+belowOf (Run v) left = left - 1
+belowOf Complement left = left
+belowOf Code.Refused left = left - 1
 
 unfoldable mutual
   -- over the table, nested at most so deep, each run name in a list
   pub Fits : List ℕ → Bool → Tree → ℕ → Bool → Type 0
   Fits table records (branch c ts) left inList =
-      (0 < left) × Written records c × Shape table inList c (number ts) × FitAll table records ts (belowOf left) (listCode table c)
+      (0 < left) × Written records c × Shape table inList c (number ts) × FitAll table records ts (belowOf c left) (listCode table c)
 
   pub FitAll : List ℕ → Bool → Trees → ℕ → Bool → Type 0
   FitAll table records empty left inList = Unit {0}

@@ -41,7 +41,7 @@ unlessDeep left n = cond (eqb left 0) (Node.Refused Deep) n
 unfoldable pub codeNode : List ℕ → Bool → ℕ → List ℕ → Code → Node
 codeNode table inList left s c =
     cond (known table c)
-    (unlessDeep left (openNode table inList (belowOf left) s c))
+    (unlessDeep left (openNode table inList (belowOf c left) s c))
     (Node.Refused BadCode)
 
 -- the node at the start of s, of a record or a pattern, as a list's child or not, with so much nesting left

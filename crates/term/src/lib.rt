@@ -268,6 +268,21 @@ fn plain_node(kids: u8, left: u8) -> Node
     }
 }
 
+// A complement: its child has its own nesting.
+fn complement_node(left: u8) -> Node
+    ensures { λ r. ⌜ r ≡ unlessDeep left (Node.Open 1 1 false left) ⌝ }
+{
+    if left == 0 {
+        return Node::Refused(Refusal::Deep);
+    }
+    Node::Open {
+        size: 1,
+        kids: 1,
+        list: false,
+        low: left,
+    }
+}
+
 // A run name that is no child of a list.
 fn stray_node(left: u8) -> Node
     ensures { λ r. ⌜ r ≡ unlessDeep left (Node.Refused Refusal.Stray) ⌝ }
@@ -327,7 +342,7 @@ fn node_at(table: &[u8], s: &[u8], records: bool, in_list: bool, left: u8) -> No
             }
             stray_node(left)
         }
-        Code::Complement => plain_node(1, left),
+        Code::Complement => complement_node(left),
         Code::Refused => Node::Refused(Refusal::BadCode),
     }
 }

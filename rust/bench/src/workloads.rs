@@ -1,6 +1,6 @@
 //! The named workloads.
 
-use interface::{sheet_of, Library, ANSWER, LIST};
+use interface::{sheet_of, Library, ANSWER, LIST, RECORD_LIMIT};
 use notation::Symbols;
 use reference::Reference;
 use std::cell::RefCell;
@@ -28,7 +28,8 @@ pub fn all() -> Vec<Workload> {
     all.extend(lists.map(all_different).map(Match::search));
     all.extend(lists.map(list_search).map(Match::search));
     all.extend([4, 8, 16, 31].map(deep_term).map(Match::search));
-    all.extend([4, 8, 16, 31].map(deep_complement).map(Match::search));
+    all.extend([4, 8, 16, 31, 255].map(deep_complement).map(Match::search));
+    all.extend([1, 32, 255].map(long_record_complement));
     all.extend([256, 1_024, 4_096].map(record));
     all.extend([256, 1_024, 4_096].map(record_search).map(Match::search));
     all.extend(rules.map(|n| rule_sheet("rule sheet over 1,000 states", n, false)));
@@ -175,6 +176,15 @@ fn deep_term(n: usize) -> Match {
 
 fn deep_complement(n: usize) -> Match {
     Match::of("deep complement", n, &format!("{}?0", "!".repeat(n)), "open")
+}
+
+/// A record of 4,096 bytes under n complements and a name, which takes it whole.
+fn long_record_complement(n: usize) -> Workload {
+    let symbols = symbols();
+    let pattern = symbols.pattern(&format!("{}?0", "!".repeat(n))).expect("a rule");
+    let (name, table) = ("deep complement, long record", symbols.table().to_vec());
+    let whole = Match { name, n, table, classes: None, pattern, record: full(RECORD_LIMIT) };
+    whole.call(u32::MAX, ("byte", RECORD_LIMIT as u64))
 }
 
 /// Reading a record of n bytes, which a lone name takes whole.

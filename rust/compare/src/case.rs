@@ -35,6 +35,7 @@ pub enum Kind {
     LongRecord,
     LongPattern,
     LongSearch,
+    ManyComplements,
     OneBelow,
     AtTheCount,
     FarAbove,

@@ -1,7 +1,7 @@
 //! How often each call gave each word.
 
 use crate::case::{Call, Case, Kind, CALLS};
-use interface::Word;
+use interface::{Word, COMPLEMENT};
 use std::fmt;
 
 /// Cases by word and call, and by kind and call.
@@ -13,10 +13,11 @@ pub struct Histogram {
 }
 
 /// The kinds in their order, the words with which they count, and the calls that must have them.
-const KINDS: [(&str, &[Word], &[Call]); 19] = [
+const KINDS: [(&str, &[Word], &[Call]); 20] = [
     ("record over 1,000 bytes, not spent", &ENDED, &MATCHES),
     ("pattern over 100 bytes, not spent", &ENDED, &MATCHES),
     ("count over 1,000, not spent", &ENDED, &MATCHES),
+    ("over 32 complements in a row, not spent", &ENDED, &MATCHES),
     ("allowance one below the count", &ACCEPTED, &MATCHES),
     ("allowance at the count", &ACCEPTED, &MATCHES),
     ("allowance far above the count", &ACCEPTED, &MATCHES),
@@ -73,11 +74,12 @@ impl Histogram {
 fn sizes(case: &Case, count: u64) -> impl Iterator<Item = Kind> {
     let sizes = match (case.call, &case.inputs[..]) {
         (Call::Match | Call::MatchWithClasses, [.., pattern, record]) => {
-            [record.len() > 1_000, pattern.len() > 100, count > 1_000]
+            let complements = pattern.split(|&code| code != COMPLEMENT).any(|row| row.len() > 32);
+            [record.len() > 1_000, pattern.len() > 100, count > 1_000, complements]
         }
-        _ => [false; 3],
+        _ => [false; 4],
     };
-    let kinds = [Kind::LongRecord, Kind::LongPattern, Kind::LongSearch];
+    let kinds = [Kind::LongRecord, Kind::LongPattern, Kind::LongSearch, Kind::ManyComplements];
     kinds.into_iter().zip(sizes).filter_map(|(kind, has)| has.then_some(kind))
 }
 

@@ -98,16 +98,17 @@ impl<'a> Maker<'a> {
         [vec![list as u8, number as u8], elements.concat()].concat()
     }
 
-    /// A chain of about 32 nodes.
+    /// A chain of about 32 nodes, in a pattern with complements between them.
     fn deep(&mut self, pattern: bool) -> Vec<u8> {
         let one = self.table.iter().position(|&c| c == 1);
         let list = self.table.iter().position(|&c| c == LIST);
         let leaf = self.table.iter().position(|&c| c == 0).unwrap_or(0) as u8;
+        let most = if pattern { self.rng.pick(&[0, 1, 2, 8]) } else { 0 };
         let mut bytes = Vec::new();
-        for _ in 0..self.rng.between(30, 33) {
-            match (self.rng.below(3), one, list) {
-                (0, _, _) if pattern => bytes.push(COMPLEMENT),
-                (0 | 1, Some(one), _) => bytes.push(one as u8),
+        for _ in 0..self.rng.between(30, 32) {
+            bytes.extend(vec![COMPLEMENT; self.rng.between(0, most)]);
+            match (self.rng.below(2), one, list) {
+                (0, Some(one), _) | (_, Some(one), None) => bytes.push(one as u8),
                 (_, _, Some(list)) => bytes.extend([list as u8, 1]),
                 _ => {}
             }
@@ -156,12 +157,23 @@ impl<'a> Maker<'a> {
             9..=20 => self.search(),
             _ => {
                 let budget = self.rng.pick(&[8, 20, 60, 200]);
-                (self.bytes, self.budget) = (Vec::new(), budget);
+                let complements = self.complements();
+                (self.bytes, self.budget) = (complements, budget);
                 self.like(record, 0, 1);
                 std::mem::take(&mut self.bytes)
             }
         };
         self.perhaps_damaged(bytes, 8)
+    }
+
+    /// Complements around a pattern: mostly none, sometimes as many as there is room for.
+    fn complements(&mut self) -> Vec<u8> {
+        let most = match self.rng.below(20) {
+            0 => PATTERN_LIMIT - 1,
+            1 => 40,
+            _ => 0,
+        };
+        vec![COMPLEMENT; self.rng.between(most / 2, most)]
     }
 
     /// A list pattern with many run names, whose search is long.
@@ -190,11 +202,12 @@ impl<'a> Maker<'a> {
             _ if short => self.name(),
             0..=24 => self.name(),
             25..=39 => {
-                self.bytes.push(COMPLEMENT);
+                let more = if self.rng.chance(10) { self.rng.between(1, 40) } else { 0 };
+                self.bytes.extend(vec![COMPLEMENT; 1 + more]);
                 match self.rng.below(4) {
-                    0 => drop(self.like(record, at, nesting + 1)),
+                    0 => drop(self.like(record, at, nesting)),
                     1 => self.name(),
-                    _ => self.elsewhere(record, nesting + 1),
+                    _ => self.elsewhere(record, nesting),
                 }
             }
             40..=43 => self.elsewhere(record, nesting),

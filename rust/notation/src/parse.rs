@@ -34,18 +34,19 @@ impl<'a> Parser<'a> {
         Ok(self.bytes)
     }
 
-    fn node(&mut self, nesting: usize, in_list: bool) -> Result<(), Error> {
+    fn node(&mut self, nesting: usize, mut in_list: bool) -> Result<(), Error> {
         self.blanks();
         if nesting > NESTING_LIMIT {
             return self.error(self.at, format!("nesting over {NESTING_LIMIT}"));
         }
+        // A complement's child has the complement's own nesting.
+        while self.pattern && self.eat('!') {
+            self.bytes.push(COMPLEMENT);
+            in_list = false;
+            self.blanks();
+        }
         match self.peek() {
             Some(c) if starts_name(c) => self.symbol(nesting),
-            Some('!') if self.pattern => {
-                self.at += 1;
-                self.bytes.push(COMPLEMENT);
-                self.node(nesting + 1, false)
-            }
             Some('?') if self.pattern => self.numbered(FIRST_NAME, NAMES),
             Some('@') if self.pattern && !in_list => {
                 self.error(self.at, "a run name may only be a direct child of a list")

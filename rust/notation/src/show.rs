@@ -34,17 +34,18 @@ struct Writer<'a> {
 
 impl Writer<'_> {
     fn node(&mut self, nesting: usize) -> Result<(), Error> {
-        let start = self.at;
         if nesting > NESTING_LIMIT {
-            return Err(Error::in_bytes(start, "nesting over 32"));
+            return Err(Error::in_bytes(self.at, "nesting over 32"));
         }
+        // A complement's child has the complement's own nesting.
+        while self.pattern && self.bytes.get(self.at) == Some(&COMPLEMENT) {
+            self.text.push('!');
+            self.at += 1;
+        }
+        let start = self.at;
         match self.byte()? {
             code @ FIRST_NAME..FIRST_RUN if self.pattern => self.marked('?', code - FIRST_NAME),
             code @ FIRST_RUN..COMPLEMENT if self.pattern => self.marked('@', code - FIRST_RUN),
-            COMPLEMENT if self.pattern => {
-                self.text.push('!');
-                self.node(nesting + 1)
-            }
             code => self.symbol(code, start, nesting),
         }
     }

@@ -1,5 +1,6 @@
 //! Reading and writing of the notation, and the places that errors name.
 
+use interface::{COMPLEMENT, FIRST_NAME};
 use notation::Symbols;
 
 fn symbols() -> Symbols {
@@ -91,8 +92,27 @@ fn errors_of_texts_name_the_place() {
     assert_eq!(error, "column 6: a list holds at most 255 children, not 256");
     let error = symbols().pattern(&list(255)).unwrap_err().to_string();
     assert_eq!(error, "column 1: the pattern takes 257 bytes, its limit is 256");
-    let error = symbols().pattern(&"!".repeat(99)).unwrap_err().to_string();
-    assert_eq!(error, "column 33: nesting over 32");
+    let error = symbols().pattern(&"!gate(".repeat(33)).unwrap_err().to_string();
+    assert_eq!(error, "column 193: nesting over 32");
+}
+
+#[test]
+fn complements_do_not_nest() {
+    let chain = |gates: usize| format!("{}!!open{}", "!gate(".repeat(gates), ")".repeat(gates));
+    let bytes = symbols().pattern(&chain(31)).unwrap();
+    assert_eq!(bytes, [[COMPLEMENT, 3].repeat(31), vec![COMPLEMENT, COMPLEMENT, 0]].concat());
+    assert_eq!(symbols().show_pattern(&bytes).unwrap(), chain(31));
+    let error = symbols().pattern(&chain(32)).unwrap_err().to_string();
+    assert_eq!(error, "column 193: nesting over 32");
+    let bytes = [vec![COMPLEMENT, 3].repeat(32), vec![COMPLEMENT, 0]].concat();
+    let error = symbols().show_pattern(&bytes).unwrap_err().to_string();
+    assert_eq!(error, "byte 64: nesting over 32");
+    let row = format!("{}?0", "!".repeat(255));
+    let bytes = symbols().pattern(&row).unwrap();
+    assert_eq!(bytes, [vec![COMPLEMENT; 255], vec![FIRST_NAME]].concat());
+    assert_eq!(symbols().show_pattern(&bytes).unwrap(), row);
+    let error = symbols().pattern(&"!".repeat(1_000_000)).unwrap_err().to_string();
+    assert_eq!(error, "column 1000001: expected a symbol, ?name, @run or !, found the end");
 }
 
 #[test]

@@ -93,7 +93,7 @@ fn expected(kind: &str, word: Word, in_entry: bool, at: usize) -> &'static str {
         Word::Table => "0 to 8 children, or 255 for a list",
         Word::Short => "a further node, or a list's number of children",
         Word::Spare => "the end, since the last node ends before",
-        Word::Deep => "nesting of at most 32",
+        Word::Deep => "nesting of at most 32, complements not counted",
         Word::Long if kind == "pattern" || kind == "rules" && in_entry => "at most 256 bytes",
         Word::Long if kind == "record" || in_entry => "at most 4,096 bytes",
         Word::Long if at == 0 => "at most 64 rules",

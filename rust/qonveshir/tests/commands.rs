@@ -84,6 +84,25 @@ fn packs_and_unpacks() {
 }
 
 #[test]
+fn packs_rows_of_complements() {
+    let folder = folder("complements");
+    let rules = ["!".repeat(255) + "?0", "!".repeat(40) + "row(gate(open), !shut)"].join("\n");
+    fs::write(folder.join("rules"), &rules).unwrap();
+    let command = |text: &str| run(&folder, &text.split(' ').collect::<Vec<_>>());
+    assert_eq!(command("pack rules symbols rules r"), (0, "r: 311 bytes\n".into()));
+    assert_eq!(command("unpack rules symbols r"), (0, rules + "\n"));
+    let find = |rule: String| command(&format!("match symbols {rule} open"));
+    assert_eq!(find("!".repeat(254) + "?0"), (0, "bound 255\n".into()));
+    assert_eq!(find("!".repeat(255) + "?0"), (1, "none 256\n".into()));
+    fs::write(folder.join("t"), [0, 1]).unwrap();
+    fs::write(folder.join("p"), [[248, 1].repeat(32), vec![248, 0]].concat()).unwrap();
+    let deep = "p: refused 5 deep\ninput: pattern\nbyte: 64, which is 248\n\
+                expected: nesting of at most 32, complements not counted\n";
+    assert_eq!(command("explain t --pattern p"), (1, deep.into()));
+    fs::remove_dir_all(folder).unwrap();
+}
+
+#[test]
 fn explains() {
     let folder = folder("explain");
     fs::write(folder.join("t"), [0, 1, 255]).unwrap();

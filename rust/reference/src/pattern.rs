@@ -128,10 +128,11 @@ impl Reader<'_> {
         Ok(())
     }
 
+    /// A complement's child has the complement's own nesting.
     fn complement(&mut self, nesting: usize, within: u8) -> Result<(), Fault> {
         let place = self.steps.len();
         self.steps.push(Step::Complement { within, skip: 0 });
-        self.level(nesting + 1)?;
+        self.level(nesting)?;
         let skip = self.steps.len() as u16 - 1;
         self.steps[place] = Step::Complement { within, skip };
         Ok(())

@@ -134,6 +134,21 @@ fn nesting() {
 }
 
 #[test]
+fn complements_do_not_nest() {
+    let between = |depth: usize, last: &[u8]| [&[248, 248, 1].repeat(depth)[..], last].concat();
+    let record = [&vec![1; 31][..], &[0]].concat();
+    assert_eq!(number(&between(31, &[248, 248, 200]), &record), Some(Word::Bound));
+    assert_eq!(number(&between(31, &[248, 200]), &record), Some(Word::None));
+    for last in [&[200][..], &[248, 200], &[248]] {
+        assert_eq!(number(&between(32, last), &[0]), Some(Word::Deep), "{last:?}");
+    }
+    for (complements, word) in [(254, Word::Bound), (255, Word::None), (256, Word::Long)] {
+        let pattern = [&vec![248; complements][..], &[200]].concat();
+        assert_eq!(Reference.find(&[0], &pattern, &[0], 256).0.word(), Some(word));
+    }
+}
+
+#[test]
 fn limits() {
     let pattern = |names: u8| [&[2, names][..], &vec![200; names.into()]].concat();
     assert_eq!(number(&pattern(254), &[0]), Some(Word::None));

@@ -48,8 +48,8 @@ stray-node-requires c κs = search needs
 enum-told-3 : tie.Need-enum-told-3
 enum-told-3 c = search needs
 
-plain-node-requires-3 : tie.Need-plain-node-requires-3
-plain-node-requires-3 c κs = search needs
+complement-node-requires : tie.Need-complement-node-requires
+complement-node-requires c κs = search needs
 
 enum-told-4 : tie.Need-enum-told-4
 enum-told-4 c = search needs
@@ -79,7 +79,7 @@ returns-6 : tie.Need-returns-6
 unfolding openNode codeNode
 returns-6 c =
     let code = c .before .before .before in
-    c .plain-node3 .ensures ∙ sym (node-code _ _ _ _ _ _ (code .before .before .if1 .left) (sym (c .before .enum-told3 .given .1) ∙ code .code-in .ensures))
+    c .complement-node .ensures ∙ sym (node-code _ _ _ _ _ _ (code .before .before .if1 .left) (sym (c .before .enum-told3 .given .1) ∙ code .code-in .ensures))
 
 returns-7 : tie.Need-returns-7
 unfolding codeNode
@@ -103,7 +103,7 @@ node-at-spec =
     returns-2
     stray-node-requires
     enum-told-3
-    plain-node-requires-3
+    complement-node-requires
     enum-told-4
     returns-3
     returns-4
