@@ -1,4 +1,5 @@
-/* Matches one rule against one state from C, and another up to class.
+/* Matches one rule against one state from C, another up to class, and lists every answer of a
+   third.
 
    cc -Iinclude examples/match.c target/staticlib/libqonveshir.a -o target/match && target/match */
 
@@ -20,6 +21,39 @@ static void show(const char *what, qonveshir_outcome found, const uint16_t *answ
     printf("%c%d: offset %u, length %u\n", i < 32 ? '?' : '@', i < 32 ? i : i - 32,
            answer[2 * i], answer[2 * i + 1]);
   }
+}
+
+/* Where the term that starts at an offset ends. */
+static size_t term_end(const uint8_t *bytes, size_t at) {
+  for (size_t nodes = 1; nodes > 0; nodes--) {
+    uint8_t children = table[bytes[at++]];
+    nodes += children == 255 ? bytes[at++] : children; /* a list tells its own number */
+  }
+  return at;
+}
+
+/* How many elements a run has. */
+static uint16_t elements(const uint8_t *run, size_t length) {
+  uint16_t number = 0;
+  for (size_t at = 0; at < length; at = term_end(run, at)) number++;
+  return number;
+}
+
+/* Shows the first answer of gates(@0, @1), then the next after each, until there is none. */
+static void show_every(const uint8_t *state, size_t state_length) {
+  static const uint8_t rule[] = {5, 2, 232, 233};
+  uint16_t answer[QONVESHIR_ANSWER], given[2];
+  qonveshir_outcome found = qonveshir_match(table, sizeof table, rule, sizeof rule, state,
+                                            state_length, 100000, answer, QONVESHIR_ANSWER);
+  while (found.number == QONVESHIR_DONE) {
+    show("an answer", found, answer);
+    /* The run lengths of this answer, of @0 and of @1; their pairs start at 64. */
+    given[0] = elements(state + answer[64], answer[65]);
+    given[1] = elements(state + answer[66], answer[67]);
+    found = qonveshir_next(table, sizeof table, rule, sizeof rule, state, state_length, given, 2,
+                           100000, answer, QONVESHIR_ANSWER);
+  }
+  show("after the last", found, answer);
 }
 
 int main(void) {
@@ -48,5 +82,8 @@ int main(void) {
                                     sizeof row_rule, row, sizeof row, 100000, answer,
                                     QONVESHIR_ANSWER),
        answer);
+
+  static const uint8_t two[] = {5, 2, 3, 2, 1};  /* gates(gate(held), shut) */
+  show_every(two, sizeof two);
   return 0;
 }

@@ -33,10 +33,11 @@ enum {
   QONVESHIR_STRAY = 7,      /* run name elsewhere than as a list's child */
   QONVESHIR_NARROW = 8,     /* answer buffer under 96 numbers */
   QONVESHIR_DIRECTORY = 9,  /* a sheet breaks its rules, or no such entry */
-  QONVESHIR_NONE = 10,      /* no assignment satisfies the pattern */
+  QONVESHIR_NONE = 10,      /* no assignment satisfies the pattern, or none after the given answer */
   QONVESHIR_SPENT = 11,     /* the count is over the allowance */
   QONVESHIR_FULL = 12,      /* output too short for the sheet */
-  QONVESHIR_CLASS = 14      /* a class list breaks its rules, see below */
+  QONVESHIR_CLASS = 14,     /* a class list breaks its rules, see below */
+  QONVESHIR_UNKNOWN = 15    /* the given run lengths belong to no answer, see below */
 };
 
 /* Limits, in bytes; of a rule sheet in patterns, of nesting in nodes from the
@@ -94,6 +95,55 @@ qonveshir_outcome qonveshir_match_with_classes(const uint8_t *table, size_t tabl
                                                const uint8_t *record, size_t record_length,
                                                uint32_t allowance,
                                                uint16_t *answer, size_t answer_length);
+
+/* Shows the answer after a given one, in the order of answers, or none (10)
+   after the last. To list every answer, call qonveshir_match for the first,
+   then this with the run lengths of each answer, until none: while no call is
+   spent, each answer is shown once, in order (examples/match.c).
+
+   The run lengths of an answer are in elements, not in bytes: one for each run
+   name that is free in the pattern, in the order of the run names' first places
+   outside complements, reading left to right, parents before children. Of two
+   answers the first is the one with the smaller length where their lists first
+   differ. An answer shows runs in bytes; the caller counts the terms in them.
+   A pattern without free run names has one answer at most, whose list is empty.
+
+   table, pattern, record: those for which the given answer was shown.
+   given: the run lengths of the given answer.
+   allowance: for this call alone.
+   answer: as for qonveshir_match; it may hold the given answer, which is not read.
+
+   Checks: 8, 1, the pattern, the record, 15 for another number of lengths than
+   there are free run names. Then the given lengths are checked by the same
+   search with each free run name trying its given length only, fitting or not;
+   15 if that finds no answer. Then the search goes on after that answer.
+
+   bound (0): the next answer, written as by qonveshir_match.
+   none (10): the given answer is the last.
+   spent (11): the check, or the check and the search after it, count more than
+   the allowance, which is shown.
+   unknown (15): another number of lengths, or lengths that belong to no answer;
+   shows count 0.
+   The count of bound and none is that of the check and the search after it
+   together. The index is 0. All but bound leave the whole answer as it was. */
+qonveshir_outcome qonveshir_next(const uint8_t *table, size_t table_length,
+                                 const uint8_t *pattern, size_t pattern_length,
+                                 const uint8_t *record, size_t record_length,
+                                 const uint16_t *given, size_t given_length,
+                                 uint32_t allowance,
+                                 uint16_t *answer, size_t answer_length);
+
+/* The same up to class, with a class list as for qonveshir_match_with_classes:
+   the list with which the given answer was shown. Answers that differ only
+   within classes count as one. Checks: 8, 1, 14, the pattern, the record, 15.
+   14 shows index 0 and count 0. */
+qonveshir_outcome qonveshir_next_with_classes(const uint8_t *table, size_t table_length,
+                                              const uint8_t *classes, size_t classes_length,
+                                              const uint8_t *pattern, size_t pattern_length,
+                                              const uint8_t *record, size_t record_length,
+                                              const uint16_t *given, size_t given_length,
+                                              uint32_t allowance,
+                                              uint16_t *answer, size_t answer_length);
 
 /* Tries the rules of a sheet in order, each with the whole allowance, up to the
    first that is bound or spent, whose index is shown. The count is the sum so

@@ -3,6 +3,7 @@ use Prim.Native.Nat.{ℕ, suc, _-_, _<_, _≤_}
 use mathlib.Core.Path.{_≡_, refl, sym, _∙_, ap}
 use mathlib.Core.List.{List}
 use mathlib.Core.Bool.{true}
+use mathlib.Core.Option.{some}
 use native.Mathlib.Omega.{arith}
 use Rattle.term.specs.Pattern.{Pattern}
 use Rattle.term.specs.Term.{Term}
@@ -10,7 +11,7 @@ use Rattle.term.specs.declared.Part.{Part}
 use Rattle.anti_pattern.specs.Answer.{bound, nothing, spent, parts, countOf, shown, answer}
 use Rattle.anti_pattern.specs.Language.{Language}
 use Rattle.anti_pattern.proofs.Meter.{metered, meter, answered}
-use Rattle.anti_pattern.specs.Search.{Env, Outcome, found, failed, whole}
+use Rattle.anti_pattern.specs.Search.{Env, Outcome, found, failed, firstAnswer, whole}
 use Rattle.anti_pattern.proofs.Metering.{leb-true, leb-false, Split, enough, over, split, meter-spent, meter-within}
 
 module _ (l : Language) (q : Pattern) (t : Term) (n : ℕ) where
@@ -27,7 +28,7 @@ module _ (l : Language) (q : Pattern) (t : Term) (n : ℕ) where
   answer-metered = go (split (countOf l q t) n)
     where
       same : (o : Outcome) (c : ℕ) → c ≤ n → shown (l .table) o c ≡ answered (l .table) n (metered true o (n - c))
-      same (found e) c h = ap (bound (parts (l .table) e)) (omega arith)
+      same (found e m o) c h = ap (bound (parts (l .table) e)) (omega arith)
       same failed c h = ap nothing (omega arith)
 
       go : Split (countOf l q t) n → answer l q t n ≡ answered (l .table) n (meter n (whole l q t))
@@ -37,14 +38,14 @@ module _ (l : Language) (q : Pattern) (t : Term) (n : ℕ) where
 
   -- a bound answer has the parts of what the search finds
   pub bound-found : (ps : List Part) (m : ℕ) → answer l q t n ≡ bound ps m
-      → (countOf l q t ≤ n) × ((e : Env) × (whole l q t .out ≡ found e) × (ps ≡ parts (l .table) e))
+      → (countOf l q t ≤ n) × ((e : Env) × (firstAnswer (whole l q t .out) ≡ some e) × (ps ≡ parts (l .table) e))
   bound-found ps m h = go (split (countOf l q t) n)
     where
       by : (o : Outcome) → whole l q t .out ≡ o → shown (l .table) o (countOf l q t) ≡ bound ps m
-          → (e : Env) × (whole l q t .out ≡ found e) × (ps ≡ parts (l .table) e)
-      by (found e) z k = (e, z, cc)
+          → (e : Env) × (firstAnswer (whole l q t .out) ≡ some e) × (ps ≡ parts (l .table) e)
+      by (found e x o) z k = (e, ap firstAnswer z, cc)
       by failed z k = let y : _≡_ {A = ℕ} 0 1 = cc in absurd (omega arith)
 
-      go : Split (countOf l q t) n → (countOf l q t ≤ n) × ((e : Env) × (whole l q t .out ≡ found e) × (ps ≡ parts (l .table) e))
+      go : Split (countOf l q t) n → (countOf l q t ≤ n) × ((e : Env) × (firstAnswer (whole l q t .out) ≡ some e) × (ps ≡ parts (l .table) e))
       go (over l) = let k = sym (answer-over l) ∙ h in let y : _≡_ {A = ℕ} 0 1 = cc in absurd (omega arith)
       go (enough i) = (i, by (whole l q t .out) refl (sym (answer-within i) ∙ h))

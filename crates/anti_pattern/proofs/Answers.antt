@@ -1,7 +1,7 @@
 -- The answer is told by the meaning, the count and the allowance.
 use Prim.Native.Nat.{ℕ, _<_, _≤_}
 use mathlib.Core.Path.{_≡_, refl, sym, _∙_, ap, ap₂, subst}
-use mathlib.Core.Logic.{_↔_}
+use mathlib.Core.Logic.{_↔_, inl}
 use mathlib.Core.List.{List}
 use native.Mathlib.Omega.{arith}
 use Rattle.term.specs.Class.{Alike}
@@ -13,11 +13,11 @@ use Rattle.anti_pattern.specs.Demands.{First, Unsatisfied}
 use Rattle.anti_pattern.specs.Language.{Language, TermOf}
 use Rattle.anti_pattern.specs.Meaning.{Assignment}
 use Rattle.anti_pattern.specs.Place.{partsAt}
-use Rattle.anti_pattern.specs.Search.{Outcome, found, failed, whole}
+use Rattle.anti_pattern.specs.Search.{Outcome, found, failed, firstAnswer, whole}
 use Rattle.anti_pattern.proofs.Allowance.{answer-over, answer-within}
 use Rattle.anti_pattern.proofs.First.{found-first, failed-none, one-first}
 use Rattle.anti_pattern.proofs.Metering.{Split, enough, over, split}
-use Rattle.anti_pattern.proofs.Placed.{shown-at-first-place, parts-one}
+use Rattle.anti_pattern.proofs.Placed.{Answers, shown-at-first-place, parts-one}
 
 module _ (l : Language) (k : Alike (l .table) (l .classes)) (q : Pattern) (t : Term) (g : TermOf l t) where
   data Answered (n : ℕ) : Answer → Type 0 where
@@ -26,10 +26,10 @@ module _ (l : Language) (k : Alike (l .table) (l .classes)) (q : Pattern) (t : T
     is-bound : countOf l q t ≤ n → (a : Assignment) → First l q t a → Answered n (bound (partsAt (l .table) q t a) (countOf l q t))
 
   within-answered : (n : ℕ) → countOf l q t ≤ n → (o : Outcome) → whole l q t .out ≡ o → Answered n (shown (l .table) o (countOf l q t))
-  within-answered n i (found e) h =
-      subst (λ (ps : List Part). Answered n (bound ps (countOf l q t))) (sym (shown-at-first-place l q t g e h))
-      (is-bound i (e .value) (found-first l q t g e h))
-  within-answered n i failed h = is-none i (failed-none l q t g h)
+  within-answered n i (found e m o) h =
+      subst (λ (ps : List Part). Answered n (bound ps (countOf l q t))) (sym (shown-at-first-place l q t g e (subst (λ (r : Outcome). Answers r e) (sym h) (inl refl))))
+      (is-bound i (e .value) (found-first l q t g e (ap firstAnswer h)))
+  within-answered n i failed h = is-none i (failed-none l q t g (ap firstAnswer h))
 
   answer-answered : (n : ℕ) → Answered n (answer l q t n)
   answer-answered n = go (split (countOf l q t) n)

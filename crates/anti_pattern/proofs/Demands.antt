@@ -1,26 +1,31 @@
 -- The theorems: what specs/Demands demands, for every pattern, every term of the language and every allowance, where the table bytes within a class
 -- are alike, as they are for every accepted class list and for the empty one; and the rides.
-use Prim.Native.Nat.{ℕ}
+use Prim.Native.Nat.{ℕ, _<_}
 use mathlib.Core.Path.{_≡_, refl, ap, subst, fun-ext}
 use mathlib.Core.List.{List, []}
+use mathlib.Core.Bool.{true}
 use mathlib.Core.Option.{Option, none, some}
 use Rattle.term.specs.Class.{Alike, classOf}
+use Rattle.term.specs.Code.{variables}
 use Rattle.term.specs.Pattern.{Pattern}
 use Rattle.term.specs.Term.{Term, Terms, size}
 use Rattle.term.proofs.SameParts.{term-equal, terms-equal}
 use Rattle.anti_pattern.specs.Answer.{answer}
 use Rattle.anti_pattern.specs.AntiTerm.{Anti}
-use Rattle.anti_pattern.specs.Demands.{SearchDecides, PartsShown, AnswerExact, PublishedAgrees, OverTable, ChoicesAgree, ChoiceMatters, SingleClasses}
+use Rattle.anti_pattern.specs.Demands.{SearchDecides, PartsShown, AnswerExact, PublishedAgrees, OverTable, NextExact, EveryAnswer, ChoicesAgree, ChoiceMatters, SingleClasses}
 use Rattle.anti_pattern.specs.Language.{Language, language, Classed, TermOf, TermsOf}
 use Rattle.anti_pattern.specs.Meaning.{Assignment, OneAt}
+use Rattle.anti_pattern.specs.Next.{check, resumedAfter, next}
 use Rattle.anti_pattern.specs.Published.{NoRuns}
-use Rattle.anti_pattern.specs.Rides.{RidesHold}
+use Rattle.anti_pattern.specs.Rides.{RidesHold, StepsHold}
 use Rattle.anti_pattern.specs.Search.{finish, behind, search}
+use Rattle.anti_pattern.specs.Variables.{among, NoName, freeRuns}
 use Rattle.anti_pattern.proofs.Alike.{term-eq, one-refl}
 use Rattle.anti_pattern.proofs.Answers.{spent-exactly, none-exactly, bound-exactly, larger-allowance}
 use Rattle.anti_pattern.proofs.Crossed.{rideLanguage, crossed, sides, left-first, right-first, left-in, right-out}
 use Rattle.anti_pattern.proofs.First.{found-first, failed-none, equal-lengths}
 use Rattle.anti_pattern.proofs.OverTable.{satisfies-over}
+use Rattle.anti_pattern.proofs.Following.{next-exact as next-told, every-answer as every-told}
 use Rattle.anti_pattern.proofs.Placed.{free-placed, others-absent, shown-at-first-place}
 use Rattle.anti_pattern.proofs.Published.{published-agrees as published}
 use Rattle.anti_pattern.proofs.Renamed.{any-way, some-way, no-clash}
@@ -47,6 +52,14 @@ module _ (l : Language) (k : Alike (l .table) (l .classes)) (q : Pattern) (t : T
     bound-exactly = bound-exactly l k q t g allowance;
     larger-allowance = larger-allowance l k q t g allowance;
   }
+
+  -- every answer, where no name has a free run name's number, and these are the numbers of variables that are shown
+  module _ (apart : NoName (freeRuns q) q) where
+    pub next-exact : (given : List ℕ) (allowance : ℕ) → NextExact l q t given allowance
+    next-exact given allowance = next-told l k q t g apart given allowance
+
+    pub every-answer : ((v : ℕ) → among v (freeRuns q) ≡ true → v < variables) → EveryAnswer l q t
+    every-answer few = every-told l k q t g apart few
 
   pub published-agrees : (n : NoRuns q) (allowance : ℕ) → PublishedAgrees l q t n allowance
   published-agrees n allowance = published l q t g n k allowance
@@ -88,3 +101,7 @@ no-classes table = single-classes table [] (λ s. refl)
 pub rides-hold : RidesHold
 unfolding answer search finish behind size
 rides-hold = refl
+
+pub steps-hold : StepsHold
+unfolding next check resumedAfter search finish behind size
+steps-hold = refl

@@ -1,25 +1,26 @@
--- What the search finds is the first of the satisfying assignments; run lengths tell satisfying assignments apart.
+-- What the search lists are the satisfying assignments in order, from the first on; run lengths tell satisfying assignments apart.
 use Prim.Native.Nat.{ℕ, zero}
-use mathlib.Core.Path.{_≡_, refl, sym, _∙_, ap, subst}
+use mathlib.Core.Path.{_≡_, refl, sym, _∙_, ap, ap₂, subst}
 use mathlib.Core.Logic.{_⊎_, inl, inr}
 use mathlib.Core.List.{List, [], _∷_, map}
 use mathlib.Core.Bool.{Bool, true, false, cond}
-use mathlib.Core.Option.{Option, none}
+use mathlib.Core.Option.{Option, none, some}
 use native.Mathlib.Omega.{arith}
 use lib.Dec.{eqb}
 use Rattle.term.specs.Pattern.{Pattern, name, symbol, complement, Children, end, plain, run}
 use Rattle.term.specs.Term.{Term, node, Terms, nil, _::_, _⧺_, count, single}
-use Rattle.anti_pattern.specs.Demands.{First, Unsatisfied}
+use Rattle.anti_pattern.specs.Demands.{First, Unsatisfied, Enumerates, assignments}
 use Rattle.anti_pattern.specs.Language.{Language, TermOf, TermsOf, _⊢_≋_}
 use Rattle.anti_pattern.specs.Meaning.{Assignment, unassigned, ExtendsAt, Extends, Holds, HoldAll, Satisfies, OneAt, CountAsOne}
-use Rattle.anti_pattern.specs.Order.{lengthOf, runLengths, Smaller}
-use Rattle.anti_pattern.specs.Search.{Env, start, found, failed, whole}
+use Rattle.anti_pattern.specs.Order.{lengthOf, All, Member, Ascending, runLengths, Smaller}
+use Rattle.anti_pattern.specs.Search.{Env, start, Outcome, found, failed, firstAnswer, answers, Tries, freely, finish, search, whole}
 use Rattle.anti_pattern.specs.Variables.{vars, varsAll, free, among, runs, runsAll, without, firsts, freeRuns}
-use Rattle.anti_pattern.proofs.Correct.{Before, Best, least, no-candidate, level-best}
+use Rattle.anti_pattern.proofs.Correct.{Before, Permitted, Candidate, values, NamesMay, freely-may, level-lists}
 use borrow.Author.Tests.{eqb-true}
 use Rattle.term.proofs.SameParts.{same-counts}
-use Rattle.anti_pattern.proofs.Alike.{single-same, some-one, term-sym, term-trans, run-sym, run-trans, one-refl, one-sym}
-use Rattle.anti_pattern.proofs.Facts.{head-same, tail-same}
+use Rattle.anti_pattern.proofs.Alike.{single-same, some-one, term-sym, term-trans, run-sym, run-trans, one-refl, one-sym, one-length}
+use Rattle.anti_pattern.proofs.Facts.{head-same, tail-same, none-some}
+use Rattle.anti_pattern.proofs.Listed.{all-map, all-member, ascending-map}
 
 before-without : (v : ℕ) (vs : List ℕ) (a b : Assignment) → lengthOf (a v) ≡ lengthOf (b v) → Before vs a b → Before (without v vs) a b
 before-without v [] a b e p = p
@@ -72,13 +73,19 @@ same-map : (vs : List ℕ) (a b : Assignment) → map (λ v. lengthOf (a v)) vs 
 same-map [] a b e = tt
 same-map (v ∷ vs) a b e = (cc, same-map vs a b (cc))
 
-smaller-once : (xs ys : List ℕ) → Smaller xs ys → Smaller ys xs → ⊥
+pub smaller-once : (xs ys : List ℕ) → Smaller xs ys → Smaller ys xs → ⊥
 smaller-once [] ys h k = h
 smaller-once (x ∷ xs) [] h k = h
 smaller-once (x ∷ xs) (y ∷ ys) (inl h) (inl k) = omega arith
 smaller-once (x ∷ xs) (y ∷ ys) (inl h) (inr k) = omega (arith, k .0)
 smaller-once (x ∷ xs) (y ∷ ys) (inr h) (inl k) = omega (arith, h .0)
 smaller-once (x ∷ xs) (y ∷ ys) (inr h) (inr k) = smaller-once xs ys (h .1) (k .1)
+
+pub some-is : {A : Type 0} {x y : A} → some x ≡ some y → x ≡ y
+some-is h = cc
+
+pub none-is : {A : Type 0} {x : A} → none ≡ some x → ⊥
+none-is h = let z : _≡_ {A = ℕ} 0 1 = cc in omega arith
 
 module _ (l : Language) where
   -- the comparison at all places is the comparison at the run names' first places
@@ -107,28 +114,80 @@ module _ (l : Language) where
   before-first q t a b h k p =
       before-smaller (freeRuns q) a b (before-firsts (runs q []) a b (before-runs q a b t t [] [] h k (λ x. x) p))
 
+  pub one-run-lengths : (q : Pattern) (a b : Assignment) → CountAsOne l a b → runLengths q a ≡ runLengths q b
+  one-run-lengths q a b e = go (freeRuns q)
+    where
+      go : (vs : List ℕ) → map (λ v. lengthOf (a v)) vs ≡ map (λ v. lengthOf (b v)) vs
+      go [] = refl
+      go (v ∷ vs) = ap₂ _∷_ (one-length l (a v) (b v) (e v)) (go vs)
+
+  pub smaller-one : (q : Pattern) (a b c : Assignment) → CountAsOne l b c → Smaller (runLengths q a) (runLengths q b) → Smaller (runLengths q a) (runLengths q c)
+  smaller-one q a b c e p = subst (Smaller (runLengths q a)) (one-run-lengths q b c e) p
+
+  pub one-smaller : (q : Pattern) (a b c : Assignment) → CountAsOne l a b → Smaller (runLengths q a) (runLengths q c) → Smaller (runLengths q b) (runLengths q c)
+  one-smaller q a b c e p = subst (λ (x : List ℕ). Smaller x (runLengths q c)) (one-run-lengths q a b e) p
+
+  -- a list of all satisfying assignments in order starts with the first; an empty one says that none satisfies
+  pub enumerates-first : (q : Pattern) (t : Term) (a : Assignment) (bs : List Assignment) → Enumerates l q t (a ∷ bs) → First l q t a
+  enumerates-first q t a bs x = record { satisfies = x .satisfy .0; least = λ b s. let c = x .listed b s in go b (c .0) (c .1) (c .2) }
+    where
+      go : (b c : Assignment) → Member c (a ∷ bs) → CountAsOne l c b → Smaller (runLengths q a) (runLengths q b) ⊎ CountAsOne l a b
+      go b c (inl e) o = inr (subst (λ (y : Assignment). CountAsOne l y b) (sym e) o)
+      go b c (inr m) o = inl (smaller-one q a c b o (all-member (λ y. Smaller (runLengths q a) (runLengths q y)) bs c (x .ascending .0) m))
+
+  pub enumerates-none : (q : Pattern) (t : Term) → Enumerates l q t [] → Unsatisfied l q t
+  enumerates-none q t x = λ a s. x .listed a s .1
+
+  -- what a search that tries some lengths only lists: the satisfying assignments that have such lengths
+  pub record EnumeratesBy (how : ℕ → Tries) (q : Pattern) (t : Term) (bs : List Assignment) : Type 0 where
+    pub ascending : Ascending (λ a b. Smaller (runLengths q a) (runLengths q b)) bs
+    pub satisfy : All (λ a. Satisfies l q t a × Permitted how a) bs
+    pub listed : (a : Assignment) → Satisfies l q t a → Permitted how a → (b : Assignment) × Member b bs × CountAsOne l b a
+
   -- what the search of a whole pattern comes to
 
-  best-first : (q : Pattern) (t : Term) {e : Env} → Best l unassigned (free q) (λ b. Holds l (TermsOf l) q b t) (found e) → First l q t (e .value)
-  best-first q t {e} (least s m) = record {
-    satisfies = record { exact = s .extends; holds = s .meets };
-    least = λ b r. go b r (m b (record { extends = r .exact; meets = r .holds }));
-  }
-    where
-      go : (b : Assignment) → Satisfies l q t b → Before (free q) (e .value) b ⊎ CountAsOne l (e .value) b
-          → Smaller (runLengths q (e .value)) (runLengths q b) ⊎ CountAsOne l (e .value) b
-      go b r (inl p) = inl (before-first q t (e .value) b (s .meets) (r .holds) p)
-      go b r (inr p) = inr p
-
-  best-none : (q : Pattern) (t : Term) → Best l unassigned (free q) (λ b. Holds l (TermsOf l) q b t) failed → Unsatisfied l q t
-  best-none q t (no-candidate n) = λ a s. n a (record { extends = s .exact; meets = s .holds })
-
   module _ (q : Pattern) (t : Term) (g : TermOf l t) where
-    pub found-first : (e : Env) → whole l q t .out ≡ found e → First l q t (e .value)
-    found-first e h = best-first q t (subst (Best l unassigned (free q) (λ b. Holds l (TermsOf l) q b t)) h (level-best l q t g zero start))
+    pub enumerates-by : (how : ℕ → Tries) → NamesMay how q
+        → EnumeratesBy how q t (values (search (l .table) (l .classes) how q t zero start [] finish .out))
+    enumerates-by how may =
+        let x = level-lists l how q may t g zero start (λ v w e. absurd (none-some e)) in
+        let bs = values (search (l .table) (l .classes) how q t zero start [] finish .out) in record {
+          ascending = ascending-map (Candidate l how unassigned (free q) (λ b. Holds l (TermsOf l) q b t)) (Before (free q))
+              (λ a b. Smaller (runLengths q a) (runLengths q b)) (λ b c s r p. before-first q t b c (s .meets) (r .meets) p) bs (x .sound) (x .ordered);
+          satisfy = all-map (Candidate l how unassigned (free q) (λ b. Holds l (TermsOf l) q b t)) (λ a. Satisfies l q t a × Permitted how a)
+              (λ b s. (record { exact = s .extends; holds = s .meets }, s .permitted)) bs (x .sound);
+          listed = λ a s p. x .complete a (record { extends = s .exact; permitted = p; meets = s .holds });
+        }
 
-    pub failed-none : whole l q t .out ≡ failed → Unsatisfied l q t
-    failed-none h = best-none q t (subst (Best l unassigned (free q) (λ b. Holds l (TermsOf l) q b t)) h (level-best l q t g zero start))
+    pub enumerates : Enumerates l q t (assignments l q t)
+    enumerates =
+        let x = enumerates-by freely (freely-may q) in record {
+          ascending = x .ascending;
+          satisfy = all-map (λ a. Satisfies l q t a × Permitted freely a) (Satisfies l q t) (λ a s. s .0) (assignments l q t) (x .satisfy);
+          listed = λ a s. x .listed a s (λ v w e. tt);
+        }
+
+    pub answer-satisfies : (e : Env) → Member e (answers (whole l q t .out)) → Satisfies l q t (e .value)
+    answer-satisfies e m = go (answers (whole l q t .out)) (enumerates .satisfy) m
+      where
+        go : (es : List Env) → All (Satisfies l q t) (map (λ f. f .value) es) → Member e es → Satisfies l q t (e .value)
+        go [] s m = absurd m
+        go (f ∷ es) s (inl p) = subst (λ (y : Env). Satisfies l q t (y .value)) p (s .0)
+        go (f ∷ es) s (inr m) = go es (s .1) m
+
+    pub found-first : (e : Env) → firstAnswer (whole l q t .out) ≡ some e → First l q t (e .value)
+    found-first e h = go (whole l q t .out) h enumerates
+      where
+        go : (o : Outcome) → firstAnswer o ≡ some e → Enumerates l q t (values o) → First l q t (e .value)
+        go (found f m o) h x = subst (λ (y : Env). First l q t (y .value)) (some-is h) (enumerates-first q t (f .value) (values o) x)
+        go failed h x = absurd (none-is h)
+
+    pub failed-none : firstAnswer (whole l q t .out) ≡ none → Unsatisfied l q t
+    failed-none h = go (whole l q t .out) h enumerates
+      where
+        go : (o : Outcome) → firstAnswer o ≡ none → Enumerates l q t (values o) → Unsatisfied l q t
+        go (found f m o) h x = absurd (none-is (sym h))
+        go failed h x = enumerates-none q t x
 
   -- equal lists of run lengths mean equal satisfying assignments
 

@@ -2,6 +2,7 @@
 pub mod Facts
 pub mod Alike
 pub mod Extensions
+pub mod Listed
 pub mod Correct
 pub mod First
 pub mod Placed
@@ -12,6 +13,9 @@ pub mod Metering
 pub mod Steps
 pub mod Allowance
 pub mod Answers
+pub mod Following
+pub mod Pass
+pub mod Passing
 pub mod Taken
 pub mod Renamed
 pub mod Published

@@ -3,7 +3,7 @@ use Prim.Native.Nat.{ℕ}
 use mathlib.Core.List.{List, [], _∷_, map}
 use Rattle.term.specs.Term.{Term, Terms}
 use Rattle.term.specs.Pattern.{Pattern, Children}
-use Rattle.anti_pattern.specs.Search.{Env, Result, Deferred, Next, finish, searches, level}
+use Rattle.anti_pattern.specs.Search.{Env, Result, Deferred, Next, finish, Tries, searches, level}
 
 -- the child patterns left, the elements left, and the offset of the first of these
 pub record Frame : Type 0 where
@@ -27,9 +27,10 @@ module _ (table classes : List ℕ) where
   abbrev pub deferred : Pending → Deferred
   deferred p = λ e. level table classes (p .inside) (p .term) (p .at) e
 
-  abbrev pub resume : List Frame → Next
-  resume [] = finish
-  resume (f ∷ fs) = λ e put. searches table classes (f .patterns) (f .elements) (f .at) e put (resume fs)
+  module _ (how : ℕ → Tries) where
+    abbrev pub resume : List Frame → Next
+    resume [] = finish
+    resume (f ∷ fs) = λ e put. searches table classes how (f .patterns) (f .elements) (f .at) e put (resume fs)
 
-  unfoldable pub machine : List Frame → Env → List Pending → Result
-  machine fs e ds = resume fs e (map deferred ds)
+    unfoldable pub machine : List Frame → Env → List Pending → Result
+    machine fs e ds = resume fs e (map deferred ds)

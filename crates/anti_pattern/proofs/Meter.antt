@@ -13,7 +13,7 @@ pub data Metered : Type 0 where
   usedUp : Metered
 
 abbrev pub metered : Bool → Outcome → ℕ → Metered
-metered true (found e) left = met e left
+metered true (found e m o) left = met e left
 metered true failed left = missed left
 metered false o left = usedUp
 

@@ -1,6 +1,7 @@
 -- The offset that is found for a variable is that of its first place.
 use Prim.Native.Nat.{ℕ, zero, suc, _+_}
 use mathlib.Core.Path.{_≡_, refl, sym, _∙_, ap, ap₂, subst}
+use mathlib.Core.Logic.{_⊎_, inl, inr}
 use mathlib.Core.List.{List, [], _∷_, _++_}
 use mathlib.Core.Bool.{Bool, true, false, cond, false≢true}
 use mathlib.Core.Option.{Option, none, some}
@@ -17,40 +18,53 @@ use Rattle.term.specs.declared.Part.{Part}
 use Rattle.anti_pattern.specs.Answer.{parts}
 use Rattle.anti_pattern.specs.Language.{Language, TermOf, TermsOf, _⊢_≋_}
 use Rattle.anti_pattern.specs.Meaning.{Assignment, ExtendsAt, Extends, Holds, HoldAll, Satisfies, OneAt, CountAsOne}
+use Rattle.anti_pattern.specs.Order.{Member}
 use Rattle.anti_pattern.specs.Place.{past, assigned, place, placeAll, partOf, orAbsent, partAt, eachFrom, partsAt}
-use Rattle.anti_pattern.specs.Search.{Env, bind, start, Outcome, found, failed, Result, ifTrue, ifSome, after, Deferred, Next, refuted, finish, sameOr, lengths, behind, tryRun, search, searches, whole}
+use Rattle.anti_pattern.specs.Search.{Env, bind, start, Outcome, found, failed, firstAnswer, answers, Result, ifTrue, ifSome, after, Deferred, Next, refuted, finish, sameOr, lengths, exactly, Tries, every, only, freely, tryFresh, behind, tryRun, search, searches, whole}
 use Rattle.anti_pattern.specs.Variables.{vars, varsAll, free, among}
 use borrow.Author.Tests.{eqb-true}
 use Rattle.term.proofs.SameParts.{same-terms, same-counts, same-sizes}
 use Rattle.anti_pattern.proofs.Alike.{cons-open}
 use Rattle.anti_pattern.proofs.Facts.{eqb-same, join-nil, join-one, none-some, behind-alike}
-use Rattle.anti_pattern.proofs.First.{found-first}
+use Rattle.anti_pattern.proofs.First.{some-is, none-is, answer-satisfies}
 
-failed-found : {e : Env} → failed ≡ found e → ⊥
-failed-found h = let z : _≡_ {A = ℕ} 0 1 = cc in omega arith
+-- an answer of an outcome
+abbrev pub Answers : Outcome → Env → Type 0
+Answers o f = Member f (answers o)
 
-found-same : {e f : Env} → found e ≡ found f → e ≡ f
-found-same h = cc
+pub first-answers : (o : Outcome) (e : Env) → firstAnswer o ≡ some e → Answers o e
+first-answers (found f m o) e h = inl (some-is h)
+first-answers failed e h = absurd (none-is h)
+
+pub answers-after : (o : Outcome) (n : ℕ) (g : Unit {0} → Result) (f : Env) → Answers (after o n g .out) f → Answers o f ⊎ Answers (g tt .out) f
+answers-after (found e m o) n g f (inl h) = inl (inl h)
+answers-after (found e m o) n g f (inr h) = go (answers-after o m g f h)
+  where
+    go : Answers o f ⊎ Answers (g tt .out) f → Answers (found e m o) f ⊎ Answers (g tt .out) f
+    go (inl k) = inl (inr k)
+    go (inr k) = inr k
+answers-after failed n g f h = inr h
 
 -- from e on, f was found: what was assigned stays, with its offset; what has a place in the rest has its offset
-abbrev Placed : Option Terms → ℕ → Option ℕ → Option Terms → ℕ → Type 0
+abbrev pub Placed : Option Terms → ℕ → Option ℕ → Option Terms → ℕ → Type 0
 Placed (some w) o p x y = (x ≡ some w) × (y ≡ o)
 Placed none o p x y = (n : ℕ) → p ≡ some n → y ≡ n
 
-abbrev PlacedAt : Env → Env → ℕ → Option ℕ → Type 0
+abbrev pub PlacedAt : Env → Env → ℕ → Option ℕ → Type 0
 PlacedAt e f v p = Placed (e .value v) (e .offset v) p (f .value v) (f .offset v)
 
-abbrev Places : Next → (Assignment → ℕ → Option ℕ) → Type 0
-Places k P = (e : Env) (put : List Deferred) (f : Env) → k e put .out ≡ found f → (v : ℕ) → PlacedAt e f v (P (f .value) v)
+abbrev pub Places : Next → (Assignment → ℕ → Option ℕ) → Type 0
+Places k P = (e : Env) (put : List Deferred) (f : Env) → Answers (k e put .out) f → (v : ℕ) → PlacedAt e f v (P (f .value) v)
 
 -- at the end of a level nothing changes
-finish-found : (e f : Env) (ds : List Deferred) → finish e ds .out ≡ found f → e ≡ f
+finish-found : (e f : Env) (ds : List Deferred) → Answers (finish e ds .out) f → e ≡ f
 unfolding finish
-finish-found e f [] h = found-same h
+finish-found e f [] (inl h) = h
+finish-found e f [] (inr h) = absurd h
 finish-found e f (d ∷ ds) h = go (d e .out) (d e .cost) h (finish-found e f ds)
   where
-    go : (o : Outcome) (n : ℕ) → refuted o n (λ u. finish e ds) .out ≡ found f → (finish e ds .out ≡ found f → e ≡ f) → e ≡ f
-    go (found g) n h r = absurd (failed-found h)
+    go : (o : Outcome) (n : ℕ) → Answers (refuted o n (λ u. finish e ds) .out) f → (Answers (finish e ds .out) f → e ≡ f) → e ≡ f
+    go (found g m o) n h r = absurd h
     go failed n h r = r h
 
 unchanged : (e : Env) (v : ℕ) → PlacedAt e e v none
@@ -60,7 +74,7 @@ unchanged e v = go (e .value v)
     go none = λ n h. absurd (let z : _≡_ {A = ℕ} 0 1 = cc in omega arith)
     go (some w) = (refl, refl)
 
-finish-places : Places finish (λ b v. none)
+pub finish-places : Places finish (λ b v. none)
 finish-places e put f h v = subst (λ (g : Env). PlacedAt e g v none) (finish-found e f put h) (unchanged e v)
 
 -- a variable that is assigned here
@@ -88,23 +102,38 @@ module _ (e f : Env) (u at : ℕ) (w : Terms) (P : ℕ → Option ℕ) where
       go false r = h v
 
 -- a run name's length at which something is found
-lengths-found : (ts w : Terms) (g : Terms → Terms → Result) (f : Env) → lengths w ts g .out ≡ found f
-    → (x : Terms) × (us : Terms) × (ts ≡ x ⧺ us) × (g (w ⧺ x) us .out ≡ found f)
-lengths-found nil w g f h = (nil, nil, refl, subst (λ (y : Terms). g y nil .out ≡ found f) (sym (join-nil w)) h)
-lengths-found (t :: ts) w g f h = go (g w (t :: ts) .out) (1 + g w (t :: ts) .cost) refl h (lengths-found ts (w ⧺ single t) g f)
-  where
-    go : (o : Outcome) (n : ℕ) → g w (t :: ts) .out ≡ o → after o n (λ u. lengths (w ⧺ single t) ts g) .out ≡ found f
-        → (lengths (w ⧺ single t) ts g .out ≡ found f
-        → (x : Terms) × (us : Terms) × (ts ≡ x ⧺ us) × (g ((w ⧺ single t) ⧺ x) us .out ≡ found f))
-        → (x : Terms) × (us : Terms) × (t :: ts ≡ x ⧺ us) × (g (w ⧺ x) us .out ≡ found f)
-    go (found e) n q h r = (nil, t :: ts, refl, subst (λ (y : Terms). g y (t :: ts) .out ≡ found f) (sym (join-nil w)) (q ∙ h))
-    go failed n q h r =
-        let s = r h in
-        (t :: s .0, s .1, ap (t ::_) (s .2), subst (λ (y : Terms). g y (s .1) .out ≡ found f) (join-one w t (s .0)) (s .3))
+abbrev pub TakenAt : Terms → Terms → (Terms → Terms → Result) → Env → Type 0
+TakenAt w ts g f = (x : Terms) × (us : Terms) × (ts ≡ x ⧺ us) × Answers (g (w ⧺ x) us .out) f
 
-ifTrue-found : (m : Bool) (g : Unit {0} → Result) (f : Env) → ifTrue m g .out ≡ found f → g tt .out ≡ found f
+pub taken-now : (w ts : Terms) (g : Terms → Terms → Result) (f : Env) → Answers (g w ts .out) f → TakenAt w ts g f
+taken-now w ts g f h = (nil, ts, refl, subst (λ (y : Terms). Answers (g y ts .out) f) (sym (join-nil w)) h)
+
+pub taken-later : (w : Terms) (t : Term) (ts : Terms) (g : Terms → Terms → Result) (f : Env) → TakenAt (w ⧺ single t) ts g f → TakenAt w (t :: ts) g f
+taken-later w t ts g f s =
+    (t :: s .0, s .1, ap (t ::_) (s .2), subst (λ (y : Terms). Answers (g y (s .1) .out) f) (join-one w t (s .0)) (s .3))
+
+pub lengths-found : (ts w : Terms) (g : Terms → Terms → Result) (f : Env) → Answers (lengths w ts g .out) f → TakenAt w ts g f
+lengths-found nil w g f h = taken-now w nil g f h
+lengths-found (t :: ts) w g f h =
+    go (answers-after (g w (t :: ts) .out) (1 + g w (t :: ts) .cost) (λ u. lengths (w ⧺ single t) ts g) f h) (lengths-found ts (w ⧺ single t) g f)
+  where
+    go : Answers (g w (t :: ts) .out) f ⊎ Answers (lengths (w ⧺ single t) ts g .out) f
+        → (Answers (lengths (w ⧺ single t) ts g .out) f → TakenAt (w ⧺ single t) ts g f) → TakenAt w (t :: ts) g f
+    go (inl k) r = taken-now w (t :: ts) g f k
+    go (inr k) r = taken-later w t ts g f (r k)
+
+exactly-found : (n : ℕ) (ts w : Terms) (g : Terms → Terms → Result) (f : Env) → Answers (exactly n w ts g .out) f → TakenAt w ts g f
+exactly-found zero ts w g f h = taken-now w ts g f h
+exactly-found (suc n) nil w g f h = absurd h
+exactly-found (suc n) (t :: ts) w g f h = taken-later w t ts g f (exactly-found n ts (w ⧺ single t) g f h)
+
+pub fresh-found : (m : Tries) (ts : Terms) (g : Terms → Terms → Result) (f : Env) → Answers (tryFresh m ts g .out) f → TakenAt nil ts g f
+fresh-found every ts g f h = lengths-found ts nil g f h
+fresh-found (only n) ts g f h = exactly-found n ts nil g f h
+
+pub ifTrue-found : (m : Bool) (g : Unit {0} → Result) (f : Env) → Answers (ifTrue m g .out) f → Answers (g tt .out) f
 ifTrue-found true g f h = h
-ifTrue-found false g f h = absurd (failed-found h)
+ifTrue-found false g f h = absurd h
 
 -- a name or a run name has a place here, or further on
 place-here : (u at v : ℕ) (vs : List ℕ) (other : Option ℕ) → (among v vs ≡ true → (n : ℕ) × (other ≡ some n)) → among v (u ∷ vs) ≡ true
@@ -121,15 +150,15 @@ each-same f g e v (suc n) = ap₂ _∷_ (e v) (each-same f g e (suc v) n)
 
 module _ (l : Language) where
   name-places : (e : Env) (u at : ℕ) (w : Terms) (k : Next) (P : Assignment → ℕ → Option ℕ) → Places k P → (put : List Deferred) (f : Env)
-      (o : Option Terms) → e .value u ≡ o → ifSome (sameOr (l .classes) o w e (bind e u at w)) (λ g. k g put) .out ≡ found f
+      (o : Option Terms) → e .value u ≡ o → Answers (ifSome (sameOr (l .classes) o w e (bind e u at w)) (λ g. k g put) .out) f
       → (v : ℕ) → PlacedAt e f v (cond (eqb u v) (some at) (P (f .value) v))
   name-places e u at w k P j put f none q h = placed-fresh e f u at w (P (f .value)) q (j (bind e u at w) put f h)
   name-places e u at w k P j put f (some x) q h = go (sameTerms (l .classes) x w) h
     where
-      go : (m : Bool) → ifSome (cond m (some e) none) (λ g. k g put) .out ≡ found f
+      go : (m : Bool) → Answers (ifSome (cond m (some e) none) (λ g. k g put) .out) f
           → (v : ℕ) → PlacedAt e f v (cond (eqb u v) (some at) (P (f .value) v))
       go true h = placed-kept e f u at w (P (f .value)) x q (j e put f h)
-      go false h = absurd (failed-found h)
+      go false h = absurd h
 
   -- what is left behind what was taken is past it
   past-same : (w x us : Terms) → l ⊢ w ≋ x → past w (x ⧺ us) ≡ us
@@ -138,9 +167,9 @@ module _ (l : Language) where
   past-same (t :: w) nil us h = absurd (false≢true h)
   past-same (t :: w) (y :: x) us h = past-same w x us (cons-open l t y w x h .1)
 
-  rest-found : (w ts : Terms) (g : Terms → Result) (f : Env) (o : Option Terms) → behind (l .classes) w ts ≡ o → ifSome o g .out ≡ found f
-      → (x : Terms) × (us : Terms) × (l ⊢ w ≋ x) × (ts ≡ x ⧺ us) × (g us .out ≡ found f)
-  rest-found w ts g f none r h = absurd (failed-found h)
+  rest-found : (w ts : Terms) (g : Terms → Result) (f : Env) (o : Option Terms) → behind (l .classes) w ts ≡ o → Answers (ifSome o g .out) f
+      → (x : Terms) × (us : Terms) × (l ⊢ w ≋ x) × (ts ≡ x ⧺ us) × Answers (g us .out) f
+  rest-found w ts g f none r h = absurd h
   rest-found w ts g f (some us) r h = let i = behind-alike (l .classes) w ts us r in (i .0, us, i .2, i .1, h)
 
   rest-is : (o : Option Terms) (w x us ts : Terms) → o ≡ some w → l ⊢ w ≋ x → ts ≡ x ⧺ us → us ≡ past (assigned o) ts
@@ -151,22 +180,22 @@ module _ (l : Language) where
   rest-place P o w x us ts h i r = ap₂ P (sym (ap assigned h)) (rest-is o w x us ts h i r)
 
   module _ (e : Env) (u at : ℕ) (ts : Terms) (g h : Terms → Terms → Result) (f : Env) (P : Terms → Terms → ℕ → Option ℕ)
-      (fresh : (w us : Terms) → g w us .out ≡ found f
+      (fresh : (w us : Terms) → Answers (g w us .out) f
       → (v : ℕ) → PlacedAt (bind e u at w) f v (P w us v))
-      (kept : (w us : Terms) → h w us .out ≡ found f → (v : ℕ) → PlacedAt e f v (P w us v)) where
+      (kept : (w us : Terms) → Answers (h w us .out) f → (v : ℕ) → PlacedAt e f v (P w us v)) where
     abbrev Goal : (ℕ → Option ℕ) → Type 0
     Goal p = (v : ℕ) → PlacedAt e f v (cond (eqb u v) (some at) (p v))
 
-    run-places : (o : Option Terms) → e .value u ≡ o → tryRun (l .classes) o ts g h .out ≡ found f
+    run-places : (m : Tries) (o : Option Terms) → e .value u ≡ o → Answers (tryRun (l .classes) o m ts g h .out) f
         → Goal (P (assigned (f .value u)) (past (assigned (f .value u)) ts))
-    run-places none q r =
-        let s = lengths-found ts nil g f r in
+    run-places m none q r =
+        let s = fresh-found m ts g f r in
         let k = fresh (s .0) (s .1) (s .3) in
         let i : f .value u ≡ some (s .0) =
         (subst (λ (m : Bool). Placed (cond m (some (s .0)) (e .value u)) (cond m at (e .offset u)) (P (s .0) (s .1) u) (f .value u) (f .offset u))
         (eqb-same u) (k u)) .0 in
         subst Goal (rest-place P (f .value u) (s .0) (s .0) (s .1) ts i (same-terms (l .classes) (s .0)) (s .2)) (placed-fresh e f u at (s .0) (P (s .0) (s .1)) q k)
-    run-places (some w) q r =
+    run-places m (some w) q r =
         let s = rest-found w ts (h w) f (behind (l .classes) w ts) refl r in
         let k = kept w (s .1) (s .4) in
         let i : f .value u ≡ some w =
@@ -176,33 +205,33 @@ module _ (l : Language) where
   mutual
     unfolding search
 
-    search-places : (q : Pattern) (t : Term) (at : ℕ) (k : Next) (P : Assignment → ℕ → Option ℕ) → Places k P
-        → Places (λ e put. search (l .table) (l .classes) q t at e put k) (λ b v. place (l .table) q t at b v (P b v))
-    search-places (name u) t at k P j e put f h = name-places e u at (single t) k P j put f (e .value u) refl h
-    search-places (symbol s qs) (node r ts) at k P j e put f h =
-        searches-places qs ts (at + width (l .table) r) k P j e put f (ifTrue-found (eqb (classOf (l .classes) s) (classOf (l .classes) r)) (λ u. searches (l .table) (l .classes) qs ts (at + width (l .table) r) e put k) f h)
-    search-places (complement q) t at k P j e put f h = j e (put ++ ((λ g. search (l .table) (l .classes) q t at g [] finish) ∷ [])) f h
+    pub search-places : (how : ℕ → Tries) (q : Pattern) (t : Term) (at : ℕ) (k : Next) (P : Assignment → ℕ → Option ℕ) → Places k P
+        → Places (λ e put. search (l .table) (l .classes) how q t at e put k) (λ b v. place (l .table) q t at b v (P b v))
+    search-places how (name u) t at k P j e put f h = name-places e u at (single t) k P j put f (e .value u) refl h
+    search-places how (symbol s qs) (node r ts) at k P j e put f h =
+        searches-places how qs ts (at + width (l .table) r) k P j e put f (ifTrue-found (eqb (classOf (l .classes) s) (classOf (l .classes) r)) (λ u. searches (l .table) (l .classes) how qs ts (at + width (l .table) r) e put k) f h)
+    search-places how (complement q) t at k P j e put f h = j e (put ++ ((λ g. search (l .table) (l .classes) freely q t at g [] finish) ∷ [])) f h
 
-    searches-places : (qs : Children) (ts : Terms) (at : ℕ) (k : Next) (P : Assignment → ℕ → Option ℕ) → Places k P
-        → Places (λ e put. searches (l .table) (l .classes) qs ts at e put k) (λ b v. placeAll (l .table) qs ts at b v (P b v))
-    searches-places end nil at k P j e put f h = j e put f h
-    searches-places end (t :: ts) at k P j e put f h = absurd (failed-found h)
-    searches-places (plain q qs) nil at k P j e put f h = absurd (failed-found h)
-    searches-places (plain q qs) (t :: ts) at k P j e put f h =
-        search-places q t at (λ g ds. searches (l .table) (l .classes) qs ts (at + size (l .table) t) g ds k) (λ b v. placeAll (l .table) qs ts (at + size (l .table) t) b v (P b v))
-        (searches-places qs ts (at + size (l .table) t) k P j) e put f h
-    searches-places (run u qs) ts at k P j e put f h =
-        run-places e u at ts (λ w us. searches (l .table) (l .classes) qs us (at + sizes (l .table) w) (bind e u at w) put k)
-        (λ w us. searches (l .table) (l .classes) qs us (at + sizes (l .table) w) e put k) f
+    pub searches-places : (how : ℕ → Tries) (qs : Children) (ts : Terms) (at : ℕ) (k : Next) (P : Assignment → ℕ → Option ℕ) → Places k P
+        → Places (λ e put. searches (l .table) (l .classes) how qs ts at e put k) (λ b v. placeAll (l .table) qs ts at b v (P b v))
+    searches-places how end nil at k P j e put f h = j e put f h
+    searches-places how end (t :: ts) at k P j e put f h = absurd h
+    searches-places how (plain q qs) nil at k P j e put f h = absurd h
+    searches-places how (plain q qs) (t :: ts) at k P j e put f h =
+        search-places how q t at (λ g ds. searches (l .table) (l .classes) how qs ts (at + size (l .table) t) g ds k) (λ b v. placeAll (l .table) qs ts (at + size (l .table) t) b v (P b v))
+        (searches-places how qs ts (at + size (l .table) t) k P j) e put f h
+    searches-places how (run u qs) ts at k P j e put f h =
+        run-places e u at ts (λ w us. searches (l .table) (l .classes) how qs us (at + sizes (l .table) w) (bind e u at w) put k)
+        (λ w us. searches (l .table) (l .classes) how qs us (at + sizes (l .table) w) e put k) f
         (λ w us v. placeAll (l .table) qs us (at + sizes (l .table) w) (f .value) v (P (f .value) v))
-        (λ w us r. searches-places qs us (at + sizes (l .table) w) k P j (bind e u at w) put f r)
-        (λ w us r. searches-places qs us (at + sizes (l .table) w) k P j e put f r)
-        (e .value u) refl h
+        (λ w us r. searches-places how qs us (at + sizes (l .table) w) k P j (bind e u at w) put f r)
+        (λ w us r. searches-places how qs us (at + sizes (l .table) w) k P j e put f r)
+        (how u) (e .value u) refl h
 
   -- the offset of each variable that has a place is that of its first place
-  whole-places : (q : Pattern) (t : Term) (f : Env) → whole l q t .out ≡ found f
+  search-placed : (how : ℕ → Tries) (q : Pattern) (t : Term) (f : Env) → Answers (search (l .table) (l .classes) how q t zero start [] finish .out) f
       → (v n : ℕ) → place (l .table) q t zero (f .value) v none ≡ some n → f .offset v ≡ n
-  whole-places q t f h v n p = search-places q t zero finish (λ b v. none) finish-places start [] f h v n p
+  search-placed how q t f h v n p = search-places how q t zero finish (λ b v. none) finish-places start [] f h v n p
 
   -- each free variable has a place
   mutual
@@ -258,19 +287,21 @@ module _ (l : Language) where
         go none = refl
         go (some k) = refl
 
-    pub shown-at-first-place : TermOf l t → (e : Env) → whole l q t .out ≡ found e → parts (l .table) e ≡ partsAt (l .table) q t (e .value)
+    -- every answer that satisfies is shown at the first places
+    pub shown-at-first-places : (how : ℕ → Tries) (e : Env) → Answers (search (l .table) (l .classes) how q t zero start [] finish .out) e
+        → Satisfies l q t (e .value) → parts (l .table) e ≡ partsAt (l .table) q t (e .value)
     unfolding Extends
-    shown-at-first-place g e h =
+    shown-at-first-places how e h s =
         each-same (λ v. partOf (l .table) (e .value v) (e .offset v)) (partAt (l .table) q t (e .value)) each 0 variables
       where
-        s : Satisfies l q t (e .value)
-        s = found-first l q t g e h .satisfies
-
         each : (v : ℕ) → partOf (l .table) (e .value v) (e .offset v) ≡ partAt (l .table) q t (e .value) v
         each v =
             shows (e .offset v) (place (l .table) q t zero (e .value) v none) (among v (free q)) (e .value v) (s .exact v)
             (has-place q t zero (e .value) v [] none (s .holds) (λ m. absurd (false≢true m)))
-            (whole-places q t e h v)
+            (search-placed how q t e h v)
+
+    pub shown-at-first-place : TermOf l t → (e : Env) → Answers (whole l q t .out) e → parts (l .table) e ≡ partsAt (l .table) q t (e .value)
+    shown-at-first-place g e h = shown-at-first-places freely e h (answer-satisfies l q t g e h)
 
   -- assignments that count as one show the same parts, where the table bytes within a class are alike
 

@@ -25,7 +25,7 @@ abbrev pub countOf : Language → Pattern → Term → ℕ
 countOf l q t = whole l q t .cost
 
 abbrev pub shown : List ℕ → Outcome → ℕ → Answer
-shown table (found e) n = bound (parts table e) n
+shown table (found e m o) n = bound (parts table e) n
 shown table failed n = nothing n
 
 -- "if the count is over it the answer is spent and shows the allowance"

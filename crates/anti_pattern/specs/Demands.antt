@@ -2,10 +2,11 @@
 use Prim.Native.Nat.{ℕ, zero, _<_, _≤_}
 use mathlib.Core.Path.{_≡_}
 use mathlib.Core.Logic.{_⊎_, _↔_}
-use mathlib.Core.List.{List, []}
+use mathlib.Core.List.{List, [], _∷_, map}
 use mathlib.Core.Bool.{true, false}
 use mathlib.Core.Option.{none, some}
-use Rattle.term.specs.Part.{absent}
+use lib.ListN.{length, getD}
+use Rattle.term.specs.Part.{part, absent}
 use Rattle.term.specs.Pattern.{Pattern}
 use Rattle.term.specs.Term.{Term, Terms}
 use Rattle.term.specs.declared.Part.{Part}
@@ -14,12 +15,21 @@ use Rattle.anti_pattern.specs.AntiTerm.{Anti, Free, Substitution}
 use Rattle.anti_pattern.specs.Ground.{Way, Semantics}
 use Rattle.anti_pattern.specs.Language.{Language, language, _⊢_≈_}
 use Rattle.anti_pattern.specs.Meaning.{Assignment, SatisfiesOver, Satisfies, CountAsOne}
-use Rattle.anti_pattern.specs.Order.{runLengths, Smaller}
+use Rattle.anti_pattern.specs.Next.{follows, unknown, checkCount, nextCount, next}
+use Rattle.anti_pattern.specs.Order.{All, Member, Ascending, runLengths, Smaller}
 use Rattle.anti_pattern.specs.Place.{place, partAt, partsAt}
 use Rattle.anti_pattern.specs.Published.{_⊢_∈⟦_⟧, Solution, NoRuns, anti, assignment}
 use Rattle.anti_pattern.specs.Scope.{apart, Apart}
-use Rattle.anti_pattern.specs.Search.{Env, found, failed, whole}
-use Rattle.anti_pattern.specs.Variables.{free, among}
+use Rattle.anti_pattern.specs.Search.{Env, firstAnswer, answers, whole}
+use Rattle.anti_pattern.specs.Variables.{free, among, freeRuns}
+
+-- "not one for each free run name"
+abbrev pub OneForEach : Pattern → List ℕ → Type 0
+OneForEach q given = length given ≡ length (freeRuns q)
+
+-- the lengths that an answer shows for the free run names, in elements
+abbrev pub lengthsShown : Pattern → List Part → List ℕ
+lengthsShown q ps = map (λ v. getD ps v (part 0 0 0) .elements) (freeRuns q)
 
 module _ (l : Language) where
   -- the first of the satisfying assignments: "the one with the smaller length where these lists first differ"
@@ -31,17 +41,27 @@ module _ (l : Language) where
   abbrev pub Unsatisfied : Pattern → Term → Type 0
   Unsatisfied q t = (a : Assignment) → Satisfies l q t a → ⊥
 
+  -- every satisfying assignment, each counted once, in document 01's order: "Assignments that differ only within classes count as one."
+  pub record Enumerates (q : Pattern) (t : Term) (bs : List Assignment) : Type 0 where
+    pub ascending : Ascending (λ a b. Smaller (runLengths q a) (runLengths q b)) bs
+    pub satisfy : All (Satisfies l q t) bs
+    pub listed : (a : Assignment) → Satisfies l q t a → (b : Assignment) × Member b bs × CountAsOne l b a
+
+  -- those of the search, from the first answer on
+  abbrev pub assignments : Pattern → Term → List Assignment
+  assignments q t = map (λ e. e .value) (answers (whole l q t .out))
+
   module _ (q : Pattern) (t : Term) where
     -- 1. What the search finds satisfies, and every other satisfying assignment has later run lengths; where it fails, none satisfies.
     pub record SearchDecides : Type 0 where
-      pub found-first : (e : Env) → whole l q t .out ≡ found e → First q t (e .value)
-      pub failed-none : whole l q t .out ≡ failed → Unsatisfied q t
+      pub found-first : (e : Env) → firstAnswer (whole l q t .out) ≡ some e → First q t (e .value)
+      pub failed-none : firstAnswer (whole l q t .out) ≡ none → Unsatisfied q t
       -- "Equal lists mean equal satisfying assignments."
       pub equal-lengths : (a b : Assignment) → Satisfies l q t a → Satisfies l q t b → runLengths q a ≡ runLengths q b → CountAsOne l a b
 
     -- 2. The parts shown are those at the first places outside complements; a variable that is not free has none.
     pub record PartsShown : Type 0 where
-      pub shown-at-first-place : (e : Env) → whole l q t .out ≡ found e → parts (l .table) e ≡ partsAt (l .table) q t (e .value)
+      pub shown-at-first-place : (e : Env) → Member e (answers (whole l q t .out)) → parts (l .table) e ≡ partsAt (l .table) q t (e .value)
       pub free-placed : (a : Assignment) → Satisfies l q t a → (v : ℕ) → among v (free q) ≡ true
           → (at : ℕ) × (w : Terms) × (place (l .table) q t zero a v none ≡ some at) × (a v ≡ some w)
       pub others-absent : (a : Assignment) → Satisfies l q t a → (v : ℕ) → among v (free q) ≡ false → partAt (l .table) q t a v ≡ absent
@@ -73,6 +93,60 @@ module _ (l : Language) where
     -- 5. Terms outside the table would make no difference: over all trees the same assignments satisfy, and so within complements.
     abbrev pub OverTable : Type 0
     OverTable = (a : Assignment) → SatisfiesOver l (λ w. Unit {0}) q t a ↔ Satisfies l q t a
+
+  -- 6. Every answer, document 02's L3. The answer that is meant by the given lengths
+  pub record Given (q : Pattern) (t : Term) (given : List ℕ) (a : Assignment) : Type 0 where
+    pub satisfies : Satisfies l q t a
+    pub lengths : runLengths q a ≡ given
+
+  -- "the next in document 01's order": of the satisfying assignments after a, the first
+  pub record NextAfter (q : Pattern) (t : Term) (a b : Assignment) : Type 0 where
+    pub satisfies : Satisfies l q t b
+    pub later : Smaller (runLengths q a) (runLengths q b)
+    pub least : (c : Assignment) → Satisfies l q t c → Smaller (runLengths q a) (runLengths q c)
+        → Smaller (runLengths q b) (runLengths q c) ⊎ CountAsOne l b c
+
+  abbrev pub Last : Pattern → Term → Assignment → Type 0
+  Last q t a = (c : Assignment) → Satisfies l q t c → Smaller (runLengths q a) (runLengths q c) → ⊥
+
+  -- 15: the given lengths are not one for each free run name or, the check within the allowance, "belong to no answer"
+  abbrev pub UnknownLengths : Pattern → Term → List ℕ → ℕ → Type 0
+  UnknownLengths q t given allowance =
+      (OneForEach q given → ⊥) ⊎ (OneForEach q given × (checkCount l q t given ≤ allowance) × ((a : Assignment) → Given q t given a → ⊥))
+
+  module _ (q : Pattern) (t : Term) where
+    -- Unknown exactly for unknown lengths; spent exactly when the count is over the allowance; otherwise the next answer or none, by the meaning
+    -- alone, with the count.
+    pub record NextExact (given : List ℕ) (allowance : ℕ) : Type 0 where
+      pub unknown-exactly : (next l q t given allowance ≡ unknown) ↔ UnknownLengths q t given allowance
+      pub spent-exactly : (n : ℕ)
+          → (next l q t given allowance ≡ follows (spent n)) ↔ ((n ≡ allowance) × OneForEach q given × (allowance < nextCount l q t given))
+      pub none-exactly : (n : ℕ)
+          → (next l q t given allowance ≡ follows (nothing n))
+          ↔ ((n ≡ nextCount l q t given) × (nextCount l q t given ≤ allowance) × ((a : Assignment) × Given q t given a × Last q t a))
+      pub bound-exactly : (ps : List Part) (n : ℕ)
+          → (next l q t given allowance ≡ follows (bound ps n))
+          ↔ ((n ≡ nextCount l q t given) × (nextCount l q t given ≤ allowance)
+          × ((a : Assignment) × (b : Assignment) × Given q t given a × NextAfter q t a b × (ps ≡ partsAt (l .table) q t b)))
+      pub larger-allowance : (more : ℕ) → nextCount l q t given ≤ allowance → allowance ≤ more → next l q t given more ≡ next l q t given allowance
+
+    -- The calls, each with an allowance of its own: what those after the one that showed these lengths show, until there is none
+    pub data Asked : List ℕ → List (List Part) → Type 0 where
+      no-more : {given : List ℕ} (allowance n : ℕ) → next l q t given allowance ≡ follows (nothing n) → Asked given []
+      one-more : {given : List ℕ} {ps : List Part} {pss : List (List Part)} (allowance n : ℕ) → next l q t given allowance ≡ follows (bound ps n)
+          → Asked (lengthsShown q ps) pss → Asked given (ps ∷ pss)
+
+    -- and from the first on
+    pub data Calls : List (List Part) → Type 0 where
+      none-at-all : (allowance n : ℕ) → answer l q t allowance ≡ nothing n → Calls []
+      from-first : {ps : List Part} {pss : List (List Part)} (allowance n : ℕ) → answer l q t allowance ≡ bound ps n
+          → Asked (lengthsShown q ps) pss → Calls (ps ∷ pss)
+
+    -- "while no call is spent, the answers from the first on are all satisfying assignments, each once, in order"; and there are such calls
+    pub record EveryAnswer : Type 0 where
+      pub listed : Enumerates q t (assignments q t)
+      pub shown : (pss : List (List Part)) → Calls pss → pss ≡ map (partsAt (l .table) q t) (assignments q t)
+      pub callable : Calls (map (partsAt (l .table) q t) (assignments q t))
 
   -- What 001 leaves open makes no difference then: which complement is taken first and with which fresh variable; and, where the names are apart
   -- already, whether they are renamed.

@@ -6,6 +6,7 @@ pub mod Order
 pub mod Search
 pub mod Place
 pub mod Answer
+pub mod Next
 pub mod AntiTerm
 pub mod Ground
 pub mod Scope

@@ -18,6 +18,19 @@ lengthOf (some w) = count w
 abbrev pub runLengths : Pattern → Assignment → List ℕ
 runLengths q a = map (λ v. lengthOf (a v)) (freeRuns q)
 
+-- every one of a list, some one of it, and each before every one after it
+abbrev pub All : {A : Type 0} → (A → Type 0) → List A → Type 0
+All P [] = Unit {0}
+All P (x ∷ xs) = P x × All P xs
+
+abbrev pub Member : {A : Type 0} → A → List A → Type 0
+Member x [] = ⊥
+Member x (y ∷ ys) = (y ≡ x) ⊎ Member x ys
+
+abbrev pub Ascending : {A : Type 0} → (A → A → Type 0) → List A → Type 0
+Ascending R [] = Unit {0}
+Ascending R (x ∷ xs) = All (R x) xs × Ascending R xs
+
 -- "the smaller length where these lists first differ"
 abbrev pub Smaller : List ℕ → List ℕ → Type 0
 Smaller [] ys = ⊥

@@ -1,4 +1,5 @@
--- Document 01's marked rides A to L, and the rules and states of its report, with the answers stated there; and some up to class.
+-- Document 01's marked rides A to L, and the rules and states of its report, with the answers stated there; and some up to class. Calls for the
+-- next answer.
 use Prim.Native.Nat.{ℕ}
 use mathlib.Core.Path.{_≡_}
 use mathlib.Core.List.{List, [], _∷_, map}
@@ -10,6 +11,7 @@ use Rattle.term.specs.Term.{Term, node, Terms, nil, _::_, single}
 use Rattle.term.specs.declared.Part.{Part}
 use Rattle.anti_pattern.specs.Answer.{Answer, bound, nothing, spent, answer}
 use Rattle.anti_pattern.specs.Language.{Language, language}
+use Rattle.anti_pattern.specs.Next.{Following, follows, unknown, next}
 use Rattle.anti_pattern.specs.Place.{eachVariable}
 
 -- open, shut, held, gate (1), row (2), gates (list)
@@ -134,3 +136,46 @@ rides =
 -- each comes to the answer stated
 abbrev pub RidesHold : Type 0
 RidesHold = map (λ r. answer (r .language) (r .pattern) (r .term) (r .allowance)) rides ≡ map (λ r. r .expected) rides
+
+-- a call for the next answer after one that is told by its run lengths
+pub record Step : Type 0 where
+  pub language : Language
+  pub pattern : Pattern
+  pub term : Term
+  pub given : List ℕ
+  pub allowance : ℕ
+  pub expected : Following
+
+abbrev step : ℕ → Language → Pattern → Term → List ℕ → Following → Step
+step n l q t given f = record { language = l; pattern = q; term = t; given = given; allowance = n; expected = f }
+
+-- gates(@0, @1) on gates(open, shut), under an allowance
+abbrev pair : ℕ → List ℕ → Following → Step
+pair n = step n (language table []) (gatesᵖ (run 32 (run 33 end))) (gates (opened :: shut :: nil))
+
+abbrev pub steps : List Step
+steps =
+    -- its three answers, and none after the last
+    pair ample (0 ∷ 2 ∷ []) (follows (showing ((32, part 2 1 1) ∷ (33, part 3 1 1) ∷ []) 6))
+    ∷ pair ample (1 ∷ 1 ∷ []) (follows (showing ((32, part 2 2 2) ∷ (33, part 4 0 0) ∷ []) 5))
+    ∷ pair ample (2 ∷ 0 ∷ []) (follows (nothing 3))
+    -- lengths of no answer, too long, too few, too many
+    ∷ pair ample (0 ∷ 0 ∷ []) unknown
+    ∷ pair ample (3 ∷ 0 ∷ []) unknown
+    ∷ pair ample (2 ∷ []) unknown
+    ∷ pair ample (2 ∷ 0 ∷ 0 ∷ []) unknown
+    -- spent in the check and in the search resumed; the count itself is enough
+    ∷ pair 2 (0 ∷ 0 ∷ []) (follows (spent 2))
+    ∷ pair 3 (0 ∷ 0 ∷ []) unknown
+    ∷ pair 5 (0 ∷ 2 ∷ []) (follows (spent 5))
+    ∷ pair 6 (0 ∷ 2 ∷ []) (follows (showing ((32, part 2 1 1) ∷ (33, part 3 1 1) ∷ []) 6))
+    -- G: its answer is the last
+    ∷ step ample (language table []) (gatesᵖ (run 32 (plain (! openedᵖ) (run 33 end)))) (gates (opened :: shut :: nil)) (1 ∷ 0 ∷ []) (follows (nothing 6))
+    -- no free run names: the one answer is followed by none
+    ∷ step ample (language table []) (gateᵖ (name 0)) (gate opened) [] (follows (nothing 2))
+    -- up to class: gates(@0, @0) on gates(held, stopped)
+    ∷ step ample (language wider classes) (gatesᵖ (run 32 (run 32 end))) (gates (held :: stopped :: nil)) (1 ∷ []) (follows (nothing 5))
+    ∷ []
+
+abbrev pub StepsHold : Type 0
+StepsHold = map (λ s. next (s .language) (s .pattern) (s .term) (s .given) (s .allowance)) steps ≡ map (λ s. s .expected) steps

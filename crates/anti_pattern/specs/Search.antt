@@ -1,7 +1,7 @@
 -- The counted search: document 01's "The count". What comes after a pair is a function of the assignments made so far and of the
 -- complements put by. "Symbols of one class count as the same wherever a symbol or two parts are compared"; a call that brings no class list
 -- has the empty one.
-use Prim.Native.Nat.{ℕ, zero, _+_}
+use Prim.Native.Nat.{ℕ, zero, suc, _+_}
 use mathlib.Core.List.{List, [], _∷_, _++_}
 use mathlib.Core.Bool.{Bool, true, false, cond}
 use mathlib.Core.Option.{Option, none, some}
@@ -28,11 +28,21 @@ bind e v at w = record { value = update (e .value) v (some w); offset = update (
 abbrev pub start : Env
 start = record { value = unassigned; offset = λ v. zero }
 
+-- an answer and, for the search resumed after it, what is counted then and what that comes to; or no answer
 pub data Outcome : Type 0 where
-  found : Env → Outcome
+  found : Env → ℕ → Outcome → Outcome
   failed : Outcome
 
--- an outcome, and what was counted on the way to it
+abbrev pub firstAnswer : Outcome → Option Env
+firstAnswer (found e n o) = some e
+firstAnswer failed = none
+
+-- the answers, each by the search resumed after the one before it
+abbrev pub answers : Outcome → List Env
+answers (found e n o) = e ∷ answers o
+answers failed = []
+
+-- an outcome, and what was counted on the way to it: "to its first answer or its end"
 pub record Result : Type 0 where
   pub out : Outcome
   pub cost : ℕ
@@ -48,6 +58,10 @@ counted r = plus 1 r
 abbrev pub fail : Result
 fail = record { out = failed; cost = zero }
 
+-- an answer after so much is counted, and the search resumed after it
+abbrev pub answering : Env → ℕ → Result → Result
+answering e n r = record { out = found e (r .cost) (r .out); cost = n }
+
 abbrev pub ifTrue : Bool → (Unit {0} → Result) → Result
 ifTrue true f = f tt
 ifTrue false f = fail
@@ -56,9 +70,9 @@ abbrev pub ifSome : {A : Type 0} → Option A → (A → Result) → Result
 ifSome none f = fail
 ifSome (some x) f = f x
 
--- the first result if something was found, else the second
+-- the answers of the first result, and where these end those of the second
 abbrev pub after : Outcome → ℕ → (Unit {0} → Result) → Result
-after (found e) n f = record { out = found e; cost = n }
+after (found e m o) n f = answering e n (after o m f)
 after failed n f = plus n (f tt)
 
 abbrev pub orElse : Result → (Unit {0} → Result) → Result
@@ -73,18 +87,37 @@ Next = Env → List Deferred → Result
 
 -- "one that succeeds is a failure of the level around it, and the later ones are not begun"
 abbrev pub refuted : Outcome → ℕ → (Unit {0} → Result) → Result
-refuted (found e) n f = record { out = failed; cost = n }
+refuted (found e m o) n f = record { out = failed; cost = n }
 refuted failed n f = plus n (f tt)
 
 -- "When a level has no pair left, its put-by complements are searched in the order met"; "Assignments made inside are dropped."
 unfoldable pub finish : Env → List Deferred → Result
-finish e [] = record { out = found e; cost = zero }
+finish e [] = answering e zero fail
 finish e (d ∷ ds) = refuted (d e .out) (d e .cost) (λ u. finish e ds)
 
 -- "An unassigned run name tries lengths 0 up to the elements left in its list": w is taken, and then what is left
 abbrev pub lengths : Terms → Terms → (Terms → Terms → Result) → Result
 lengths w nil f = counted (f w nil)
 lengths w (t :: ts) f = orElse (counted (f w (t :: ts))) (λ u. lengths (w ⧺ single t) ts f)
+
+-- so many of the elements left, where there are so many: w is taken, and then what is left
+abbrev pub exactly : ℕ → Terms → Terms → (Terms → Terms → Result) → Result
+exactly zero w ts f = f w ts
+exactly (suc n) w nil f = fail
+exactly (suc n) w (t :: ts) f = exactly n (w ⧺ single t) ts f
+
+-- what an unassigned run name tries: every length, or "its given length only, fitting or not"
+pub data Tries : Type 0 where
+  every : Tries
+  only : ℕ → Tries
+
+-- every run name tries every length
+abbrev pub freely : ℕ → Tries
+freely v = every
+
+abbrev pub tryFresh : Tries → Terms → (Terms → Terms → Result) → Result
+tryFresh every ts f = lengths nil ts f
+tryFresh (only n) ts f = counted (exactly n nil ts f)
 
 module _ (classes : List ℕ) where
   -- "An unassigned name takes the node; an assigned one must equal it."
@@ -102,34 +135,34 @@ module _ (classes : List ℕ) where
   behind (t :: ts) (u :: us) = cond (sameTerm classes t u) (behind ts us) none
 
   -- an assigned run name "tries its own length only, counted even where it doesn't fit, and the elements there must equal its run"
-  abbrev pub tryRun : Option Terms → Terms → (Terms → Terms → Result) → (Terms → Terms → Result) → Result
-  tryRun none ts fresh same = lengths nil ts fresh
-  tryRun (some w) ts fresh same = counted (ifSome (behind w ts) (same w))
+  abbrev pub tryRun : Option Terms → Tries → Terms → (Terms → Terms → Result) → (Terms → Terms → Result) → Result
+  tryRun none how ts fresh same = tryFresh how ts fresh
+  tryRun (some w) how ts fresh same = counted (ifSome (behind w ts) (same w))
 
 module _ (table classes : List ℕ) where
   unfoldable mutual
-    -- a pattern node set against the term that stands at the offset; "A complement is put by."
-    pub search : Pattern → Term → ℕ → Env → List Deferred → Next → Result
-    search (name v) t at e put k = counted (ifSome (assign classes e v at (single t)) (λ f. k f put))
-    search (symbol s qs) (node r ts) at e put k =
-        counted (ifTrue (eqb (classOf classes s) (classOf classes r)) (λ u. searches qs ts (at + width table r) e put k))
-    search (complement q) t at e put k = counted (k e (put ++ ((λ f. search q t at f [] finish) ∷ [])))
+    -- a pattern node set against the term that stands at the offset; "A complement is put by.", and in it every length is tried
+    pub search : (ℕ → Tries) → Pattern → Term → ℕ → Env → List Deferred → Next → Result
+    search how (name v) t at e put k = counted (ifSome (assign classes e v at (single t)) (λ f. k f put))
+    search how (symbol s qs) (node r ts) at e put k =
+        counted (ifTrue (eqb (classOf classes s) (classOf classes r)) (λ u. searches how qs ts (at + width table r) e put k))
+    search how (complement q) t at e put k = counted (k e (put ++ ((λ f. search freely q t at f [] finish) ∷ [])))
 
     -- the child patterns left, and the elements left, of which the first stands at the offset: "A plain child pattern with no element
     -- left fails uncounted; so do elements left over once the pairs of the last child pattern are done"
-    pub searches : Children → Terms → ℕ → Env → List Deferred → Next → Result
-    searches end nil at e put k = k e put
-    searches end (t :: ts) at e put k = fail
-    searches (plain q qs) nil at e put k = fail
-    searches (plain q qs) (t :: ts) at e put k = search q t at e put (λ f ds. searches qs ts (at + size table t) f ds k)
-    searches (run v qs) ts at e put k =
-        tryRun classes (e .value v) ts
-        (λ w us. searches qs us (at + sizes table w) (bind e v at w) put k)
-        (λ w us. searches qs us (at + sizes table w) e put k)
+    pub searches : (ℕ → Tries) → Children → Terms → ℕ → Env → List Deferred → Next → Result
+    searches how end nil at e put k = k e put
+    searches how end (t :: ts) at e put k = fail
+    searches how (plain q qs) nil at e put k = fail
+    searches how (plain q qs) (t :: ts) at e put k = search how q t at e put (λ f ds. searches how qs ts (at + size table t) f ds k)
+    searches how (run v qs) ts at e put k =
+        tryRun classes (e .value v) (how v) ts
+        (λ w us. searches how qs us (at + sizes table w) (bind e v at w) put k)
+        (λ w us. searches how qs us (at + sizes table w) e put k)
 
   -- "the whole pattern is a level and so is the inside of each complement"
   abbrev pub level : Pattern → Term → ℕ → Env → Result
-  level q t at e = search q t at e [] finish
+  level q t at e = search freely q t at e [] finish
 
 -- the search of a whole pattern, "under no allowance, to its first answer or its end"
 abbrev pub whole : Language → Pattern → Term → Result

@@ -1,5 +1,6 @@
 -- The variables of a pattern. A variable is a number: the name ?i is i, the run name @j is 32 + j.
 use Prim.Native.Nat.{ℕ}
+use mathlib.Core.Path.{_≡_}
 use mathlib.Core.List.{List, [], _∷_}
 use mathlib.Core.Bool.{Bool, true, false, cond}
 use lib.Dec.{eqb}
@@ -25,6 +26,18 @@ free q = vars q []
 abbrev pub among : ℕ → List ℕ → Bool
 among i [] = false
 among i (v ∷ vs) = cond (eqb v i) true (among i vs)
+
+-- none of these variables is a name outside complements: "A name and a run name of one number are unrelated."
+abbrev mutual
+  pub NoName : List ℕ → Pattern → Type 0
+  NoName vs (name v) = among v vs ≡ false
+  NoName vs (symbol s qs) = NoNames vs qs
+  NoName vs (complement q) = Unit {0}
+
+  pub NoNames : List ℕ → Children → Type 0
+  NoNames vs end = Unit {0}
+  NoNames vs (plain q qs) = NoName vs q × NoNames vs qs
+  NoNames vs (run v qs) = NoNames vs qs
 
 -- the run names of the places outside complements, in the same order, in front of a list
 abbrev mutual

@@ -8,6 +8,7 @@ use mathlib.Core.Option.{Option, some}
 use lib.ListN.{length, getD, take, drop}
 use lib.Dec.{eqb}
 use borrow.Author.Tests.{eqb-true}
+use Rattle.term.specs.Code.{variables}
 use Rattle.term.specs.Class.{Alike}
 use Rattle.term.specs.Term.{Term, Terms, count, sizes}
 use Rattle.term.specs.Pattern.{Pattern, Children, name, symbol, complement, end, plain, run, patternTree, childTrees}
@@ -21,15 +22,17 @@ use Rattle.anti_pattern.specs.Answer.{Answer as Outcome, bound, nothing, spent,
 use Rattle.anti_pattern.specs.Demands.{First, PartsShown, AnswerExact, PublishedAgrees}
 use Rattle.anti_pattern.specs.Language.{TermOf}
 use Rattle.anti_pattern.specs.Meaning.{Assignment, Satisfies}
-use Rattle.anti_pattern.proofs.Meter.{Metered, met, metered}
+use Rattle.anti_pattern.proofs.Meter.{Metered, met}
 use Rattle.anti_pattern.specs.Place.{partOf, orAbsent, partAt, partsAt, eachVariable}
 use Rattle.anti_pattern.specs.Published.{NoRuns, assignment}
-use Rattle.anti_pattern.specs.Search.{Env, Outcome as Ended, found, failed, whole}
+use Rattle.anti_pattern.specs.Search.{Env, Outcome as Ended, found, failed, firstAnswer, whole}
 use Rattle.anti_pattern.specs.Variables.{vars, varsAll, free, among}
 use Rattle.anti_pattern.proofs.Allowance.{answer-over, answer-within, bound-found}
 use Rattle.anti_pattern.proofs.Demands.{search-decides, parts-shown, answer-exact, published-agrees}
 use Rattle.anti_pattern.proofs.Within.{accepted-of}
-use Rattle.anti_pattern.proofs.Metering.{meter-within}
+use Rattle.anti_pattern.proofs.First.{answer-satisfies}
+use Rattle.anti_pattern.proofs.Metering.{meter-within, metered-first}
+use Rattle.anti_pattern.proofs.Placed.{Answers, first-answers}
 use Rattle.search.specs.Level.{Reply, searchOf}
 use Rattle.matcher.specs.Call.{answerNumber, answerCount, classesOf, languageOf, broughtAccepted, Input, Checked, trees, checked, told, answerBy, answerOf, numbers, written, bufferBy, bufferOf}
 use Rattle.matcher.specs.Demands.{offsetIn, lengthIn, Shows, Answered, Published}
@@ -42,10 +45,10 @@ use Rattle.search.specs.Shown.{answerWidth}
 
 -- the free variables of an accepted pattern are among the 48
 
-first-below : (u v : ℕ) (vs : List ℕ) → u < 48 → (among v vs ≡ true → v < 48) → among v (u ∷ vs) ≡ true → v < 48
+first-below : (u v : ℕ) (vs : List ℕ) → u < variables → (among v vs ≡ true → v < variables) → among v (u ∷ vs) ≡ true → v < variables
 first-below u v vs low k = go (eqb u v) refl
   where
-    go : (b : Bool) → eqb u v ≡ b → cond b true (among v vs) ≡ true → v < 48
+    go : (b : Bool) → eqb u v ≡ b → cond b true (among v vs) ≡ true → v < variables
     go true e h = omega (arith, eqb-true u v e)
     go false e h = k h
 
@@ -53,59 +56,59 @@ mutual
   unfolding Fits Written
 
   vars-below : (table : List ℕ) (q : Pattern) (left : ℕ) (inList : Bool) → Fits table false (patternTree q) left inList
-      → (v : ℕ) (vs : List ℕ) → (among v vs ≡ true → v < 48) → among v (vars q vs) ≡ true → v < 48
+      → (v : ℕ) (vs : List ℕ) → (among v vs ≡ true → v < variables) → among v (vars q vs) ≡ true → v < variables
   vars-below table (name u) left inList f v vs k h = first-below u v vs (omega (arith, f .1)) k h
   vars-below table (symbol s qs) left inList f v vs k h = all-below table qs (belowOf (Symbol s) left) (listCode table (Symbol s)) (f .3) v vs k h
   vars-below table (complement q) left inList f v vs k h = k h
 
   all-below : (table : List ℕ) (qs : Children) (left : ℕ) (inList : Bool) → FitAll table false (childTrees qs) left inList
-      → (v : ℕ) (vs : List ℕ) → (among v vs ≡ true → v < 48) → among v (varsAll qs vs) ≡ true → v < 48
+      → (v : ℕ) (vs : List ℕ) → (among v vs ≡ true → v < variables) → among v (varsAll qs vs) ≡ true → v < variables
   all-below table end left inList f v vs k h = k h
   all-below table (plain q qs) left inList f v vs k h =
       vars-below table q left inList (f .0) v (varsAll qs vs) (all-below table qs left inList (f .1) v vs k) h
   all-below table (run u qs) left inList f v vs k h =
       first-below u v (varsAll qs vs) (f .0 .1 .1) (all-below table qs left inList (f .1) v vs k) h
 
--- what the search finds is shown
+-- each answer of the search is shown
 
 module _ (table : List ℕ) (brought : Option (List ℕ)) (pattern bytes : List ℕ) (k : Alike table (classesOf brought)) (q : Pattern) (t : Term)
-    (i : Input table pattern bytes q t) (e : Env) (o : whole (languageOf table brought) q t .out ≡ found e)
+    (i : Input table pattern bytes q t) (e : Env) (o : Answers (whole (languageOf table brought) q t .out) e)
     (ps : List Part) (h : Shown table bytes ps e) (rest : List ℕ) where
   satisfies : Satisfies (languageOf table brought) q t (e .value)
-  satisfies = search-decides (languageOf table brought) k q t (accepted-of (languageOf table brought) t (i .record-accepted)) .found-first e o .satisfies
+  satisfies = answer-satisfies (languageOf table brought) q t (accepted-of (languageOf table brought) t (i .record-accepted)) e o
 
   placed : PartsShown (languageOf table brought) q t
   placed = parts-shown (languageOf table brought) k q t (accepted-of (languageOf table brought) t (i .record-accepted))
 
-  below : (v : ℕ) → among v (free q) ≡ true → v < 48
+  below : (v : ℕ) → among v (free q) ≡ true → v < variables
   below v m =
       vars-below table q 32 false (i .pattern-accepted .fits) v []
       (λ k. let z : _≡_ {A = ℕ} 0 1 = ap (λ (b : Bool). cond b 1 0) k in absurd (omega arith)) m
 
   -- the pair of a variable, by what is assigned to it and by its first place
-  pair-is : (v : ℕ) → v < 48 → (p : Part) → getD (parts table e) v (part 0 0 0) ≡ p
+  pair-is : (v : ℕ) → v < variables → (p : Part) → getD (parts table e) v (part 0 0 0) ≡ p
       → (offsetIn (numbers (parts table e) ++ rest) v ≡ p .offset) × (lengthIn (numbers (parts table e) ++ rest) v ≡ p .length)
   pair-is v low p z = (
     offset-shown (parts table e) rest v low ∙ ap (λ (x : Part). x .offset) z,
     length-shown (parts table e) rest v low ∙ ap (λ (x : Part). x .length) z,
   )
 
-  each-is : (f : ℕ → Part) (v : ℕ) → v < 48 → parts table e ≡ eachVariable f → getD (parts table e) v (part 0 0 0) ≡ f v
+  each-is : (f : ℕ → Part) (v : ℕ) → v < variables → parts table e ≡ eachVariable f → getD (parts table e) v (part 0 0 0) ≡ f v
   each-is f v low z =
       let k : 0 + v ≡ v = omega arith in
-      ap (λ (l : List Part). getD l v (part 0 0 0)) z ∙ each-at f 0 48 v low ∙ ap f k
+      ap (λ (l : List Part). getD l v (part 0 0 0)) z ∙ each-at f 0 variables v low ∙ ap f k
 
-  value-pair : (v : ℕ) (w : Terms) → v < 48 → e .value v ≡ some w
+  value-pair : (v : ℕ) (w : Terms) → v < variables → e .value v ≡ some w
       → (offsetIn (numbers (parts table e) ++ rest) v ≡ e .offset v) × (lengthIn (numbers (parts table e) ++ rest) v ≡ sizes table w)
   value-pair v w low z =
       pair-is v low (part (e .offset v) (sizes table w) (count w))
       (each-is (λ u. partOf table (e .value u) (e .offset u)) v low refl ∙ ap (λ (x : Option Terms). partOf table x (e .offset v)) z)
 
-  place-pair : (v : ℕ) → v < 48 → (p : Part) → partAt table q t (e .value) v ≡ p
+  place-pair : (v : ℕ) → v < variables → (p : Part) → partAt table q t (e .value) v ≡ p
       → (offsetIn (numbers (parts table e) ++ rest) v ≡ p .offset) × (lengthIn (numbers (parts table e) ++ rest) v ≡ p .length)
   place-pair v low p z = pair-is v low p (each-is (partAt table q t (e .value)) v low (placed .shown-at-first-place e o) ∙ z)
 
-  env-shown : Shows table bytes q t (e .value) (numbers (parts table e) ++ rest)
+  pub env-shown : Shows table bytes q t (e .value) (numbers (parts table e) ++ rest)
   env-shown = record {
     first-place = λ v m.
         let f = placed .free-placed (e .value) satisfies v m in
@@ -144,11 +147,11 @@ module _ (table : List ℕ) (brought : Option (List ℕ)) (pattern bytes : List 
   of : TermOf (languageOf table brought) t
   of = accepted-of (languageOf table brought) t (i .record-accepted)
 
-  found-shown : (e : Env) → countOf (languageOf table brought) q t ≤ allowance → whole (languageOf table brought) q t .out ≡ found e
+  found-shown : (e : Env) → countOf (languageOf table brought) q t ≤ allowance → firstAnswer (whole (languageOf table brought) q t .out) ≡ some e
       → Shown table bytes (searchOf table (classesOf brought) pattern bytes allowance .parts) e
   found-shown e within o =
       shown-by (subst (λ (m : Metered). Agrees table bytes m (searchOf table (classesOf brought) pattern bytes allowance))
-      (meter-within allowance (whole (languageOf table brought) q t) within ∙ ap (λ (x : Ended). metered true x (allowance - countOf (languageOf table brought) q t)) o)
+      (meter-within allowance (whole (languageOf table brought) q t) within ∙ metered-first (whole (languageOf table brought) q t .out) e (allowance - countOf (languageOf table brought) q t) o)
       (whole-agrees table (classesOf brought) pattern bytes k q t i allowance))
 
   bound-shows : (before : List ℕ) → answerNumber (told (answer (languageOf table brought) q t allowance)) ≡ 0
@@ -161,11 +164,11 @@ module _ (table : List ℕ) (brought : Option (List ℕ)) (pattern bytes : List 
         e .value,
         search-decides (languageOf table brought) k q t of .found-first e (f .1 .1),
         subst (Shows table bytes q t (e .value)) (ap (λ (o : Outcome). written o before) (sym z))
-            (env-shown table brought pattern bytes k q t i e (f .1 .1) _ (found-shown e (f .0) (f .1 .1)) (drop answerWidth before)),
+            (env-shown table brought pattern bytes k q t i e (first-answers (whole (languageOf table brought) q t .out) e (f .1 .1)) _ (found-shown e (f .0) (f .1 .1)) (drop answerWidth before)),
       )
 
   count-told : (o : Ended) (n : ℕ) → answerCount (told (shown table o n)) ≡ n
-  count-told (found e) n = refl
+  count-told (found e m o) n = refl
   count-told failed n = refl
 
   module _ (before : List ℕ) (pattern-octets : Octets pattern) (record-octets : Octets bytes) (wide : answerWidth ≤ length before)

@@ -26,23 +26,28 @@ use Rattle.matcher.proofs.Matched.{bytes-answered}
 use Rattle.search.specs.Shown.{answerWidth}
 
 -- what is told is no refusal
-told-refused : (o : Outcome) (r : Refusal) → answerNumber (told o) ≡ numberOf r → ⊥
+pub told-refused : (o : Outcome) (r : Refusal) → answerNumber (told o) ≡ numberOf r → ⊥
 told-refused (bound ps n) r e = word-or-refusal 0 refl r e
 told-refused (nothing n) r e = word-or-refusal 10 refl r e
 told-refused (spent n) r e = word-or-refusal 11 refl r e
 
 -- and shows no count
-refused-count : (a : Answer) (r : Refusal) → answerNumber a ≡ numberOf r → answerCount a ≡ 0
+pub refused-count : (a : Answer) (r : Refusal) → answerNumber a ≡ numberOf r → answerCount a ≡ 0
 refused-count (Bound n) r e = absurd (word-or-refusal 0 refl r e)
 refused-count (None n) r e = absurd (word-or-refusal 10 refl r e)
 refused-count (Spent n) r e = absurd (word-or-refusal 11 refl r e)
 refused-count (Refused x) r e = refl
 
 -- a buffer of the same length keeps what lies past 96
-written-past : (before : List ℕ) (o : Outcome) → length (written o before) ≡ length before → drop answerWidth (written o before) ≡ drop answerWidth before
+pub written-past : (before : List ℕ) (o : Outcome) → length (written o before) ≡ length before → drop answerWidth (written o before) ≡ drop answerWidth before
 written-past before (bound ps n) same = past-written ps before (written (bound ps n) before) same refl
 written-past before (nothing n) same = refl
 written-past before (spent n) same = refl
+
+-- where all checks pass there are trees
+pub passes-by : (c : Checked) → Passed ≡ checkOf c → (q : Pattern) × (t : Term) × (c ≡ trees q t)
+passes-by (fault x) e = let z : _≡_ {A = ℕ} 0 1 = cc in absurd (omega arith)
+passes-by (trees q t) e = (q, t, refl)
 
 module _ (table : List ℕ) (brought : Option (List ℕ)) (pattern bytes before : List ℕ) (allowance : ℕ) (pattern-octets : Octets pattern) (record-octets : Octets bytes) where
   refused-of : (c : Checked) → checked table brought pattern bytes (length before) ≡ c
@@ -102,10 +107,6 @@ module _ (table : List ℕ) (brought : Option (List ℕ)) (pattern bytes before 
   pub fails-called : {k : Check} {r : Refusal} → k ≡ checkOf (checked table brought pattern bytes (length before)) → k ≡ Failed r → Called (Refused r) before
   unfolding answerOf bufferOf
   fails-called {k} {r} e f = let z = fails-by (checked table brought pattern bytes (length before)) r (sym f ∙ e) in called (Refused r) before (z .0) (z .1) refl
-
-  passes-by : (c : Checked) → Passed ≡ checkOf c → (q : Pattern) × (t : Term) × (c ≡ trees q t)
-  passes-by (fault x) e = let z : _≡_ {A = ℕ} 0 1 = cc in absurd (omega arith)
-  passes-by (trees q t) e = (q, t, refl)
 
   -- where all pass, and the search takes the class list that is brought, or an empty one
   pub passes-called : {k : Check} → k ≡ checkOf (checked table brought pattern bytes (length before)) → k ≡ Passed

@@ -6,6 +6,8 @@ use mathlib.Core.List.{List, [], _∷_}
 use mathlib.Core.Bool.{false}
 use lib.ListN.{length, take, drop, length-drop, length-take}
 use borrow.Author.Tests.{ne-eqb, eq-eqb}
+use Rattle.term.specs.Limits.{longestPattern, longestRecord}
+use Rattle.term.specs.Code.{variables}
 use Rattle.term.specs.Tree.{listCode, encode}
 use Rattle.term.specs.Term.{Term, Terms, nil, _::_, _⧺_, count, single, sizes}
 use Rattle.term.specs.Pattern.{Pattern, Children, end, plain, run, patternTree, childTrees, patternBytes}
@@ -13,7 +15,7 @@ use Rattle.term.specs.Extent.{extentOf}
 use Rattle.term.specs.declared.Code.the-variants.{Run}
 use Rattle.term.specs.declared.Part.{Part}
 use Rattle.term.proofs.SameParts.{branch-some}
-use Rattle.anti_pattern.specs.Search.{Env, Result, bind, lengths}
+use Rattle.anti_pattern.specs.Search.{Env, Result, bind, lengths, freely}
 use Rattle.anti_pattern.proofs.Machine.{Frame, Pending, frame, machine}
 use Rattle.anti_pattern.proofs.Meter.{Metered, meter, thenMeter, refuteMeter}
 use Rattle.anti_pattern.proofs.Facts.{join-one, count-join}
@@ -34,7 +36,7 @@ module _ {table bytes : List ℕ} where
   pub carry : {m n : Metered} {r q : Reply} → m ≡ n → r ≡ q → Agrees table bytes n q → Agrees table bytes m r
   carry {m} {n} {r} {q} e f a = rw (e, f) a
 
-  or-then : {m : Metered} {r : Reply} (f : Unit {0} → Result) (next : ℕ → Reply) → Agrees table bytes m r
+  pub or-then : {m : Metered} {r : Reply} (f : Unit {0} → Result) (next : ℕ → Reply) → Agrees table bytes m r
       → ((n : ℕ) → Agrees table bytes (meter n (f tt)) (next n)) → Agrees table bytes (thenMeter m f) (orElse r next)
   or-then f next (is-found h) k = is-found h
   or-then f next (is-failed {left}) k = k left
@@ -71,17 +73,17 @@ start-represents table pattern bytes parts e q t node c l stands shown = record 
 -- what a search of levels, at most n within one another, is to reply
 abbrev pub Searches : List ℕ → List ℕ → List ℕ → ℕ → (List ℕ → State → ℕ → Reply) → Type 0
 Searches table classes bytes n lv =
-    (pattern : List ℕ) → length pattern ≤ 256 → (s : State) (qs : Children) (ts : Terms) (fs : List Frame) (e : Env) (ds : List Pending) (left : ℕ)
+    (pattern : List ℕ) → length pattern ≤ longestPattern → (s : State) (qs : Children) (ts : Terms) (fs : List Frame) (e : Env) (ds : List Pending) (left : ℕ)
     → Represents table pattern bytes s qs ts fs e ds → levels pattern (s .place .at) ≤ n
-    → Agrees table bytes (meter left (machine table classes (frame qs ts (s .place .node) ∷ fs) e ds)) (lv pattern s left)
+    → Agrees table bytes (meter left (machine table classes freely (frame qs ts (s .place .node) ∷ fs) e ds)) (lv pattern s left)
 
 module _ (table classes bytes : List ℕ) (n : ℕ) (lv : List ℕ → State → ℕ → Reply) (searches : Searches table classes bytes n lv) (pattern : List ℕ)
-    (narrow : length pattern ≤ 256) where
+    (narrow : length pattern ≤ longestPattern) where
   -- the lengths of an unassigned run name
-  module _ (small : length table ≤ 200) (short : length bytes ≤ 4096) (s : State) (v : ℕ) (qs : Children) (ts : Terms) (fs : List Frame) (e : Env)
+  module _ (small : length table ≤ 200) (short : length bytes ≤ longestRecord) (s : State) (v : ℕ) (qs : Children) (ts : Terms) (fs : List Frame) (e : Env)
       (ds : List Pending)
-      (h : Represents table pattern bytes s (run v qs) ts fs e ds) (above : 32 ≤ v) (low : v < 48) (few : levels pattern (s .place .at + 1) ≤ n) where
-    run-bound : (w us : Terms) → ts ≡ w ⧺ us
+      (h : Represents table pattern bytes s (run v qs) ts fs e ds) (above : 32 ≤ v) (low : v < variables) (few : levels pattern (s .place .at + 1) ≤ n) where
+    pub run-bound : (w us : Terms) → ts ≡ w ⧺ us
         → Represents table pattern bytes (tried s v (count w) (sizes table w)) qs us fs (bind e v (s .place .node) w) ds
     unfolding listCode
     run-bound w us z =
@@ -90,8 +92,8 @@ module _ (table classes bytes : List ℕ) (n : ℕ) (lv : List ℕ → State →
         (shown-bind table bytes short (s .parts) e v (s .place .node) w low (λ k. omega arith) (h .shown)
         (here-stands table pattern bytes (s .place) (s .frames) (run v qs) w us fs (g .here)))
 
-    abbrev bound : Terms → Terms → Result
-    bound w us = machine table classes (frame qs us (s .place .node + sizes table w) ∷ fs) (bind e v (s .place .node) w) ds
+    abbrev pub bound : Terms → Terms → Result
+    bound w us = machine table classes freely (frame qs us (s .place .node + sizes table w) ∷ fs) (bind e v (s .place .node) w) ds
 
     lengths-spent : (k m size left : ℕ) → left ≡ 0 → lengthsOf (lv pattern) table bytes v s k m size left ≡ spentAt left
     unfolding lengthsOf
@@ -108,7 +110,7 @@ module _ (table classes bytes : List ℕ) (n : ℕ) (lv : List ℕ → State →
     unfolding lengthsOf
     lengths-next k m size m′ size′ left i x y = rw (ne-eqb left 0 (λ z. omega arith), x, y)
 
-    next-size : (w : Terms) (t : Term) (us : Terms) → ts ≡ w ⧺ (t :: us)
+    pub next-size : (w : Terms) (t : Term) (us : Terms) → ts ≡ w ⧺ (t :: us)
         → sizes table w + extentOf table (drop (s .place .node + sizes table w) bytes) ≡ sizes table (w ⧺ single t)
     next-size w t us z =
         let g = run-bound w (t :: us) z .here in
@@ -117,7 +119,7 @@ module _ (table classes bytes : List ℕ) (n : ℕ) (lv : List ℕ → State →
         omega (arith, sizes-join table w (single t))
 
     -- from the elements w on, with us left
-    abbrev Goes : Terms → Terms → ℕ → Type 0
+    abbrev pub Goes : Terms → Terms → ℕ → Type 0
     Goes w us left =
         Agrees table bytes (meter left (lengths w us bound)) (lengthsOf (lv pattern) table bytes v s (count us) (count w) (sizes table w) left)
 
@@ -128,7 +130,7 @@ module _ (table classes bytes : List ℕ) (n : ℕ) (lv : List ℕ → State →
         carry (ap (λ (m : ℕ). meter m (lengths w us bound)) k ∙ length-used-up w us bound)
         (lengths-spent (count us) (count w) (sizes table w) left k) is-spent
 
-    lengths-from : (us w : Terms) (left : ℕ) → ts ≡ w ⧺ us → Goes w us left
+    pub lengths-from : (us w : Terms) (left : ℕ) → ts ≡ w ⧺ us → Goes w us left
     lengths-from nil w left z =
         lengths-by w nil left (λ i.
         carry (step-last-length left i w bound) (lengths-last (count w) (sizes table w) left i)
@@ -163,7 +165,7 @@ module _ (table classes bytes : List ℕ) (n : ℕ) (lv : List ℕ → State →
 
   inside-agrees : (parts : List Part) (e : Env) (c : PutBy) (d : Pending) (left : ℕ) → Shown table bytes parts e → Waits table pattern bytes c d
       → 257 * length pattern ≤ n
-      → Agrees table bytes (meter left (machine table classes (frame (plain (d .inside) end) (single (d .term)) (d .at) ∷ []) e []))
+      → Agrees table bytes (meter left (machine table classes freely (frame (plain (d .inside) end) (single (d .term)) (d .at) ∷ []) e []))
       (lv (take (c .size) (drop (c .at + 1) pattern)) (startOf parts (c .node)) left)
   inside-agrees parts e c d left shown w few =
       let i = take (c .size) (drop (c .at + 1) pattern) in
@@ -175,18 +177,18 @@ module _ (table classes bytes : List ℕ) (n : ℕ) (lv : List ℕ → State →
         ap length (w .codes),
         branch-some table (patternTree (d .inside)) [],
       ) in
-      carry (ap (λ (m : ℕ). meter left (machine table classes (frame (plain (d .inside) end) (single (d .term)) m ∷ []) e [])) (w .at)) refl
+      carry (ap (λ (m : ℕ). meter left (machine table classes freely (frame (plain (d .inside) end) (single (d .term)) m ∷ []) e [])) (w .at)) refl
       (searches i (omega arith) (startOf parts (c .node)) (plain (d .inside) end) (single (d .term)) [] e [] left
       (start-represents table i bytes parts e (d .inside) (d .term) (c .node) (w .codes) (w .limited) (w .stands) shown)
       (omega arith))
 
   pub complements-agree : (parts : List Part) (e : Env) (cs : List PutBy) (ds : List Pending) (left : ℕ) → Shown table bytes parts e
       → AllWait table pattern bytes cs ds → 257 * length pattern ≤ n
-      → Agrees table bytes (meter left (machine table classes [] e ds)) (complementsOf lv pattern parts cs left)
-  complements-agree parts e [] [] left shown w few = carry (step-found table classes e left) (complements-none parts left) (is-found shown)
+      → Agrees table bytes (meter left (machine table classes freely [] e ds)) (complementsOf lv pattern parts cs left)
+  complements-agree parts e [] [] left shown w few = carry (step-found table classes freely e left) (complements-none parts left) (is-found shown)
   complements-agree parts e [] (d ∷ ds) left shown w few = absurd w
   complements-agree parts e (c ∷ cs) [] left shown w few = absurd w
   complements-agree parts e (c ∷ cs) (d ∷ ds) left shown w few =
-      carry (step-refute table classes e d ds left) (complements-next parts c cs left)
-      (refute-then (λ u. machine table classes [] e ds) (complementsOf lv pattern parts cs) (inside-agrees parts e c d left shown (w .0) few)
+      carry (step-refute table classes freely e d ds left) (complements-next parts c cs left)
+      (refute-then (λ u. machine table classes freely [] e ds) (complementsOf lv pattern parts cs) (inside-agrees parts e c d left shown (w .0) few)
       (λ l. complements-agree parts e cs ds l shown (w .1) few))

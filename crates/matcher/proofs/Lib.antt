@@ -6,8 +6,13 @@ pub mod Turns
 pub mod Levels
 pub mod Walks
 pub mod Linked
+pub mod Givens
+pub mod Followed
+pub mod Spreading
+pub mod NextBytes
 pub mod Buffers
 pub mod Checks
 pub mod Answered
 pub mod Matched
 pub mod Demanded
+pub mod NextDemanded

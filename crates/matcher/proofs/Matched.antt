@@ -1,7 +1,7 @@
 -- The match of any bytes, by the search's reply.
 use Prim.Native.Nat.{ℕ, _<_, _≤_}
 use mathlib.Core.Path.{_≡_, refl, sym, _∙_, ap}
-use mathlib.Core.List.{List}
+use mathlib.Core.List.{List, []}
 use lib.ListN.{length}
 use borrow.Author.Tests.{lt-ltb, le-ltb}
 use Rattle.term.specs.Class.{Alike}
@@ -17,13 +17,19 @@ use Rattle.search.specs.declared.Ended.{Ended}
 use Rattle.search.specs.declared.Outcome.{Outcome}
 use Rattle.search.specs.declared.Outcome.the-variants.{Found, Failed, Spent}
 use Rattle.search.proofs.Lefts.{search-left}
-use Rattle.matcher.specs.Call.{Input, told, numbers, written, repliedBy, replied, outcomeOnBytes, answerOnBytes, bufferOnBytes}
+use Rattle.matcher.specs.Call.{Input, told, written, repliedBy, outcomeOnBytes, answerOnBytes, bufferOnBytes}
 use Rattle.matcher.specs.declared.Answer.{Answer}
 use Rattle.matcher.specs.declared.Answer.the-variants.{Refused}
 use Rattle.matcher.proofs.Linked.{linked}
 
 pub left-within : (table classes pattern bytes : List ℕ) (allowance : ℕ) (e : Ended) → e ≡ endOf (searchOf table classes pattern bytes allowance) → e .left ≤ allowance
 left-within table classes pattern bytes allowance e s = rw s (search-left table classes bytes pattern allowance)
+
+-- what is told does not depend on the parts
+pub told-parts : (o : Outcome) (allowance left : ℕ) (ps : List Part) → told (repliedBy o allowance left []) ≡ told (repliedBy o allowance left ps)
+told-parts Found allowance left ps = refl
+told-parts Failed allowance left ps = refl
+told-parts Spent allowance left ps = refl
 
 module _ (table classes pattern bytes before : List ℕ) (allowance : ℕ) where
   -- answer and final buffer on any bytes
@@ -37,7 +43,7 @@ module _ (table classes pattern bytes before : List ℕ) (allowance : ℕ) where
 
   module _ (wide : answerWidth ≤ length before) where
     -- what the search shows is what its answer writes
-    shown-by : (o : Outcome) (left : ℕ) (parts : List Part) → shownBy o parts before ≡ written (repliedBy o allowance left parts) before
+    pub shown-by : (o : Outcome) (left : ℕ) (parts : List Part) → shownBy o parts before ≡ written (repliedBy o allowance left parts) before
     unfolding shownBy
     shown-by Found left parts = rw (le-ltb (length before) answerWidth wide)
     shown-by Failed left parts = refl
@@ -46,12 +52,12 @@ module _ (table classes pattern bytes before : List ℕ) (allowance : ℕ) where
     abbrev searched : Reply
     searched = searchOf table classes pattern bytes allowance
 
-    pub search-matched : (o : Outcome) (e : Ended) → e .outcome ≡ o → e ≡ endOf searched → (after : List ℕ) → after ≡ shownIn searched before
-        → OnBytes (told (repliedBy o allowance (e .left) (searched .parts))) after
+    pub search-matched : (e : Ended) → e ≡ endOf searched → (a : Answer) → a ≡ told (repliedBy (e .outcome) allowance (e .left) [])
+        → (after : List ℕ) → after ≡ shownIn searched before → OnBytes a after
     unfolding outcomeOnBytes answerOnBytes bufferOnBytes
-    search-matched o e h s after f =
+    search-matched e s a h after f =
         rw (le-ltb (length before) answerWidth wide) (
-          ap (λ (x : Outcome). told (repliedBy x allowance (e .left) (searched .parts))) (sym h)
+          h ∙ told-parts (e .outcome) allowance (e .left) (searched .parts)
               ∙ ap (λ (x : Ended). told (repliedBy (x .outcome) allowance (x .left) (searched .parts))) s,
           f ∙ shown-by (searched .outcome) (searched .left) (searched .parts),
         )

@@ -9,10 +9,11 @@ use lib.ListN.{length, getD, take, set, replicate, length-set, length-replicate,
 use lib.Seq.{getD-set-same, getD-set-other}
 use lib.Dec.{eqb, leb}
 use borrow.Author.Tests.{eqb-true, eqb-false, leb-true, le-leb, ne-eqb}
+use Rattle.term.specs.Code.{variables}
 use Rattle.term.specs.Term.{Terms, _⧺_, count, sizes, termTrees, termsBytes}
 use Rattle.term.specs.Class.{Alike}
 use Rattle.term.specs.Same.{samePart}
-use Rattle.term.specs.Limits.{FitAll}
+use Rattle.term.specs.Limits.{FitAll, longestRecord}
 use Rattle.term.specs.Part.{part, absent, isAbsent, boundPart, partBytes}
 use Rattle.term.specs.declared.Part.{Part}
 use Rattle.term.proofs.Sizes.{terms-length, take-terms}
@@ -76,7 +77,7 @@ module _ (table bytes : List ℕ) where
             (termsBytes table (c .1) after) (c .3) x in
             (c .1, ap (behind classes w) (c .2) ∙ alike-behind classes w (c .0) (c .1) y)
 
-  module _ (short : length bytes ≤ 4096) where
+  module _ (short : length bytes ≤ longestRecord) where
     pub assigned-present : (at : ℕ) (w : Terms) → Stands table bytes at w → isAbsent (part at (sizes table w) (count w)) ≡ false
     assigned-present at w s = ne-eqb at 65535 (λ e. omega (arith, s .within))
 
@@ -88,7 +89,7 @@ module _ (table bytes : List ℕ) where
         ap₂ (λ (x y : ℕ). part x y (count w)) i j
 
     -- a variable takes what stands there
-    pub shown-bind : (ps : List Part) (e : Env) (v at : ℕ) (w : Terms) → v < 48 → (v < 32 → count w ≡ 1) → Shown table bytes ps e → Stands table bytes at w
+    pub shown-bind : (ps : List Part) (e : Env) (v at : ℕ) (w : Terms) → v < variables → (v < 32 → count w ≡ 1) → Shown table bytes ps e → Stands table bytes at w
         → Shown table bytes (set ps v (boundPart at (sizes table w) (count w))) (bind e v at w)
     shown-bind ps e v at w low n h s = record {
       room = length-set ps v _ ∙ h .room;
@@ -97,7 +98,7 @@ module _ (table bytes : List ℕ) where
       one = λ i x k. one i x k (eqb v i) refl;
     }
       where
-        is : (i : ℕ) → i < 48 → (m : Bool) → eqb v i ≡ m
+        is : (i : ℕ) → i < variables → (m : Bool) → eqb v i ≡ m
             → getD (set ps v (boundPart at (sizes table w) (count w))) i (part 0 0 0) ≡ partOf table (cond m (some w) (e .value i))
             (cond m at (e .offset i))
         is i k true z =
@@ -113,10 +114,10 @@ module _ (table bytes : List ℕ) where
         one i x k true y z = ap count (sym (some-same z)) ∙ n (omega (arith, eqb-true v i y))
         one i x k false y z = h .one i x k z
 
-  pub shown-start : Shown table bytes (replicate 48 absent) start
+  pub shown-start : Shown table bytes (replicate variables absent) start
   shown-start = record {
-    room = length-replicate 48 absent;
-    shown = λ v h. getD-replicate 48 v absent (part 0 0 0) h;
+    room = length-replicate variables absent;
+    shown = λ v h. getD-replicate variables v absent (part 0 0 0) h;
     stands = λ v w z. absurd (none-some z);
     one = λ v w h z. absurd (none-some z);
   }

@@ -5,6 +5,7 @@ use mathlib.Core.List.{List, [], _∷_}
 use mathlib.Core.Bool.{Bool, true, false}
 use mathlib.Core.Option.{some}
 use lib.ListN.{length, getD, take, drop}
+use Rattle.term.specs.Code.{variables}
 use Rattle.term.specs.Tree.{Trees}
 use Rattle.term.specs.Term.{Terms, count, single, sizes, termTrees, termsBytes}
 use Rattle.term.specs.Pattern.{Children, end, plain, childTrees, patternBytes}
@@ -77,8 +78,8 @@ pub record Stands (table bytes : List ℕ) (at : ℕ) (w : Terms) : Type 0 where
 
 -- each variable's part shows what is assigned to it; a name's is one term
 pub record Shown (table bytes : List ℕ) (parts : List Part) (e : Env) : Type 0 where
-  pub room : length parts ≡ 48
-  pub shown : (v : ℕ) → v < 48 → getD parts v (part 0 0 0) ≡ partOf table (e .value v) (e .offset v)
+  pub room : length parts ≡ variables
+  pub shown : (v : ℕ) → v < variables → getD parts v (part 0 0 0) ≡ partOf table (e .value v) (e .offset v)
   pub stands : (v : ℕ) (w : Terms) → e .value v ≡ some w → Stands table bytes (e .offset v) w
   pub one : (v : ℕ) (w : Terms) → v < 32 → e .value v ≡ some w → count w ≡ 1
 

@@ -11,39 +11,38 @@ use lib.Dec.{eqb}
 use borrow.Author.Tests.{eqb-true, eq-eqb, ne-eqb}
 use Rattle.term.specs.Class.{classOf, Alike}
 use Rattle.term.specs.Same.{sameByte}
-use Rattle.term.specs.Table.{isList}
-use Rattle.term.specs.Code.{byteOf}
+use Rattle.term.specs.Table.{isList, width}
+use Rattle.term.specs.Code.{byteOf, variables}
 use Rattle.term.specs.Tree.{Trees, branch, empty, more, listCode, own, encode}
 use Rattle.term.specs.Term.{Term, Terms, node, nil, _::_, _⧺_, count, single, size, sizes}
 use Rattle.term.specs.Pattern.{Pattern, Children, name, symbol, complement, end, plain, run, patternTree, childTrees, patternBytes}
-use Rattle.term.specs.Limits.{Written, Fits}
+use Rattle.term.specs.Limits.{Written, Fits, longestPattern, longestRecord}
 use Rattle.term.specs.Part.{part, absent, boundPart}
 use Rattle.term.specs.declared.Code.{Code}
 use Rattle.term.specs.declared.Code.the-variants.{Symbol, Name, Run}
 use Rattle.term.specs.declared.Part.{Part}
-use Rattle.anti_pattern.specs.Search.{Env, bind, sameOr, behind}
+use Rattle.anti_pattern.specs.Search.{Env, bind, Result, counted, fail, ifTrue, ifSome, sameOr, behind, Tries}
 use Rattle.anti_pattern.specs.Place.{partOf}
+use Rattle.anti_pattern.specs.Variables.{among, runsAll}
 use Rattle.anti_pattern.proofs.Machine.{Frame, Pending, frame, pending, machine}
-use Rattle.anti_pattern.proofs.Meter.{meter, missed}
 use Rattle.term.proofs.SameParts.{same-counts, same-sizes, entry-alike, branch-some}
 use Rattle.term.proofs.Sizes.{childrenBytes, number-terms, number-children, past-front, encode-append}
 use Rattle.anti_pattern.proofs.Facts.{behind-alike, one-behind, none-behind}
-use Rattle.anti_pattern.proofs.Machinery.{machine-end, machine-run-fresh}
+use Rattle.anti_pattern.proofs.Machinery.{machine-end, machine-over, machine-short, machine-name, machine-symbol, machine-run-assigned, machine-complement}
 use Rattle.anti_pattern.proofs.Metering.{Split, enough, over, split}
-use Rattle.anti_pattern.proofs.Steps.{step-over, step-short, pair-used-up, step-name, step-name-differs, step-symbol, step-symbol-differs, step-complement, step-run, step-run-differs, run-used-up}
-use Rattle.search.specs.State.{Frame as Counts, frame as counts, PutBy, putBy, place, State, state, partAt, passed, entered, closedBy, closed, alone, variableOf, variableAt, overStep, assignedStep, symbolStep, nameStep, runStep, pairStep, codeStep, stepOf, nextOf, walkOf}
-use Rattle.search.specs.Level.{Reply, failedAt, stopBy, afterWalk, levels}
+use Rattle.anti_pattern.proofs.Steps.{pair-counts}
+use Rattle.search.specs.State.{Frame as Counts, frame as counts, PutBy, putBy, place, State, state, partAt, passed, entered, closedBy, closed, alone, variableOf, variableAt, overStep, assignedStep, symbolStep, nameStep, runStep, pairStep, codeStep, stepOf, nextOf, Walked, walkOf, turns}
+use Rattle.search.specs.Level.{levels}
 use Rattle.search.specs.declared.Place.{Place}
 use Rattle.search.specs.declared.Step.{Step}
 use Rattle.search.specs.declared.Step.the-variants.{Stops, Fails, Closes, Opens, Passes, Binds, PutsBy}
 use Rattle.search.specs.declared.Stop.{Stop}
 use Rattle.search.specs.declared.Stop.the-variants.{Failure, NoAllowance, NoPair, RunName}
-use Rattle.matcher.proofs.Represents.{Limited, codesLeft, Here, Shown, Waits, AllWait, Represents, Agrees, is-failed, is-spent}
+use Rattle.matcher.proofs.Represents.{Limited, codesLeft, Here, Shown, Waits, AllWait, Represents}
 use Rattle.term.proofs.Joins.{sizes-single}
 use Rattle.matcher.proofs.Places.{limited-children, childless, some-width, stacked-alone, stacked-open, here-past, here-stands, here-open, here-close, close-at, past-leaf}
 use Rattle.matcher.proofs.Parts.{assigned-present, shown-bind}
 use Rattle.matcher.proofs.Turns.{turn-over, turn-end, child-here, variable-here, does-code, does-short, does-spent, does-pair, assigned-passes, assigned-fails, name-binds, symbol-opens, symbol-passes, symbol-fails, complement-put-by}
-use Rattle.matcher.proofs.Levels.{carry, Searches, lengths-agree, complements-agree}
 
 -- variables within the limits
 
@@ -51,9 +50,17 @@ name-below : {table : List ℕ} {v : ℕ} {us ts : Trees} → Limited table fals
 unfolding Fits Written
 name-below h = h .fit .0 .1
 
-run-within : {table : List ℕ} {v : ℕ} {us ts : Trees} → Limited table false (more (branch (Run v) us) ts) → (32 ≤ v) × (v < 48)
+run-within : {table : List ℕ} {v : ℕ} {us ts : Trees} → Limited table false (more (branch (Run v) us) ts) → (32 ≤ v) × (v < variables)
 unfolding Fits Written
 run-within h = h .fit .0 .1
+
+-- a variable in front of a list
+later : (v : ℕ) (m : Bool) (j : ℕ) → m ≡ true → cond (eqb v j) true m ≡ true
+later v m j h = go (eqb v j)
+  where
+    go : (c : Bool) → cond c true m ≡ true
+    go true = refl
+    go false = h
 
 -- a complement put by
 
@@ -64,34 +71,89 @@ all-wait-next table pattern bytes c d [] (b ∷ ds) w x = absurd w
 all-wait-next table pattern bytes c d (a ∷ cs) [] w x = absurd w
 all-wait-next table pattern bytes c d (a ∷ cs) (b ∷ ds) w x = (w .0, all-wait-next table pattern bytes c d cs ds (w .1) x)
 
-module _ (table : List ℕ) (small : length table ≤ 200) (classes : List ℕ) (alike : Alike table classes) (bytes : List ℕ) (short : length bytes ≤ 4096) (n : ℕ) (lv : List ℕ → State → ℕ → Reply)
-    (searches : Searches table classes bytes n lv) (pattern : List ℕ) (narrow : length pattern ≤ 256) where
-  abbrev searched : ℕ → State → ℕ → Reply
-  searched turns s left = afterWalk (walkOf turns table classes pattern bytes s left) lv table pattern bytes
+-- the run names left outside complements
+abbrev pub framesRuns : List Frame → List ℕ
+framesRuns [] = []
+framesRuns (f ∷ fs) = runsAll (f .patterns) (framesRuns fs)
+
+abbrev pub Fewer : List Frame → List Frame → Type 0
+Fewer gs fs = (v : ℕ) → among v (framesRuns gs) ≡ true → among v (framesRuns fs) ≡ true
+
+-- What the machine's steps come to for a search that goes through them: the same for every way of trying lengths.
+pub record Walking (table classes pattern bytes : List ℕ) (n : ℕ) : Type 1 where
+  -- what the search on trees comes to, from frames, assignment, complements put by and an allowance; and what the one on bytes replies where
+  -- a walk stops
+  pub Comes : Type 0
+  pub Replies : Type 0
+  pub comes : List Frame → Env → List Pending → ℕ → Comes
+  pub ending : Stop → State → ℕ → Replies
+  pub Fit : Comes → Replies → Type 0
+  -- what is known on the way
+  pub Known : List Frame → Env → List Pending → Type 0
+  -- steps
+  pub same : (fs gs : List Frame) (e f : Env) (ds es : List Pending) → ((h : ℕ → Tries) → machine table classes h fs e ds ≡ machine table classes h gs f es)
+      → (left : ℕ) → comes fs e ds left ≡ comes gs f es left
+  pub step : (fs gs : List Frame) (e f : Env) (ds es : List Pending) → ((h : ℕ → Tries) → machine table classes h fs e ds ≡ counted (machine table classes h gs f es))
+      → (left : ℕ) → 0 < left → comes fs e ds left ≡ comes gs f es (left - 1)
+  pub known-same : (fs gs : List Frame) (e f : Env) (ds es : List Pending) → ((h : ℕ → Tries) → machine table classes h fs e ds ≡ machine table classes h gs f es)
+      → Fewer gs fs → Known fs e ds → Known gs f es
+  pub known-step : (fs gs : List Frame) (e f : Env) (ds es : List Pending)
+      → ((h : ℕ → Tries) → machine table classes h fs e ds ≡ counted (machine table classes h gs f es)) → Fewer gs fs → Known fs e ds → Known gs f es
+  -- failures, and no allowance
+  pub fail-fits : (fs : List Frame) (e : Env) (ds : List Pending) → ((h : ℕ → Tries) → machine table classes h fs e ds ≡ fail)
+      → (left : ℕ) (s : State) → Fit (comes fs e ds left) (ending Failure s left)
+  pub fails-fits : (fs : List Frame) (e : Env) (ds : List Pending) → ((h : ℕ → Tries) → machine table classes h fs e ds ≡ counted fail)
+      → (left : ℕ) → 0 < left → (s : State) → Fit (comes fs e ds left) (ending Failure s (left - 1))
+  pub spent-fits : (fs : List Frame) (e : Env) (ds : List Pending)
+      → ((h : ℕ → Tries) → (r : Result) × (machine table classes h fs e ds ≡ counted r)) → (left : ℕ) → left ≡ 0 → (s : State)
+      → Fit (comes fs e ds left) (ending NoAllowance s left)
+  -- the end of a level, and a run name that is not assigned
+  pub end-fits : (s : State) (e : Env) (ds : List Pending) → Shown table bytes (s .parts) e → AllWait table pattern bytes (s .waiting) ds
+      → 257 * length pattern ≤ n → Known [] e ds → (left : ℕ) → Fit (comes [] e ds left) (ending NoPair s left)
+  pub run-fits : (s : State) (v : ℕ) (qs : Children) (ts : Terms) (fs : List Frame) (e : Env) (ds : List Pending)
+      → Represents table pattern bytes s (run v qs) ts fs e ds → 32 ≤ v → v < variables → levels pattern (s .place .at + 1) ≤ n → e .value v ≡ none
+      → Known (frame (run v qs) ts (s .place .node) ∷ fs) e ds → (left : ℕ)
+      → Fit (comes (frame (run v qs) ts (s .place .node) ∷ fs) e ds left) (ending (RunName v) s left)
+  -- how a level ends does not depend on the place
+  pub end-anywhere : (parts : List Part) (waiting : List PutBy) (p p′ : Place) (left : ℕ)
+      → ending NoPair (state parts [] waiting p) left ≡ ending NoPair (state parts [] waiting p′) left
+  pub failure-anywhere : (s s′ : State) (left : ℕ) → ending Failure s left ≡ ending Failure s′ left
+
+module _ (table : List ℕ) (small : length table ≤ 200) (classes : List ℕ) (alike : Alike table classes) (bytes : List ℕ) (short : length bytes ≤ longestRecord)
+    (n : ℕ) (pattern : List ℕ) (narrow : length pattern ≤ longestPattern) (k : Walking table classes pattern bytes n) where
+  abbrev ended : Walked → k .Replies
+  ended w = k .ending (w .stop) (w .state) (w .left)
+
+  abbrev searched : ℕ → State → ℕ → k .Replies
+  searched turns s left = ended (walkOf turns table classes pattern bytes s left)
+
+  carry : {x y : k .Comes} {r q : k .Replies} → x ≡ y → r ≡ q → k .Fit y q → k .Fit x r
+  carry {x} {y} {r} {q} e f a = subst (λ (z : k .Comes). k .Fit z r) (sym e) (subst (λ (z : k .Replies). k .Fit y z) (sym f) a)
 
   -- levels enough, and turns enough: each turn takes a byte of the pattern or closes a node
   pub record Ready (turns : ℕ) (s : State) (qs : Children) (ts : Terms) (fs : List Frame) (e : Env) (ds : List Pending) : Type 0 where
     pub is : Represents table pattern bytes s qs ts fs e ds
     pub few : levels pattern (s .place .at) ≤ suc n
     pub long : 2 * (length pattern - s .place .at) + length fs < turns
+    pub known : k .Known (frame qs ts (s .place .node) ∷ fs) e ds
 
   -- what a walk of so many turns comes to
   abbrev Goes : ℕ → Type 0
   Goes turns =
       (s : State) (qs : Children) (ts : Terms) (fs : List Frame) (e : Env) (ds : List Pending) (left : ℕ) → Ready turns s qs ts fs e ds
-      → Agrees table bytes (meter left (machine table classes (frame qs ts (s .place .node) ∷ fs) e ds)) (searched turns s left)
+      → k .Fit (k .comes (frame qs ts (s .place .node) ∷ fs) e ds left) (searched turns s left)
 
   -- by the step that the turn takes
   module _ (turns : ℕ) (s : State) (left : ℕ) where
     abbrev step : Step
     step = stepOf (alone (s .frames)) table classes pattern bytes (partAt s (variableAt pattern (s .place .at))) (s .place) left
 
-    stops : (stop : Stop) → step ≡ Stops stop → searched (suc turns) s left ≡ stopBy stop lv table pattern bytes s left
-    unfolding walkOf nextOf afterWalk
+    stops : (stop : Stop) → step ≡ Stops stop → searched (suc turns) s left ≡ k .ending stop s left
+    unfolding walkOf nextOf
     stops stop h = rw h
 
-    fails : step ≡ Fails → searched (suc turns) s left ≡ failedAt (left - 1)
-    unfolding walkOf nextOf afterWalk
+    fails : step ≡ Fails → searched (suc turns) s left ≡ k .ending Failure s (left - 1)
+    unfolding walkOf nextOf
     fails h = rw h
 
     closes : step ≡ Closes → searched (suc turns) s left ≡ searched turns (closed s) left
@@ -126,10 +188,11 @@ module _ (table : List ℕ) (small : length table ≤ 200) (classes : List ℕ) 
   -- a level with no child pattern left ends alike wherever in the record it stands
   ends-anywhere : (turns : ℕ) (parts : List Part) (waiting : List PutBy) (elements at here there left : ℕ)
       → searched turns (state parts [] waiting (place 0 elements at here)) left ≡ searched turns (state parts [] waiting (place 0 elements at there)) left
-  unfolding walkOf stepOf overStep nextOf afterWalk
-  ends-anywhere zero parts waiting elements at here there left = refl
-  ends-anywhere (suc turns) parts waiting zero at here there left = refl
-  ends-anywhere (suc turns) parts waiting (suc elements) at here there left = rw (ne-eqb (suc elements) 0 (λ z. omega arith))
+  unfolding walkOf stepOf overStep nextOf
+  ends-anywhere zero parts waiting elements at here there left = k .failure-anywhere _ _ left
+  ends-anywhere (suc turns) parts waiting zero at here there left = k .end-anywhere parts waiting _ _ left
+  ends-anywhere (suc turns) parts waiting (suc elements) at here there left =
+      rw (ne-eqb (suc elements) 0 (λ z. omega arith)) (k .failure-anywhere _ _ left)
 
   -- so past a complement that was its last
   past-last : (turns : ℕ) (parts : List Part) (frames : List Counts) (waiting : List PutBy) (p : Place) (codes size left : ℕ)
@@ -148,25 +211,27 @@ module _ (table : List ℕ) (small : length table ≤ 200) (classes : List ℕ) 
 
   module _ (turns : ℕ) (goes : Goes turns) (s : State) (fs : List Frame) (e : Env) (ds : List Pending) (left : ℕ) where
     abbrev Agreed : Children → Terms → Type 0
-    Agreed cs ts = Agrees table bytes (meter left (machine table classes (frame cs ts (s .place .node) ∷ fs) e ds)) (searched (suc turns) s left)
+    Agreed cs ts = k .Fit (k .comes (frame cs ts (s .place .node) ∷ fs) e ds left) (searched (suc turns) s left)
 
     on-over : (t : Term) (ts : Terms) → Ready (suc turns) s end (t :: ts) fs e ds → Agreed end (t :: ts)
     on-over t ts h =
-        carry (step-over table classes (s .place .node) fs e ds t ts left)
+        carry refl
         (stops turns s left Failure
-        (turn-over table classes pattern bytes _ (s .place) left (alone (s .frames)) (h .is .here .children) (omega (arith, h .is .here .elements)))) is-failed
+        (turn-over table classes pattern bytes _ (s .place) left (alone (s .frames)) (h .is .here .children) (omega (arith, h .is .here .elements))))
+        (k .fail-fits (frame end (t :: ts) (s .place .node) ∷ fs) e ds (λ x. machine-over table classes x (s .place .node) fs e ds t ts) left s)
 
     on-short : (q : Pattern) (qs : Children) → Ready (suc turns) s (plain q qs) nil fs e ds → Agreed (plain q qs) nil
     on-short q qs h =
-        carry (step-short table classes (s .place .node) fs e ds q qs left)
-        (stops turns s left Failure (does-short table classes pattern bytes (s .place) (s .frames) fs q qs _ left (h .is .here))) is-failed
+        carry refl
+        (stops turns s left Failure (does-short table classes pattern bytes (s .place) (s .frames) fs q qs _ left (h .is .here)))
+        (k .fail-fits (frame (plain q qs) nil (s .place .node) ∷ fs) e ds (λ x. machine-short table classes x (s .place .node) fs e ds q qs) left s)
 
     on-spent : (q : Pattern) (qs : Children) (t : Term) (ts : Terms) → Ready (suc turns) s (plain q qs) (t :: ts) fs e ds → left ≡ 0
         → Agreed (plain q qs) (t :: ts)
     on-spent q qs t ts h z =
-        carry (ap (λ (k : ℕ). meter k (machine table classes (frame (plain q qs) (t :: ts) (s .place .node) ∷ fs) e ds)) z
-        ∙ pair-used-up table classes (s .place .node) fs e ds q qs t ts)
-        (stops turns s left NoAllowance (does-spent table classes pattern bytes (s .place) (s .frames) fs q qs _ left t ts (h .is .here) z)) is-spent
+        carry refl
+        (stops turns s left NoAllowance (does-spent table classes pattern bytes (s .place) (s .frames) fs q qs _ left t ts (h .is .here) z))
+        (k .spent-fits (frame (plain q qs) (t :: ts) (s .place .node) ∷ fs) e ds (λ x. pair-counts table classes x (s .place .node) fs e ds q qs t ts) left z s)
 
     -- a child pattern of one byte
     module _ (cs qs : Children) (ts : Terms) (c : Code) (z : childTrees cs ≡ more (branch c empty) (childTrees qs)) (l : listCode table c ≡ false)
@@ -176,19 +241,21 @@ module _ (table : List ℕ) (small : length table ≤ 200) (classes : List ℕ) 
 
       -- past the elements w
       goes-past : (w us : Terms) → ts ≡ w ⧺ us → (parts : List Part) (f : Env) → Shown table bytes parts f
-          → Agrees table bytes (meter (left - 1) (machine table classes (frame qs us (s .place .node + sizes table w) ∷ fs) f ds))
+          → k .Known (frame qs us (s .place .node + sizes table w) ∷ fs) f ds
+          → k .Fit (k .comes (frame qs us (s .place .node + sizes table w) ∷ fs) f ds (left - 1))
           (searched turns (state parts (s .frames) (s .waiting) (passed (s .place) (count w) 1 (sizes table w))) (left - 1))
-      goes-past w us x parts f shown =
+      goes-past w us x parts f shown known =
           goes _ qs us fs f ds (left - 1)
           (record {
             is = past-leaf table pattern bytes s cs qs c w us fs e f ds parts z l
                 (subst (λ (u : Terms). Represents table pattern bytes s cs u fs e ds) x (h .is)) shown;
             few = omega (arith, h .few, here);
             long = omega (arith, h .long, here);
+            known = known;
           })
 
       -- a name or a run name
-      module _ (v : ℕ) (y : variableOf c ≡ v) (low : v < 48) where
+      module _ (v : ℕ) (y : variableOf c ≡ v) (low : v < variables) where
         part-here : (o : Option Terms) → e .value v ≡ o → partAt s (variableAt pattern (s .place .at)) ≡ partOf table o (e .offset v)
         part-here o x =
             ap (partAt s) (variable-here table classes pattern bytes (s .place) (s .frames) fs cs qs (branch c empty) ts z (h .is .here) ∙ y)
@@ -197,31 +264,37 @@ module _ (table : List ℕ) (small : length table ≤ 200) (classes : List ℕ) 
         on-assigned : (w : Terms) → e .value v ≡ some w
             → step turns s left
             ≡ assignedStep table classes bytes (part (e .offset v) (sizes table w) (count w)) (drop (s .place .node) bytes) (s .place .elements)
-            → ((us : Terms) → behind classes w ts ≡ some us → meter left (machine table classes (frame cs ts (s .place .node) ∷ fs) e ds)
-            ≡ meter (left - 1) (machine table classes (frame qs us (s .place .node + sizes table w) ∷ fs) e ds))
-            → (behind classes w ts ≡ none → meter left (machine table classes (frame cs ts (s .place .node) ∷ fs) e ds) ≡ missed (left - 1))
+            → 0 < left
+            → ((us : Terms) → behind classes w ts ≡ some us → (y : ℕ → Tries) → machine table classes y (frame cs ts (s .place .node) ∷ fs) e ds
+            ≡ counted (machine table classes y (frame qs us (s .place .node + sizes table w) ∷ fs) e ds))
+            → ((us : Terms) → Fewer (frame qs us (s .place .node + sizes table w) ∷ fs) (frame cs ts (s .place .node) ∷ fs))
+            → (behind classes w ts ≡ none → (y : ℕ → Tries) → machine table classes y (frame cs ts (s .place .node) ∷ fs) e ds ≡ counted fail)
             → Agreed cs ts
-        on-assigned w x does holds differs = go (behind classes w ts) refl
+        on-assigned w x does i holds fewer differs = go (behind classes w ts) refl
           where
             go : (o : Option Terms) → behind classes w ts ≡ o → Agreed cs ts
             go (some us) b =
                 let a = behind-alike classes w ts us b in
                 let m = same-sizes table classes alike w (a .0) (a .2) in
-                carry (holds us b ∙ ap (λ (i : ℕ). meter (left - 1) (machine table classes (frame qs us (s .place .node + i) ∷ fs) e ds)) m)
+                let past : (y : ℕ → Tries) → machine table classes y (frame cs ts (s .place .node) ∷ fs) e ds
+                ≡ counted (machine table classes y (frame qs us (s .place .node + sizes table (a .0)) ∷ fs) e ds) =
+                λ y. holds us b y ∙ ap (λ (i : ℕ). counted (machine table classes y (frame qs us (s .place .node + i) ∷ fs) e ds)) m in
+                carry (k .step (frame cs ts (s .place .node) ∷ fs) (frame qs us (s .place .node + sizes table (a .0)) ∷ fs) e e ds ds past left i)
                 (passes turns s left _ _ (does ∙ assigned-passes table classes pattern bytes (s .place) (s .frames) fs cs ts (h .is .here) (e .offset v) w
                 (h .is .shown .stands v w x) alike us b)
                 ∙ ap₂ (λ (i j : ℕ). searched turns (state (s .parts) (s .frames) (s .waiting) (passed (s .place) i 1 j)) (left - 1))
                 (same-counts classes w (a .0) (a .2)) m)
-                (goes-past (a .0) us (a .1) (s .parts) e (h .is .shown))
+                (goes-past (a .0) us (a .1) (s .parts) e (h .is .shown)
+                (k .known-step (frame cs ts (s .place .node) ∷ fs) (frame qs us (s .place .node + sizes table (a .0)) ∷ fs) e e ds ds past (fewer us) (h .known)))
             go none b =
-                carry (differs b)
+                carry refl
                 (fails turns s left (does ∙ assigned-fails table classes pattern bytes (s .place) (s .frames) fs cs ts (h .is .here) (e .offset v) w
                 (h .is .shown .stands v w x) alike b))
-                is-failed
+                (k .fails-fits (frame cs ts (s .place .node) ∷ fs) e ds (differs b) left i s)
 
     -- a name
     module _ (v : ℕ) (qs : Children) (t : Term) (ts : Terms) (h : Ready (suc turns) s (plain (name v) qs) (t :: ts) fs e ds) (i : 0 < left) where
-      name-low : v < 48
+      name-low : v < variables
       name-low = omega (arith, name-below (h .is .here .patterns-limited))
 
       name-step : (o : Option Terms) → e .value v ≡ o
@@ -241,28 +314,38 @@ module _ (table : List ℕ) (small : length table ≤ 200) (classes : List ℕ) 
       on-name : (o : Option Terms) → e .value v ≡ o → Agreed (plain (name v) qs) (t :: ts)
       unfolding listCode
       on-name none x =
+          let b : (y : ℕ → Tries) → machine table classes y (frame (plain (name v) qs) (t :: ts) (s .place .node) ∷ fs) e ds
+          ≡ counted (machine table classes y (frame qs ts (s .place .node + sizes table (single t)) ∷ fs) (bind e v (s .place .node) (single t)) ds) =
+          λ y. machine-name table classes y (s .place .node) fs e ds v qs t ts
+          ∙ ap (λ (o : Option Terms). counted (ifSome (sameOr classes o (single t) e (bind e v (s .place .node) (single t)))
+          (λ f. machine table classes y (frame qs ts (s .place .node + size table t) ∷ fs) f ds))) x
+          ∙ ap (λ (m : ℕ). counted (machine table classes y (frame qs ts (s .place .node + m) ∷ fs) (bind e v (s .place .node) (single t)) ds))
+          (sym (sizes-single table t)) in
           carry
-          (step-name table classes (s .place .node) fs e ds left i v qs t ts (bind e v (s .place .node) (single t))
-          (ap (λ (o : Option Terms). sameOr classes o (single t) e (bind e v (s .place .node) (single t))) x)
-          ∙ ap (λ (k : ℕ). meter (left - 1) (machine table classes (frame qs ts (s .place .node + k) ∷ fs) (bind e v (s .place .node) (single t)) ds))
-          (sym (sizes-single table t)))
+          (k .step (frame (plain (name v) qs) (t :: ts) (s .place .node) ∷ fs) (frame qs ts (s .place .node + sizes table (single t)) ∷ fs)
+          e (bind e v (s .place .node) (single t)) ds ds b left i)
           (binds turns s left v _ (name-step none x ∙ name-binds table small classes pattern bytes (s .place) (s .frames) fs (plain (name v) qs) t ts v
           (h .is .here)))
           (goes-past (plain (name v) qs) qs (t :: ts) (Name v) refl refl h (single t) ts refl _
           (bind e v (s .place .node) (single t))
           (shown-bind table bytes short (s .parts) e v (s .place .node) (single t) name-low (λ k. refl) (h .is .shown)
-          (here-stands table pattern bytes (s .place) (s .frames) (plain (name v) qs) (single t) ts fs (h .is .here))))
+          (here-stands table pattern bytes (s .place) (s .frames) (plain (name v) qs) (single t) ts fs (h .is .here)))
+          (k .known-step (frame (plain (name v) qs) (t :: ts) (s .place .node) ∷ fs) (frame qs ts (s .place .node + sizes table (single t)) ∷ fs)
+          e (bind e v (s .place .node) (single t)) ds ds b (λ j m. m) (h .known)))
       on-name (some w) x =
-          on-assigned (plain (name v) qs) qs (t :: ts) (Name v) refl refl h v refl name-low w x (name-step (some w) x ∙ name-assigned w x)
-          (λ us b.
+          on-assigned (plain (name v) qs) qs (t :: ts) (Name v) refl refl h v refl name-low w x (name-step (some w) x ∙ name-assigned w x) i
+          (λ us b y.
           let o = one-behind classes w t ts us (h .is .shown .one v w (name-below (h .is .here .patterns-limited)) x) b in
-          step-name table classes (s .place .node) fs e ds left i v qs t ts e
+          machine-name table classes y (s .place .node) fs e ds v qs t ts
+          ∙ ap (λ (p : Option Env). counted (ifSome p (λ f. machine table classes y (frame qs ts (s .place .node + size table t) ∷ fs) f ds)))
           (ap (λ (p : Option Terms). sameOr classes p (single t) e (bind e v (s .place .node) (single t))) x
           ∙ ap (λ (m : Bool). cond m (some e) none) (o .0))
-          ∙ ap₂ (λ (k : ℕ) (r : Terms). meter (left - 1) (machine table classes (frame qs r (s .place .node + k) ∷ fs) e ds))
+          ∙ ap₂ (λ (m : ℕ) (r : Terms). counted (machine table classes y (frame qs r (s .place .node + m) ∷ fs) e ds))
           (sym (sizes-single table t) ∙ sym (same-sizes table classes alike w (single t) (o .0))) (o .1))
-          (λ b.
-          step-name-differs table classes (s .place .node) fs e ds left i v qs t ts
+          (λ us j m. m)
+          (λ b y.
+          machine-name table classes y (s .place .node) fs e ds v qs t ts
+          ∙ ap (λ (p : Option Env). counted (ifSome p (λ f. machine table classes y (frame qs ts (s .place .node + size table t) ∷ fs) f ds)))
           (ap (λ (p : Option Terms). sameOr classes p (single t) e (bind e v (s .place .node) (single t))) x
           ∙ ap (λ (m : Bool). cond m (some e) none) (none-behind classes w t ts b)))
 
@@ -294,93 +377,122 @@ module _ (table : List ℕ) (small : length table ≤ 200) (classes : List ℕ) 
       on-run-assigned : (w : Terms) → e .value v ≡ some w → Split left 0 → Agreed (run v qs) ts
       unfolding listCode
       on-run-assigned w x (enough i) =
-          let k : left ≡ 0 = omega arith in
-          carry (ap (λ (m : ℕ). meter m (machine table classes (frame (run v qs) ts (s .place .node) ∷ fs) e ds)) k
-          ∙ run-used-up table classes (s .place .node) fs e ds v qs ts w x)
-          (stops turns s left NoAllowance (run-step (some w) x ∙ run-spent w x k)) is-spent
+          let z : left ≡ 0 = omega arith in
+          carry refl
+          (stops turns s left NoAllowance (run-step (some w) x ∙ run-spent w x z))
+          (k .spent-fits (frame (run v qs) ts (s .place .node) ∷ fs) e ds
+          (λ y. (
+            ifSome (behind classes w ts) (λ us. machine table classes y (frame qs us (s .place .node + sizes table w) ∷ fs) e ds),
+            machine-run-assigned table classes y (s .place .node) fs e ds v qs ts w x,
+          )) left z s)
       on-run-assigned w x (over i) =
           on-assigned (run v qs) qs ts (Run v) refl refl h v refl (run-within (h .is .here .patterns-limited) .1) w x
-          (run-step (some w) x ∙ run-assigned w x i)
-          (λ us b. step-run table classes (s .place .node) fs e ds left i v qs ts w us x b)
-          (λ b. step-run-differs table classes (s .place .node) fs e ds left i v qs ts w x b)
+          (run-step (some w) x ∙ run-assigned w x i) i
+          (λ us b y. machine-run-assigned table classes y (s .place .node) fs e ds v qs ts w x
+          ∙ ap (λ (o : Option Terms). counted (ifSome o (λ us. machine table classes y (frame qs us (s .place .node + sizes table w) ∷ fs) e ds))) b)
+          (λ us j m. later v (among j (runsAll qs (framesRuns fs))) j m)
+          (λ b y. machine-run-assigned table classes y (s .place .node) fs e ds v qs ts w x
+          ∙ ap (λ (o : Option Terms). counted (ifSome o (λ us. machine table classes y (frame qs us (s .place .node + sizes table w) ∷ fs) e ds))) b)
 
       on-run : (o : Option Terms) → e .value v ≡ o → Agreed (run v qs) ts
       unfolding listCode
       on-run (some w) x = on-run-assigned w x (split left 0)
       on-run none x =
           let r = run-within (h .is .here .patterns-limited) in
-          carry (ap (meter left) (machine-run-fresh table classes (s .place .node) fs e ds v qs ts x))
+          carry refl
           (stops turns s left (RunName v) (run-step none x ∙ run-fresh))
-          (lengths-agree table classes bytes n lv searches pattern narrow small short s v qs ts fs e ds (h .is) (r .0) (r .1)
-          (omega (arith, h .few, here (run v qs) qs ts (Run v) refl refl h)) left)
+          (k .run-fits s v qs ts fs e ds (h .is) (r .0) (r .1)
+          (omega (arith, h .few, here (run v qs) qs ts (Run v) refl refl h)) x (h .known) left)
 
     -- a symbol
     module _ (r : ℕ) (qs : Children) (ts : Terms) (i : 0 < left) where
       symbol-step : (ps : Children) (k : ℕ) (us : Terms) → Ready (suc turns) s (plain (symbol r ps) qs) (node k us :: ts) fs e ds
           → step turns s left ≡ symbolStep table classes (drop (s .place .at) pattern) (drop (s .place .node) bytes) r
       unfolding pairStep
-      symbol-step ps k us h = does-pair table classes pattern bytes (s .place) (s .frames) fs (symbol r ps) qs _ left (node k us) ts (h .is .here) i
+      symbol-step ps j us h = does-pair table classes pattern bytes (s .place) (s .frames) fs (symbol r ps) qs _ left (node j us) ts (h .is .here) i
 
       -- one of the same class, whose table byte is alike
-      module _ (k : ℕ) (same : sameByte classes false r k ≡ true) where
-        byte : getD table r 0 ≡ getD table k 0
-        byte = entry-alike table classes alike r k (eqb-true (classOf classes r) (classOf classes k) same)
+      module _ (j : ℕ) (same : sameByte classes false r j ≡ true) where
+        byte : getD table r 0 ≡ getD table j 0
+        byte = entry-alike table classes alike r j (eqb-true (classOf classes r) (classOf classes j) same)
 
-        on-open : (ps : Children) (us : Terms) → Ready (suc turns) s (plain (symbol r ps) qs) (node k us :: ts) fs e ds → 0 < getD table r 0
-            → Agreed (plain (symbol r ps) qs) (node k us :: ts)
+        entering : (ps : Children) (us : Terms) (y : ℕ → Tries)
+            → machine table classes y (frame (plain (symbol r ps) qs) (node j us :: ts) (s .place .node) ∷ fs) e ds
+            ≡ counted (machine table classes y (frame ps us (s .place .node + width table r) ∷ frame qs ts (s .place .node + size table (node j us)) ∷ fs) e ds)
+        entering ps us y =
+            machine-symbol table classes y (s .place .node) fs e ds r qs ps j us ts
+            ∙ ap (λ (b : Bool). counted (ifTrue b
+            (λ u. machine table classes y (frame ps us (s .place .node + width table j) ∷ frame qs ts (s .place .node + size table (node j us)) ∷ fs) e ds)))
+            same
+            ∙ ap (λ (b : ℕ). counted (machine table classes y
+            (frame ps us (s .place .node + cond (eqb b 255) 2 1) ∷ frame qs ts (s .place .node + size table (node j us)) ∷ fs) e ds)) (sym byte)
+
+        on-open : (ps : Children) (us : Terms) → Ready (suc turns) s (plain (symbol r ps) qs) (node j us :: ts) fs e ds → 0 < getD table r 0
+            → Agreed (plain (symbol r ps) qs) (node j us :: ts)
         on-open ps us h x =
             let low = child-here table classes pattern bytes (s .place) (s .frames) fs (plain (symbol r ps) qs) qs (patternTree (symbol r ps))
-            (node k us :: ts) refl (h .is .here) in
+            (node j us :: ts) refl (h .is .here) in
             let wide = some-width (isList table r) in
-            carry (step-symbol table classes (s .place .node) fs e ds left i r k qs ps us ts same
-            ∙ ap (λ (b : ℕ). meter (left - 1) (machine table classes
-            (frame ps us (s .place .node + cond (eqb b 255) 2 1) ∷ frame qs ts (s .place .node + size table (node k us)) ∷ fs) e ds)) (sym byte))
+            carry (k .step (frame (plain (symbol r ps) qs) (node j us :: ts) (s .place .node) ∷ fs)
+            (frame ps us (s .place .node + width table r) ∷ frame qs ts (s .place .node + size table (node j us)) ∷ fs) e e ds ds (entering ps us) left i)
             (opens turns s left _ _ _
-            (symbol-step ps k us h ∙ symbol-opens table small classes pattern bytes (s .place) (s .frames) fs r k same byte ps qs us ts (h .is .here) x))
-            (goes _ ps us (frame qs ts (s .place .node + size table (node k us)) ∷ fs) e ds (left - 1)
+            (symbol-step ps j us h ∙ symbol-opens table small classes pattern bytes (s .place) (s .frames) fs r j same byte ps qs us ts (h .is .here) x))
+            (goes _ ps us (frame qs ts (s .place .node + size table (node j us)) ∷ fs) e ds (left - 1)
             (record {
               is = record {
-                here = here-open table pattern bytes (s .place) (s .frames) r k byte ps qs us ts fs (h .is .here);
+                here = here-open table pattern bytes (s .place) (s .frames) r j byte ps qs us ts fs (h .is .here);
                 shown = h .is .shown;
                 waiting = h .is .waiting;
               };
               few = omega (arith, h .few);
               long = omega (arith, h .long);
+              known = k .known-step (frame (plain (symbol r ps) qs) (node j us :: ts) (s .place .node) ∷ fs)
+                  (frame ps us (s .place .node + width table r) ∷ frame qs ts (s .place .node + size table (node j us)) ∷ fs) e e ds ds (entering ps us)
+                  (λ i m. m) (h .known);
             }))
 
         -- without children its frame is over at once
-        on-leaf : (ps : Children) (us : Terms) → Ready (suc turns) s (plain (symbol r ps) qs) (node k us :: ts) fs e ds → getD table r 0 ≡ 0
-            → Agreed (plain (symbol r ps) qs) (node k us :: ts)
+        on-leaf : (ps : Children) (us : Terms) → Ready (suc turns) s (plain (symbol r ps) qs) (node j us :: ts) fs e ds → getD table r 0 ≡ 0
+            → Agreed (plain (symbol r ps) qs) (node j us :: ts)
         unfolding listCode
         on-leaf end nil h x =
+            let b : (y : ℕ → Tries) → machine table classes y (frame (plain (symbol r end) qs) (node j nil :: ts) (s .place .node) ∷ fs) e ds
+            ≡ counted (machine table classes y (frame qs ts (s .place .node + sizes table (single (node j nil))) ∷ fs) e ds) =
+            λ y. entering end nil y ∙ ap counted (machine-end table classes y _ (frame qs ts (s .place .node + size table (node j nil)) ∷ fs) e ds
+            ∙ ap (λ (m : ℕ). machine table classes y (frame qs ts (s .place .node + m) ∷ fs) e ds) (sym (sizes-single table (node j nil)))) in
             carry
-            (step-symbol table classes (s .place .node) fs e ds left i r k qs end nil ts same
-            ∙ ap (meter (left - 1)) (machine-end table classes _ (frame qs ts (s .place .node + size table (node k nil)) ∷ fs) e ds
-            ∙ ap (λ (m : ℕ). machine table classes (frame qs ts (s .place .node + m) ∷ fs) e ds) (sym (sizes-single table (node k nil)))))
+            (k .step (frame (plain (symbol r end) qs) (node j nil :: ts) (s .place .node) ∷ fs)
+            (frame qs ts (s .place .node + sizes table (single (node j nil))) ∷ fs) e e ds ds b left i)
             (passes turns s left _ _
-            (symbol-step end k nil h ∙ symbol-passes table small classes pattern bytes (s .place) (s .frames) fs r k same byte qs ts (h .is .here) x))
-            (goes-past (plain (symbol r end) qs) qs (node k nil :: ts) (Symbol r) refl (ap (λ (b : ℕ). eqb b 255) x) h (single (node k nil)) ts refl
-            (s .parts) e (h .is .shown))
+            (symbol-step end j nil h ∙ symbol-passes table small classes pattern bytes (s .place) (s .frames) fs r j same byte qs ts (h .is .here) x))
+            (goes-past (plain (symbol r end) qs) qs (node j nil :: ts) (Symbol r) refl (ap (λ (b : ℕ). eqb b 255) x) h (single (node j nil)) ts refl
+            (s .parts) e (h .is .shown)
+            (k .known-step (frame (plain (symbol r end) qs) (node j nil :: ts) (s .place .node) ∷ fs)
+            (frame qs ts (s .place .node + sizes table (single (node j nil))) ∷ fs) e e ds ds b (λ i m. m) (h .known)))
         on-leaf end (u :: us) h x = absurd (omega (arith, childless (h .is .here .elements-limited) (sym byte ∙ x), number-terms (u :: us)))
         on-leaf (plain p ps) us h x = absurd (omega (arith, childless (h .is .here .patterns-limited) x, number-children (plain p ps)))
         on-leaf (run v ps) us h x = absurd (omega (arith, childless (h .is .here .patterns-limited) x, number-children (run v ps)))
 
-        on-same : (ps : Children) (us : Terms) → Ready (suc turns) s (plain (symbol r ps) qs) (node k us :: ts) fs e ds
-            → Split (getD table r 0) 0 → Agreed (plain (symbol r ps) qs) (node k us :: ts)
+        on-same : (ps : Children) (us : Terms) → Ready (suc turns) s (plain (symbol r ps) qs) (node j us :: ts) fs e ds
+            → Split (getD table r 0) 0 → Agreed (plain (symbol r ps) qs) (node j us :: ts)
         on-same ps us h (enough x) = on-leaf ps us h (omega arith)
         on-same ps us h (over x) = on-open ps us h x
 
-      on-symbol : (k : ℕ) (ps : Children) (us : Terms) → Ready (suc turns) s (plain (symbol r ps) qs) (node k us :: ts) fs e ds
-          → Agreed (plain (symbol r ps) qs) (node k us :: ts)
-      on-symbol k ps us h = go (sameByte classes false r k) refl
+      on-symbol : (j : ℕ) (ps : Children) (us : Terms) → Ready (suc turns) s (plain (symbol r ps) qs) (node j us :: ts) fs e ds
+          → Agreed (plain (symbol r ps) qs) (node j us :: ts)
+      on-symbol j ps us h = go (sameByte classes false r j) refl
         where
-          go : (m : Bool) → sameByte classes false r k ≡ m → Agreed (plain (symbol r ps) qs) (node k us :: ts)
-          go true x = on-same k x ps us h (split (getD table r 0) 0)
+          go : (m : Bool) → sameByte classes false r j ≡ m → Agreed (plain (symbol r ps) qs) (node j us :: ts)
+          go true x = on-same j x ps us h (split (getD table r 0) 0)
           go false x =
-              carry (step-symbol-differs table classes (s .place .node) fs e ds left i r k qs ps us ts x)
+              carry refl
               (fails turns s left
-              (symbol-step ps k us h ∙ symbol-fails table small classes pattern bytes (s .place) (s .frames) fs r k (plain (symbol r ps) qs) us ts (h .is .here) x))
-              is-failed
+              (symbol-step ps j us h ∙ symbol-fails table small classes pattern bytes (s .place) (s .frames) fs r j (plain (symbol r ps) qs) us ts (h .is .here) x))
+              (k .fails-fits (frame (plain (symbol r ps) qs) (node j us :: ts) (s .place .node) ∷ fs) e ds
+              (λ y. machine-symbol table classes y (s .place .node) fs e ds r qs ps j us ts
+              ∙ ap (λ (b : Bool). counted (ifTrue b
+              (λ u. machine table classes y (frame ps us (s .place .node + width table j) ∷ frame qs ts (s .place .node + size table (node j us)) ∷ fs) e ds))) x)
+              left i s)
 
     -- a complement
     module _ (q : Pattern) (qs : Children) (t : Term) (ts : Terms) (h : Ready (suc turns) s (plain (complement q) qs) (t :: ts) fs e ds) (i : 0 < left) where
@@ -401,9 +513,13 @@ module _ (table : List ℕ) (small : length table ≤ 200) (classes : List ℕ) 
           let low = child-here table classes pattern bytes (s .place) (s .frames) fs (plain (complement q) qs) qs (patternTree (complement q)) (t :: ts) refl
           (h .is .here) in
           let wide = branch-some table (patternTree (complement q)) [] in
-          carry (step-complement table classes (s .place .node) fs e ds left i q qs t ts
-          ∙ ap (λ (x : ℕ). meter (left - 1) (machine table classes (frame qs ts (s .place .node + x) ∷ fs) e (ds ++ (pending q t (s .place .node) ∷ []))))
-          (sym (sizes-single table t)))
+          let b : (y : ℕ → Tries) → machine table classes y (frame (plain (complement q) qs) (t :: ts) (s .place .node) ∷ fs) e ds
+          ≡ counted (machine table classes y (frame qs ts (s .place .node + sizes table (single t)) ∷ fs) e (ds ++ (pending q t (s .place .node) ∷ []))) =
+          λ y. machine-complement table classes y (s .place .node) fs e ds q qs t ts
+          ∙ ap (λ (x : ℕ). counted (machine table classes y (frame qs ts (s .place .node + x) ∷ fs) e (ds ++ (pending q t (s .place .node) ∷ []))))
+          (sym (sizes-single table t)) in
+          carry (k .step (frame (plain (complement q) qs) (t :: ts) (s .place .node) ∷ fs) (frame qs ts (s .place .node + sizes table (single t)) ∷ fs)
+          e e ds (ds ++ (pending q t (s .place .node) ∷ [])) b left i)
           (puts-by turns s left _ _
           (does-pair table classes pattern bytes (s .place) (s .frames) fs (complement q) qs _ left t ts (h .is .here) i
           ∙ complement-put-by table small classes pattern bytes (s .place) (s .frames) fs q qs t ts _ (h .is .here))
@@ -418,13 +534,15 @@ module _ (table : List ℕ) (small : length table ≤ 200) (classes : List ℕ) 
             };
             few = omega (arith, h .few);
             long = omega (arith, h .long);
+            known = k .known-step (frame (plain (complement q) qs) (t :: ts) (s .place .node) ∷ fs)
+                (frame qs ts (s .place .node + sizes table (single t)) ∷ fs) e e ds (ds ++ (pending q t (s .place .node) ∷ [])) b (λ j m. m) (h .known);
           }))
 
     on-pair : (q : Pattern) (qs : Children) (t : Term) (ts : Terms) → Ready (suc turns) s (plain q qs) (t :: ts) fs e ds → Split left 0
         → Agreed (plain q qs) (t :: ts)
     on-pair q qs t ts h (enough i) = on-spent q qs t ts h (omega arith)
     on-pair (name v) qs t ts h (over i) = on-name v qs t ts h i (e .value v) refl
-    on-pair (symbol r ps) qs (node k us) ts h (over i) = on-symbol r qs ts i k ps us h
+    on-pair (symbol r ps) qs (node j us) ts h (over i) = on-symbol r qs ts i j ps us h
     on-pair (complement q) qs t ts h (over i) = on-complement q qs t ts h i
 
   module _ (turns : ℕ) (goes : Goes turns) (s : State) (e : Env) (ds : List Pending) (left : ℕ) where
@@ -435,9 +553,12 @@ module _ (table : List ℕ) (small : length table ≤ 200) (classes : List ℕ) 
         go : (c : Counts) (cs : List Counts) → s .frames ≡ c ∷ cs → Agreed turns goes s (f ∷ fs) e ds left end nil
         go c cs x =
             let g = subst (λ (l : List Counts). Here table pattern bytes (s .place) l end nil (f ∷ fs)) x (h .is .here) in
+            let b : (y : ℕ → Tries) → machine table classes y (frame end nil (s .place .node) ∷ f ∷ fs) e ds
+            ≡ machine table classes y (frame (f .patterns) (f .elements) (closedBy (c ∷ cs) s .place .node) ∷ fs) e ds =
+            λ y. machine-end table classes y (s .place .node) (f ∷ fs) e ds
+            ∙ ap (λ (m : ℕ). machine table classes y (frame (f .patterns) (f .elements) m ∷ fs) e ds) (close-at table pattern bytes (s .place) cs c f fs g) in
             carry
-            (ap (meter left) (machine-end table classes (s .place .node) (f ∷ fs) e ds
-            ∙ ap (λ (k : ℕ). machine table classes (frame (f .patterns) (f .elements) k ∷ fs) e ds) (close-at table pattern bytes (s .place) cs c f fs g)))
+            (k .same (frame end nil (s .place .node) ∷ f ∷ fs) (frame (f .patterns) (f .elements) (closedBy (c ∷ cs) s .place .node) ∷ fs) e e ds ds b left)
             (closes turns s left (turn-end table classes pattern bytes _ (s .place) left (alone (s .frames)) (h .is .here .children) (h .is .here .elements)
             ∙ ap (λ (l : List Counts). cond (alone l) (Stops NoPair) Closes) x)
             ∙ ap (λ (l : List Counts). searched turns (closedBy l s) left) x)
@@ -446,15 +567,18 @@ module _ (table : List ℕ) (small : length table ≤ 200) (classes : List ℕ) 
               is = record { here = here-close table pattern bytes (s .place) cs c f fs g; shown = h .is .shown; waiting = h .is .waiting };
               few = h .few;
               long = omega (arith, h .long);
+              known = k .known-same (frame end nil (s .place .node) ∷ f ∷ fs)
+                  (frame (f .patterns) (f .elements) (closedBy (c ∷ cs) s .place .node) ∷ fs) e e ds ds b (λ j m. m) (h .known);
             }))
 
     -- the end of a level
     on-end : Ready (suc turns) s end nil [] e ds → Agreed turns goes s [] e ds left end nil
     on-end h =
-        carry (ap (meter left) (machine-end table classes (s .place .node) [] e ds))
+        carry (k .same (frame end nil (s .place .node) ∷ []) [] e e ds ds (λ y. machine-end table classes y (s .place .node) [] e ds) left)
         (stops turns s left NoPair (turn-end table classes pattern bytes _ (s .place) left (alone (s .frames)) (h .is .here .children) (h .is .here .elements)
         ∙ ap (λ (l : List Counts). cond (alone l) (Stops NoPair) Closes) (stacked-alone table (s .frames) _ (h .is .here .around))))
-        (complements-agree table classes bytes n lv searches pattern narrow (s .parts) e (s .waiting) ds left (h .is .shown) (h .is .waiting) (omega (arith, h .few)))
+        (k .end-fits s e ds (h .is .shown) (h .is .waiting) (omega (arith, h .few))
+        (k .known-same (frame end nil (s .place .node) ∷ []) [] e e ds ds (λ y. machine-end table classes y (s .place .node) [] e ds) (λ j m. m) (h .known)) left)
 
   turn : (turns : ℕ) → Goes turns → Goes (suc turns)
   turn turns goes s end nil [] e ds left h = on-end turns goes s e ds left h

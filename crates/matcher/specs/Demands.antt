@@ -1,24 +1,28 @@
 -- What is demanded of the call: its answer `a` and the final buffer `after`, where the buffer held `before`.
 use Prim.Native.Nat.{ℕ, zero, _+_, _*_, _<_, _≤_}
 use mathlib.Core.Path.{_≡_}
-use mathlib.Core.Logic.{_↔_}
+use mathlib.Core.Logic.{_⊎_, _↔_}
 use mathlib.Core.List.{List, []}
 use mathlib.Core.Bool.{true, false}
 use mathlib.Core.Option.{Option, none, some}
 use lib.ListN.{length, getD, take, drop}
+use Rattle.term.specs.Code.{variables}
 use Rattle.term.specs.Term.{Term, Terms, termsBytes}
 use Rattle.term.specs.Pattern.{Pattern}
 use Rattle.term.specs.Refusal.{numberOf}
 use Rattle.term.specs.declared.Refusal.{Refusal}
+use Rattle.term.specs.declared.Refusal.the-variants.{Unknown}
 use Rattle.anti_pattern.specs.AntiTerm.{Substitution}
 use Rattle.anti_pattern.specs.Answer.{countOf}
-use Rattle.anti_pattern.specs.Demands.{First, Unsatisfied}
+use Rattle.anti_pattern.specs.Demands.{First, Unsatisfied, OneForEach, UnknownLengths, Given, NextAfter, Last, EveryAnswer}
 use Rattle.anti_pattern.specs.Language.{Language}
 use Rattle.anti_pattern.specs.Meaning.{Assignment, CountAsOne}
+use Rattle.anti_pattern.specs.Next.{nextCount}
 use Rattle.anti_pattern.specs.Place.{place}
 use Rattle.anti_pattern.specs.Published.{Solution, NoRuns, anti, assignment}
 use Rattle.anti_pattern.specs.Variables.{free, among}
 use Rattle.matcher.specs.Call.{answerNumber, answerCount, languageOf, broughtAccepted, Input, answerOf, bufferOf}
+use Rattle.matcher.specs.Next.{nextOf, nextBufferOf}
 use Rattle.matcher.specs.declared.Answer.{Answer}
 use Rattle.search.specs.Shown.{answerWidth}
 
@@ -36,7 +40,7 @@ pub record Shows (table bytes : List ℕ) (q : Pattern) (t : Term) (x : Assignme
   pub value-bytes : (v : ℕ) (w : Terms) → among v (free q) ≡ true → x v ≡ some w
       → take (lengthIn buffer v) (drop (offsetIn buffer v) bytes) ≡ termsBytes table w []
   -- "A name that is not free shows the absent mark, 65,535 and 0."
-  pub absent-mark : (v : ℕ) → v < 48 → among v (free q) ≡ false → (offsetIn buffer v ≡ 65535) × (lengthIn buffer v ≡ 0)
+  pub absent-mark : (v : ℕ) → v < variables → among v (free q) ≡ false → (offsetIn buffer v ≡ 65535) × (lengthIn buffer v ≡ 0)
 
 module _ (table : List ℕ) (brought : Option (List ℕ)) where
   abbrev l : Language
@@ -66,20 +70,49 @@ module _ (table : List ℕ) (brought : Option (List ℕ)) where
     -- it is the only substitution there is
     pub only-one : (σ ρ : Substitution) → Solution l (anti q n) t σ → Solution l (anti q n) t ρ → CountAsOne l (assignment σ) (assignment ρ)
 
+  -- The next answer (document 02, L3), for the trees of accepted input
+  pub record NextAnswered (pattern bytes given before : List ℕ) (allowance : ℕ) (q : Pattern) (t : Term) (a : Answer) (after : List ℕ) : Type 0 where
+    -- 15 exactly for unknown lengths
+    pub unknown-exactly : (answerNumber a ≡ numberOf Unknown) ↔ UnknownLengths l q t given allowance
+    -- spent exactly when the count is over the allowance, which it then shows
+    pub spent-exactly : (answerNumber a ≡ 11) ↔ (OneForEach q given × (allowance < nextCount l q t given))
+    pub spent-shows : answerNumber a ≡ 11 → answerCount a ≡ allowance
+    -- otherwise the count
+    pub shows-count : (answerNumber a ≡ 10) ⊎ (answerNumber a ≡ 0) → answerCount a ≡ nextCount l q t given
+    -- none exactly when the given answer is the last
+    pub none-exactly : (answerNumber a ≡ 10) ↔ ((nextCount l q t given ≤ allowance) × ((x : Assignment) × Given l q t given x × Last l q t x))
+    -- bound exactly when another comes after it, and then the buffer shows the next
+    pub bound-exactly : (answerNumber a ≡ 0)
+        ↔ ((nextCount l q t given ≤ allowance) × ((x : Assignment) × (y : Assignment) × Given l q t given x × NextAfter l q t x y))
+    pub bound-shows : answerNumber a ≡ 0 → (x : Assignment) × (y : Assignment) × Given l q t given x × NextAfter l q t x y × Shows table bytes q t y after
+    -- every larger allowance gives the same answer and final buffer
+    pub larger-allowance : (more : ℕ) → nextCount l q t given ≤ allowance → allowance ≤ more
+        → (nextOf table brought pattern bytes given more (length before) ≡ a) × (nextBufferOf table brought pattern bytes given more before ≡ after)
+    -- the answers from the first on are all
+    pub every : EveryAnswer l q t
+
 -- Demand 1: any input gets an answer or a numbered refusal; the order of the checks is that of `checked` (Call)
-pub record Handled (table : List ℕ) (brought : Option (List ℕ)) (pattern bytes before : List ℕ) (a : Answer) (after : List ℕ) : Type 0 where
-  -- refused exactly when the buffer is narrow, or the class list or the input is not accepted; a refusal shows count 0
+pub record Handled (table : List ℕ) (brought : Option (List ℕ)) (pattern bytes : List ℕ) (Unanswered : Pattern → Term → Type 0) (before : List ℕ)
+    (a : Answer) (after : List ℕ) : Type 0 where
+  -- refused exactly when the buffer is narrow, or the class list or the input is not accepted, or accepted input is not answered; a refusal shows
+  -- count 0
   pub refused-exactly : ((r : Refusal) × (answerNumber a ≡ numberOf r))
-      ↔ (answerWidth ≤ length before → broughtAccepted table brought ≡ true → (q : Pattern) (t : Term) → Input table pattern bytes q t → ⊥)
+      ↔ (answerWidth ≤ length before → broughtAccepted table brought ≡ true → (q : Pattern) (t : Term) → Input table pattern bytes q t → Unanswered q t)
   pub refused-shows : (r : Refusal) → answerNumber a ≡ numberOf r → answerCount a ≡ 0
   -- "Unless a rule was bound the answer buffer is untouched"; "What lies past 96 stays."
   pub untouched : (answerNumber a ≡ 0 → ⊥) → after ≡ before
   pub past-stays : drop answerWidth after ≡ drop answerWidth before
 
--- All three
+-- All three; accepted input is always answered
 pub record Demanded (table : List ℕ) (brought : Option (List ℕ)) (pattern bytes before : List ℕ) (allowance : ℕ) (a : Answer) (after : List ℕ) : Type 0 where
-  pub handled : Handled table brought pattern bytes before a after
+  pub handled : Handled table brought pattern bytes (λ q t. ⊥) before a after
   pub published : answerWidth ≤ length before → broughtAccepted table brought ≡ true → (q : Pattern) (t : Term) → Input table pattern bytes q t → (n : NoRuns q)
       → Published table brought bytes allowance q n t a after
   pub answered : answerWidth ≤ length before → broughtAccepted table brought ≡ true → (q : Pattern) (t : Term) → Input table pattern bytes q t
       → Answered table brought pattern bytes before allowance q t a after
+
+-- The next answer (document 02, L3): answer and final buffer after the answer with the given run lengths
+pub record NextDemanded (table : List ℕ) (brought : Option (List ℕ)) (pattern bytes given before : List ℕ) (allowance : ℕ) (a : Answer) (after : List ℕ) : Type 0 where
+  pub handled : Handled table brought pattern bytes (λ q t. UnknownLengths (languageOf table brought) q t given allowance) before a after
+  pub answered : answerWidth ≤ length before → broughtAccepted table brought ≡ true → (q : Pattern) (t : Term) → Input table pattern bytes q t
+      → NextAnswered table brought pattern bytes given before allowance q t a after

@@ -1,12 +1,17 @@
 // The match of one pattern against one record: the checks, the search, and the answer in the caller's buffer.
+use search::Known;
 use search::Outcome;
 use term::Read;
 use term::Refusal;
 ghost use mathlib.Core.Path.{_≡_};
+ghost use mathlib.Core.List.{[]};
 ghost use mathlib.Core.Option.{none, some};
+ghost use Prim.Native.Nat.{_≤_};
 ghost use lib.ListN.{length};
-ghost use Rattle.matcher.specs.Call.{answerNumber, answerCount, broughtBy, broughtAccepted, checked, checkOf, answerOf, bufferOf, answerOnBytes, bufferOnBytes};
-ghost use Rattle.matcher.specs.Demands.{Demanded};
+ghost use Rattle.matcher.specs.Call.{answerNumber, answerCount, broughtBy, classesOf, broughtAccepted, checked, checkOf, answerOf, bufferOf, answerOnBytes, bufferOnBytes, told, repliedBy};
+ghost use Rattle.matcher.specs.Next.{toldNext, nextOf, nextBufferOf, followingOnBytes};
+ghost use Rattle.search.specs.Following.{nextPass, shownPass};
+ghost use Rattle.matcher.specs.Demands.{Demanded, NextDemanded};
 
 // How many numbers an answer has.
 pub const ANSWER_WIDTH: usize = search::ANSWER_WIDTH;
@@ -92,6 +97,18 @@ fn check_input(
     Check::Passed
 }
 
+// A search that ends with so much of the allowance left.
+fn ended(outcome: Outcome, allowance: u32, left: u32) -> Answer
+    requires { ⌜ left ≤ allowance ⌝ }
+    ensures { λ r. ⌜ r ≡ told (repliedBy outcome allowance left []) ⌝ }
+{
+    match outcome {
+        Outcome::Found => Answer::Bound(allowance - left),
+        Outcome::Failed => Answer::None(allowance - left),
+        Outcome::Spent => Answer::Spent(allowance),
+    }
+}
+
 // The match of bytes as they are: of a pattern and a record that passed their checks by this table, with a class list that did, or an empty
 // one, it is the match with every check. Only the buffer is checked here.
 pub fn match_checked(
@@ -111,11 +128,7 @@ pub fn match_checked(
     let end = search::search(table, classes, pattern, record, allowance, answer);
     let outcome = end.outcome;
     let left = end.left;
-    match outcome {
-        Outcome::Found => Answer::Bound(allowance - left),
-        Outcome::Failed => Answer::None(allowance - left),
-        Outcome::Spent => Answer::Spent(allowance),
-    }
+    ended(outcome, allowance, left)
 }
 
 // The match of a pattern against a record, with every check.
@@ -156,4 +169,101 @@ pub fn match_one_with_classes(
         Check::Failed(r) => Answer::Refused(r),
         Check::Passed => match_checked(table, classes, pattern, record, allowance, answer),
     }
+}
+
+// The answer after the one with the given run lengths, of bytes as they are.
+fn next_checked(
+    table: &[u8],
+    classes: &[u8],
+    pattern: &[u8],
+    record: &[u8],
+    given: &[u16],
+    allowance: u32,
+    answer: &mut [u16],
+) -> Answer
+    ensures is { λ r. ⌜ r ≡ toldNext (followingOnBytes (now (table .entry)) (now (classes .entry)) (now (pattern .entry)) (now («record» .entry)) (now (given .entry)) allowance) ⌝ }
+    ensures buffer { λ r. ⌜ now (answer .exit) ≡ shownPass (nextPass (now (table .entry)) (now (classes .entry)) (now (pattern .entry)) (now («record» .entry)) (now (given .entry)) allowance) (now (answer .entry)) ⌝ }
+{
+    let end = search::search_next(table, classes, pattern, record, given, allowance, answer);
+    let known = end.known;
+    let left = end.left;
+    match known {
+        Known::Ended(outcome) => ended(outcome, allowance, left),
+        Known::Unknown => Answer::Refused(Refusal::Unknown),
+    }
+}
+
+// The same with every check, by a class list if the call brings one; else `classes` is empty.
+fn next_brought(
+    table: &[u8],
+    brings: bool,
+    classes: &[u8],
+    pattern: &[u8],
+    record: &[u8],
+    given: &[u16],
+    allowance: u32,
+    answer: &mut [u16],
+) -> Answer
+    requires { ⌜ now classes ≡ classesOf (broughtBy brings (now classes)) ⌝ }
+    ensures is { λ r. ⌜ r ≡ nextOf (now (table .entry)) (broughtBy brings (now (classes .entry))) (now (pattern .entry)) (now («record» .entry)) (now (given .entry)) allowance (length (now (answer .entry))) ⌝ }
+    ensures buffer { λ r. ⌜ now (answer .exit) ≡ nextBufferOf (now (table .entry)) (broughtBy brings (now (classes .entry))) (now (pattern .entry)) (now («record» .entry)) (now (given .entry)) allowance (now (answer .entry)) ⌝ }
+    ensures demand { λ r. ⌜ NextDemanded (now (table .entry)) (broughtBy brings (now (classes .entry))) (now (pattern .entry)) (now («record» .entry)) (now (given .entry)) (now (answer .entry)) allowance r (now (answer .exit)) ⌝ }
+{
+    let checks = check_input(table, brings, classes, pattern, record, answer.len());
+    match checks {
+        Check::Failed(r) => Answer::Refused(r),
+        Check::Passed => next_checked(table, classes, pattern, record, given, allowance, answer),
+    }
+}
+
+// The answer after the one with the given run lengths: one for each free run name, in elements, in order of their first places outside
+// complements. With every check.
+pub fn next(
+    table: &[u8],
+    pattern: &[u8],
+    record: &[u8],
+    given: &[u16],
+    allowance: u32,
+    answer: &mut [u16],
+) -> Answer
+    ensures is { λ r. ⌜ r ≡ nextOf (now (table .entry)) none (now (pattern .entry)) (now («record» .entry)) (now (given .entry)) allowance (length (now (answer .entry))) ⌝ }
+    ensures buffer { λ r. ⌜ now (answer .exit) ≡ nextBufferOf (now (table .entry)) none (now (pattern .entry)) (now («record» .entry)) (now (given .entry)) allowance (now (answer .entry)) ⌝ }
+    ensures demand { λ r. ⌜ NextDemanded (now (table .entry)) none (now (pattern .entry)) (now («record» .entry)) (now (given .entry)) (now (answer .entry)) allowance r (now (answer .exit)) ⌝ }
+{
+    next_brought(
+        table,
+        false,
+        &table[..0],
+        pattern,
+        record,
+        given,
+        allowance,
+        answer,
+    )
+}
+
+// The same up to class, by a class list.
+pub fn next_with_classes(
+    table: &[u8],
+    classes: &[u8],
+    pattern: &[u8],
+    record: &[u8],
+    given: &[u16],
+    allowance: u32,
+    answer: &mut [u16],
+) -> Answer
+    ensures is { λ r. ⌜ r ≡ nextOf (now (table .entry)) (some (now (classes .entry))) (now (pattern .entry)) (now («record» .entry)) (now (given .entry)) allowance (length (now (answer .entry))) ⌝ }
+    ensures buffer { λ r. ⌜ now (answer .exit) ≡ nextBufferOf (now (table .entry)) (some (now (classes .entry))) (now (pattern .entry)) (now («record» .entry)) (now (given .entry)) allowance (now (answer .entry)) ⌝ }
+    ensures demand { λ r. ⌜ NextDemanded (now (table .entry)) (some (now (classes .entry))) (now (pattern .entry)) (now («record» .entry)) (now (given .entry)) (now (answer .entry)) allowance r (now (answer .exit)) ⌝ }
+{
+    next_brought(
+        table,
+        true,
+        classes,
+        pattern,
+        record,
+        given,
+        allowance,
+        answer,
+    )
 }

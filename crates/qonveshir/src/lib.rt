@@ -7,7 +7,8 @@ ghost use mathlib.Core.Option.{none, some};
 ghost use Prim.Native.Nat.{_≤_};
 ghost use lib.ListN.{length};
 ghost use Rattle.matcher.specs.Call.{answerOf, bufferOf};
-ghost use Rattle.matcher.specs.Demands.{Demanded};
+ghost use Rattle.matcher.specs.Demands.{Demanded, NextDemanded};
+ghost use Rattle.matcher.specs.Next.{nextOf, nextBufferOf};
 ghost use Rattle.rules.specs.Answer.{ruleIndex};
 ghost use Rattle.rules.specs.Call.{answerOf as rulesAnswer, bufferOf as rulesBuffer};
 ghost use Rattle.rules.specs.Demands.{Demanded as RulesDemanded};
@@ -107,6 +108,43 @@ pub extern "C" fn qonveshir_match_with_classes(
     ensures demand { λ _. ⌜ Demanded (now (table .entry)) (some (now (classes .entry))) (now (pattern .entry)) (now («record» .entry)) (now (answer .entry)) allowance (answerOf (now (table .entry)) (some (now (classes .entry))) (now (pattern .entry)) (now («record» .entry)) allowance (length (now (answer .entry)))) (now (answer .exit)) ⌝ }
 {
     let a = matcher::match_one_with_classes(table, classes, pattern, record, allowance, answer);
+    answer_shown(a)
+}
+
+// The answer after the one with the given run lengths.
+#[no_mangle]
+pub extern "C" fn qonveshir_next(
+    table: &[u8],
+    pattern: &[u8],
+    record: &[u8],
+    given: &[u16],
+    allowance: u32,
+    answer: &mut [u16],
+) -> Outcome
+    ensures shown { λ r. ⌜ r ≡ answerShown (nextOf (now (table .entry)) none (now (pattern .entry)) (now («record» .entry)) (now (given .entry)) allowance (length (now (answer .entry)))) ⌝ }
+    ensures buffer { λ _. ⌜ now (answer .exit) ≡ nextBufferOf (now (table .entry)) none (now (pattern .entry)) (now («record» .entry)) (now (given .entry)) allowance (now (answer .entry)) ⌝ }
+    ensures demand { λ _. ⌜ NextDemanded (now (table .entry)) none (now (pattern .entry)) (now («record» .entry)) (now (given .entry)) (now (answer .entry)) allowance (nextOf (now (table .entry)) none (now (pattern .entry)) (now («record» .entry)) (now (given .entry)) allowance (length (now (answer .entry)))) (now (answer .exit)) ⌝ }
+{
+    let a = matcher::next(table, pattern, record, given, allowance, answer);
+    answer_shown(a)
+}
+
+// The same up to class.
+#[no_mangle]
+pub extern "C" fn qonveshir_next_with_classes(
+    table: &[u8],
+    classes: &[u8],
+    pattern: &[u8],
+    record: &[u8],
+    given: &[u16],
+    allowance: u32,
+    answer: &mut [u16],
+) -> Outcome
+    ensures shown { λ r. ⌜ r ≡ answerShown (nextOf (now (table .entry)) (some (now (classes .entry))) (now (pattern .entry)) (now («record» .entry)) (now (given .entry)) allowance (length (now (answer .entry)))) ⌝ }
+    ensures buffer { λ _. ⌜ now (answer .exit) ≡ nextBufferOf (now (table .entry)) (some (now (classes .entry))) (now (pattern .entry)) (now («record» .entry)) (now (given .entry)) allowance (now (answer .entry)) ⌝ }
+    ensures demand { λ _. ⌜ NextDemanded (now (table .entry)) (some (now (classes .entry))) (now (pattern .entry)) (now («record» .entry)) (now (given .entry)) (now (answer .entry)) allowance (nextOf (now (table .entry)) (some (now (classes .entry))) (now (pattern .entry)) (now («record» .entry)) (now (given .entry)) allowance (length (now (answer .entry)))) (now (answer .exit)) ⌝ }
+{
+    let a = matcher::next_with_classes(table, classes, pattern, record, given, allowance, answer);
     answer_shown(a)
 }
 

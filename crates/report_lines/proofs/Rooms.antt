@@ -53,7 +53,7 @@ answer-counted l q t = go (whole l q t .out) (countOf l q t) (ltb allowance (cou
   where
     go : (o : Outcome) (n : ℕ) (b : Bool) → ltb allowance n ≡ b → Counted (limit b allowance (shown (l .table) o n))
     go o n true e = omega arith
-    go (found x) n false e = ltb-false allowance n e
+    go (found x m o) n false e = ltb-false allowance n e
     go failed n false e = ltb-false allowance n e
 
 -- of the rules that a sheet holds at most: the index shown has 2 digits, the sum 7

@@ -15,14 +15,14 @@ use Rattle.term.specs.declared.Code.the-variants.{Symbol}
 use Rattle.term.specs.declared.Part.{Part}
 use Rattle.search.specs.State.{turns, PutBy, place, state, passed, partAt, walked, symbolStep, pairStep, codeStep, overStep, stepOf, variableAt, nextOf, walkOf}
 use Rattle.search.specs.Level.{reply, failedAt, startOf, insideOf, complementsOf, levelOf, endOf}
-use Rattle.search.specs.Inner.Replies.{turned, EndsAtOnce, ComplementIs}
+use Rattle.search.specs.Inner.Replies.{turned, replyWith, EndsAtOnce, ComplementIs}
 use Rattle.search.specs.declared.Marks.{Marks}
 use Rattle.search.specs.declared.Step.{Step}
 use Rattle.search.specs.declared.Step.the-variants.{Fails, Passes}
 use Rattle.search.specs.declared.Stop.the-variants.{Failure, NoPair}
 use Rattle.search.specs.declared.Ended.{Ended}
 use Rattle.search.specs.declared.Outcome.{Outcome}
-use Rattle.search.specs.declared.Outcome.the-variants.{Found, Failed}
+use Rattle.search.specs.declared.Outcome.the-variants.{Found, Failed, Spent}
 use Rattle.search.proofs.Steps.{rest-drop, symbol-leaf, plain-pair, step-at}
 use Rattle.search.proofs.Walks.{walk-suc}
 use Rattle.search.proofs.Kept.{kept-all}
@@ -70,20 +70,25 @@ module _ (table classes pattern bytes : List ℕ) (node left b : ℕ) (some : le
   unfolding symbolStep
   symbol-differs n = record {
     some = pos-of-ne-zero some;
-    ends = λ shown k h. ap endOf (sym (
+    ends = λ shown k h. sym (
         level-stops k table classes pattern bytes (startOf shown node) left Failure (left - 1) (startOf shown node) (failedAt (left - 1)) h
-        (walk-differs shown (rw (there-first, n))) refl));
+        (walk-differs shown (rw (there-first, n))) refl);
   }
 
   pub symbol-agrees : sameByte classes false b (getD bytes node 0) ≡ true → (e : ℕ) → e ≡ entryOf table b → e ≡ 0 → EndsAtOnce table classes pattern bytes node left Found
   unfolding complementsOf
   symbol-agrees s e entry z = record {
     some = pos-of-ne-zero some;
-    ends = λ shown k h. ap endOf (sym (
+    ends = λ shown k h. sym (
         level-stops k table classes pattern bytes (startOf shown node) left NoPair (left - 1) (state shown [] [] (passed (place 1 1 0 node) 1 1 1))
         (reply Found (left - 1) shown) h
-        (walk-agrees shown (symbol-leaf table classes here there b (rw there-first s) e entry z)) refl));
+        (walk-agrees shown (symbol-leaf table classes here there b (rw there-first s) e entry z)) refl);
   }
+
+end-with : (o : Outcome) (left : ℕ) (shown : List Part) → endOf (replyWith o left shown) ≡ record { outcome = o; left = left }
+end-with Found left shown = refl
+end-with Failed left shown = refl
+end-with Spent left shown = refl
 
 -- a complement whose inside ends at its first pair
 pub complement-ends : (pattern : List ℕ) (c : PutBy) (within : c .at + 1 + c .size ≤ length pattern)
@@ -102,4 +107,5 @@ complement-ends pattern c within table classes bytes assigned left parts stack m
     is : (shown : List Part) (n : ℕ) → 0 < n
         → endOf (levelOf n table classes bytes (take (c .size) (drop (c .at + 1) pattern)) (startOf shown (c .node)) left) ≡ record { outcome = o; left = left - 1 }
     is shown n h =
-        ap (λ (q : List ℕ). endOf (levelOf n table classes bytes q (startOf shown (c .node)) left)) (sym (inside-is pattern c within)) ∙ d .ends shown n h
+        ap (λ (q : List ℕ). endOf (levelOf n table classes bytes q (startOf shown (c .node)) left)) (sym (inside-is pattern c within))
+        ∙ ap endOf (d .ends shown n h) ∙ end-with o (left - 1) shown

@@ -9,7 +9,7 @@ use mathlib.Core.Bool.{Bool, true, false, cond, true≢false}
 use lib.Bits.{bitOr}
 use lib.ListN.{length, getD, set, replicate, length-replicate, getD-replicate}
 use lib.Dec.{eqb}
-use Rattle.term.specs.Limits.{longestRecord}
+use Rattle.term.specs.Limits.{longestRecord, longestPattern}
 use Rattle.term.specs.Code.{variables}
 use Rattle.term.specs.Part.{part, absent, boundPart}
 use Rattle.term.specs.declared.Part.{Part}
@@ -108,7 +108,7 @@ start-holds c h i = record {
 }
 
 -- and the whole pattern's, with nothing assigned
-pub first-holds : (codes bytes : ℕ) (parts stack : List ℕ) → codes ≤ 256 → Sized parts stack
+pub first-holds : (codes bytes : ℕ) (parts stack : List ℕ) → codes ≤ longestPattern → Sized parts stack
     → Holds codes bytes 0 parts stack (marks 0 0 0 0) (place 1 1 0 0) (startOf (replicate variables absent) 0)
 first-holds codes bytes parts stack h z = record {
   place = refl;

@@ -4,15 +4,18 @@ use native.Mathlib.Omega.{arith}
 use native.Mathlib.Nat.{le-refl, le-trans}
 use mathlib.Core.List.{List, [], _∷_}
 use mathlib.Core.Bool.{Bool, true, false, cond, _&&_}
-use lib.ListN.{length, take, drop, replicate}
-use lib.Dec.{eqb, leb}
-use Rattle.term.specs.Limits.{longestRecord}
+use lib.ListN.{length, getD, take, drop, replicate}
+use lib.Dec.{eqb, ltb, leb}
+use Rattle.term.specs.Limits.{longestRecord, longestPattern}
 use Rattle.term.specs.Code.{variables}
 use Rattle.term.specs.Extent.{extentOf}
 use Rattle.term.specs.Part.{absent}
 use Rattle.term.specs.declared.Part.{Part}
 use Rattle.search.specs.State.{turns, PutBy, State, Walked, alone, variableAt, partAt, closed, stepOf, nextOf, walkOf}
 use Rattle.search.specs.Level.{Reply, failed, startOf, tried, orElse, lengthsOf, insideOf, refuted, complementsOf, stopBy, afterWalk, levelOf, levels, searchOf}
+use Rattle.search.specs.Given.{Pass, ends, unknown, elementsOf, resumedBy, orFurther, furtherOf, givenLengthOf, givenBy, afterGiven, givenOf}
+use Rattle.search.specs.Following.{followedOf, nextPass}
+use Rattle.search.specs.Spread.{freeIn, spreadTo}
 use Rattle.search.specs.declared.Step.{Step}
 use Rattle.search.specs.declared.Step.the-variants.{Stops, Fails, Closes, Opens, Passes, Binds, PutsBy}
 use Rattle.search.specs.declared.Stop.{Stop}
@@ -33,6 +36,32 @@ refuted-left : (o : Outcome) (left : ℕ) (next : ℕ → Reply) {n : ℕ} → (
 refuted-left Found left next h k = k
 refuted-left Failed left next h k = le-trans (h left) k
 refuted-left Spent left next h k = k
+
+-- of a pass, where it ends
+data Leaves (n : ℕ) : Pass → Type 0 where
+  leaves : {r : Reply} → r .left ≤ n → Leaves n (ends r)
+  unknown-leaves : Leaves n unknown
+
+either-leaves : {n : ℕ} (b : Bool) {x y : Pass} → Leaves n x → Leaves n y → Leaves n (cond b x y)
+either-leaves true h k = h
+either-leaves false h k = k
+
+leaves-more : {m n : ℕ} {p : Pass} → Leaves m p → m ≤ n → Leaves n p
+leaves-more (leaves h) k = leaves (le-trans h k)
+leaves-more unknown-leaves k = unknown-leaves
+
+resumed-leaves : {n : ℕ} (o : Outcome) (left : ℕ) → left ≤ n → Leaves n (resumedBy o left)
+resumed-leaves Found left h = leaves h
+resumed-leaves Failed left h = unknown-leaves
+resumed-leaves Spent left h = leaves h
+
+further-leaves : {n : ℕ} {p : Pass} (next : ℕ → Reply) → ((l : ℕ) → next l .left ≤ l) → Leaves n p → Leaves n (orFurther p next)
+further-leaves next h (leaves {r} k) = leaves (or-left r next h k)
+further-leaves next h unknown-leaves = unknown-leaves
+
+followed-left : (allowance : ℕ) {p : Pass} → Leaves allowance p → followedOf allowance p .left ≤ allowance
+followed-left allowance (leaves h) = h
+followed-left allowance unknown-leaves = le-refl allowance
 
 -- of a walk, and of what it leads to
 
@@ -89,5 +118,51 @@ module _ (table classes bytes : List ℕ) where
   pub search-left : (pattern : List ℕ) (allowance : ℕ) → searchOf table classes pattern bytes allowance .left ≤ allowance
   unfolding searchOf
   search-left pattern allowance =
-      either (leb (length pattern) 256 && leb (length bytes) longestRecord) _ _
+      either (leb (length pattern) longestPattern && leb (length bytes) longestRecord) _ _
       (level-left (levels pattern 0) pattern (startOf (replicate variables absent) 0) allowance) (le-refl allowance)
+
+  -- of a pass
+
+  pass-further : (lv : State → ℕ → Reply) → ((s : State) (l : ℕ) → lv s l .left ≤ l) → (v : ℕ) (s : State) (k n size left : ℕ)
+      → furtherOf lv table bytes v s k n size left .left ≤ left
+  unfolding furtherOf
+  pass-further lv h v s zero n size left = le-refl left
+  pass-further lv h v s (suc k) n size left =
+      lengths-left lv h v s k (n + 1) (size + extentOf table (drop (s .place .node + size) bytes)) left
+
+  given-length-left : (gl : State → ℕ → Pass) → ((s : State) (l : ℕ) → Leaves l (gl s l)) → (lv : State → ℕ → Reply)
+      → ((s : State) (l : ℕ) → lv s l .left ≤ l) → (n v : ℕ) (s : State) (left : ℕ) → Leaves left (givenLengthOf gl lv table bytes n v s left)
+  unfolding givenLengthOf
+  given-length-left gl g lv h n v s left =
+      let size = elementsOf table (drop (s .place .node) bytes) n in
+      either-leaves (eqb left 0) (leaves (le-refl left))
+      (either-leaves (ltb (s .place .elements) n) unknown-leaves
+      (further-leaves (furtherOf lv table bytes v s (s .place .elements - n) n size) (pass-further lv h v s (s .place .elements - n) n size)
+      (leaves-more (g (tried s v n size) (left - 1)) (omega arith))))
+
+  given-by-left : (gl : State → ℕ → Pass) → ((s : State) (l : ℕ) → Leaves l (gl s l)) → (lv : List ℕ → State → ℕ → Reply)
+      → ((pattern : List ℕ) (s : State) (l : ℕ) → lv pattern s l .left ≤ l) → (pattern lengths : List ℕ) (stop : Stop) (s : State) (left : ℕ)
+      → Leaves left (givenBy stop gl lv table pattern bytes lengths s left)
+  given-by-left gl g lv h pattern lengths Failure s left = unknown-leaves
+  given-by-left gl g lv h pattern lengths NoAllowance s left = leaves (le-refl left)
+  given-by-left gl g lv h pattern lengths NoPair s left =
+      resumed-leaves (complementsOf lv pattern (s .parts) (s .waiting) left .outcome) _ (complements-left lv h pattern (s .parts) (s .waiting) left)
+  given-by-left gl g lv h pattern lengths (RunName v) s left = given-length-left gl g (lv pattern) (h pattern) (getD lengths v 0) v s left
+
+  given-left : (n : ℕ) (pattern lengths : List ℕ) (s : State) (left : ℕ) → Leaves left (givenOf n table classes bytes pattern lengths s left)
+  unfolding givenOf afterGiven
+  given-left zero pattern lengths s left = unknown-leaves
+  given-left (suc n) pattern lengths s left =
+      let w = walkOf turns table classes pattern bytes s left in
+      leaves-more
+      (given-by-left (givenOf n table classes bytes pattern lengths) (given-left n pattern lengths) (levelOf n table classes bytes) (level-left n) pattern lengths
+      (w .stop) (w .state) (w .left)) (walk-left turns pattern s left)
+
+  pub following-left : (pattern given : List ℕ) (allowance : ℕ) → followedOf allowance (nextPass table classes pattern bytes given allowance) .left ≤ allowance
+  unfolding nextPass
+  following-left pattern given allowance =
+      followed-left allowance
+      (either-leaves (leb (length pattern) longestPattern && leb (length bytes) longestRecord)
+      (either-leaves (eqb (length given) (length (freeIn table pattern)))
+      (given-left (levels pattern 0) pattern (spreadTo (freeIn table pattern) given (replicate variables 0)) (startOf (replicate variables absent) 0) allowance)
+      unknown-leaves) unknown-leaves)

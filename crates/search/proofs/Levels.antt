@@ -3,15 +3,15 @@
 use Prim.Native.Nat.{ℕ, zero, suc, _+_, _-_, _^_, _<_, _≤_}
 use native.Mathlib.Omega.{arith}
 use native.Mathlib.Nat.{sub-zero, le-refl}
-use mathlib.Core.Path.{_≡_, refl, sym, ap, subst, _∙_}
+use mathlib.Core.Path.{_≡_, refl, sym, ap, subst, _∙_, ap₂}
 use mathlib.Core.List.{List, [], _∷_}
-use mathlib.Core.Bool.{true, false, cond, _&&_, true≢false}
+use mathlib.Core.Bool.{Bool, true, false, cond, _&&_, true≢false}
 use lib.Bits.{bitOr}
 use lib.ListN.{length, getD, take, drop, set, replicate, length-drop}
 use lib.Seq.{length-take-le, set-out}
 use lib.Dec.{leb, eqb}
 use borrow.Author.Tests.{le-leb, eq-eqb, ne-eqb}
-use Rattle.term.specs.Limits.{longestRecord}
+use Rattle.term.specs.Limits.{longestRecord, longestPattern}
 use Rattle.term.specs.Code.{variables}
 use Rattle.term.specs.Extent.{extentOf}
 use Rattle.term.specs.Part.{absent, boundPart}
@@ -21,6 +21,7 @@ use Rattle.search.specs.Level.{Reply, reply, failedAt, spentAt, failed, 
 use Rattle.search.specs.Inner.Memory.{marks, packed, putByIn, Queued, Insides, Sized, Holds, Holding, Kept}
 use Rattle.search.specs.Inner.Bounds.{Walks}
 use Rattle.search.specs.Inner.Replies.{failure, found, turned, partsIn, replyOf, given, triesOf, inside, Free, Resting, Testable, LevelIs, RestIs, FollowIs, ComplementIs, ComplementsAre}
+use Rattle.search.specs.Inner.Halts.{Reports, Told, Halts, Halting, RestBy, LevelBy}
 use Rattle.search.specs.declared.Place.{Place}
 use Rattle.search.specs.declared.Marks.{Marks}
 use Rattle.search.specs.declared.Stop.{Stop}
@@ -72,7 +73,7 @@ module _ (lv : State → ℕ → Reply) (table bytes : List ℕ) (v : ℕ) (s : 
   tries-more zero n size left r z e f h = absurd (omega arith)
   tries-more (suc k) n size left r z e f h = let i : suc k - 1 ≡ k = omega arith in rw (← e, f, ne-eqb (r .left) 0 h, i)
 
-  given-past : (n size : ℕ) → given (past s) v n size ≡ tried s v n size
+  pub given-past : (n size : ℕ) → given (past s) v n size ≡ tried s v n size
   given-past n size =
       let a : s .place .elements - 0 ≡ s .place .elements = omega arith in
       let b : s .place .node + 0 ≡ s .place .node = omega arith in
@@ -117,20 +118,28 @@ rest-follows {table} {classes} {pattern} {bytes} {left = left} {r = r} {o = o} {
       kept-then (w .still) (w .more-frames) (w .more-waiting) (w .kept) (follows .kept);
 }
 
-place-is : (p q : Place) → p .children ≡ q .children → p .elements ≡ q .elements → p .at ≡ q .at → p .node ≡ q .node → p ≡ q
+pub place-is : (p q : Place) → p .children ≡ q .children → p .elements ≡ q .elements → p .at ≡ q .at → p .node ≡ q .node → p ≡ q
 place-is p q a b c d =
     let e : place (p .children) (p .elements) (p .at) (p .node) ≡ place (q .children) (q .elements) (q .at) (q .node) = rw (a, b, c, d) in e
 
+-- A level's start gives no variable any element
+
+given-none : (s : State) → length (s .parts) ≡ variables → given s variables 0 0 ≡ s
+given-none s h =
+    let a : s .place .elements - 0 ≡ s .place .elements = omega arith in
+    let b : s .place .node + 0 ≡ s .place .node = omega arith in
+    rw (set-out (s .parts) variables (boundPart (s .place .node) 0 0) (omega (arith, h)), a, b)
+
 -- The loop over lengths
 
-module _ (table classes pattern bytes : List ℕ) (assigned allowance : ℕ) (parts₀ stack₀ : List ℕ) (v most : ℕ) (m : Marks) (start : Place) where
+module _ (table classes pattern bytes : List ℕ) (assigned allowance : ℕ) (parts₀ stack₀ : List ℕ) (v first behind most : ℕ) (m : Marks) (start : Place) where
   abbrev Starts : State → Type 0
   Starts s = Holds (length pattern) (length bytes) assigned parts₀ stack₀ m start s
 
   abbrev triesFrom : ℕ → State → ℕ → ℕ → ℕ → ℕ → Reply
   triesFrom k s more n size left = triesOf (levelOf k table classes bytes pattern) table bytes v s more n size left
 
-  -- the search from length 0 on is the search from length n on, at the place p
+  -- the search from the first length on is the search from length n on, at the place p
   pub record Trying (left : ℕ) (parts stack : List ℕ) (p : Place) (n : ℕ) : Type 0 where
     pub few : n ≤ most
     pub children : p .children ≡ start .children
@@ -139,19 +148,24 @@ module _ (table classes pattern bytes : List ℕ) (assigned allowance : ℕ) (pa
     pub further : start .node ≤ p .node
     pub within : p .node ≤ length bytes
     pub kept : Kept assigned m parts₀ stack₀ parts stack
+    pub least : first ≤ n
+    pub fresh : n ≡ first → (left ≡ allowance) × (p .node - start .node ≡ behind)
     pub same : (s : State) → Starts s → (k : ℕ) → levels pattern (start .at) ≤ k
-        → triesFrom k s most 0 0 allowance ≡ triesFrom k s (most - n) n (p .node - start .node) left
+        → triesFrom k s (most - first) first behind allowance ≡ triesFrom k s (most - n) n (p .node - start .node) left
 
-  pub try-first : start .node ≤ length bytes → Trying allowance parts₀ stack₀ start 0
-  try-first h = record {
-    few = omega arith;
-    children = refl;
-    elements = omega arith;
-    at = refl;
-    further = omega arith;
-    within = h;
+  pub try-first : (p : Place) → first ≤ most → p .children ≡ start .children → p .elements ≡ start .elements - first → p .at ≡ start .at
+      → start .node ≤ p .node → p .node ≤ length bytes → behind ≡ p .node - start .node → Trying allowance parts₀ stack₀ p first
+  try-first p few children elements at further within z = record {
+    few = few;
+    children = children;
+    elements = elements;
+    at = at;
+    further = further;
+    within = within;
     kept = kept-all;
-    same = λ s i k l. let z : start .node - start .node ≡ 0 = omega arith in rw (sub-zero most, z);
+    least = le-refl first;
+    fresh = λ e. (refl, sym z);
+    same = λ s i k l. ap (λ (x : ℕ). triesFrom k s (most - first) first x allowance) z;
   }
 
   module _ {left : ℕ} {parts stack : List ℕ} {p : Place} {n : ℕ} (t : Trying left parts stack p n) where
@@ -209,7 +223,7 @@ module _ (table classes pattern bytes : List ℕ) (assigned allowance : ℕ) (pa
             (kept-part assigned assigned m m parts₀ stack₀ parts stack (t .kept) (λ i b. b) v part (q .free .free)) (rest .kept)
 
         abbrev replied : (o′ : Outcome) → Type 0
-        replied o′ = LevelIs table classes pattern bytes assigned allowance parts₀ stack₀ v most m start o′ assigned₂ left₂ parts₂ stack₂
+        replied o′ = LevelIs table classes pattern bytes assigned allowance parts₀ stack₀ v first behind most m start o′ assigned₂ left₂ parts₂ stack₂
 
         fails : failed o ≡ true → failed (answer .outcome) ≡ true
         fails f = ap failed (reply-outcome left₂ assigned₂ parts₂ o) ∙ f
@@ -251,6 +265,8 @@ module _ (table classes pattern bytes : List ℕ) (assigned allowance : ℕ) (pa
           further = omega (arith, d, t .further);
           within = omega (arith, d, w);
           kept = turn-kept;
+          least = omega (arith, t .least);
+          fresh = λ y. absurd (omega (arith, t .least, y));
           same = λ s h k l.
               let j : most - n - 1 ≡ most - (n + 1) = omega arith in
               let g : s .place .node + size ≡ p .node = omega (arith, ap (λ (x : Place). x .node) (h .place), t .further) in
@@ -261,21 +277,74 @@ module _ (table classes pattern bytes : List ℕ) (assigned allowance : ℕ) (pa
               ∙ rw (reply-left left₂ assigned₂ parts₂ o, j, g, x, is-e, rest-drop (p .node) bytes);
         }
 
--- A level's start gives no variable any element
+      -- and where the level halts
+      module _ {o : Outcome} {assigned₂ left₂ : ℕ} {parts₂ stack₂ : List ℕ} where
+        try-halt : v ≡ variables → first ≡ 0 → most ≡ 0 → behind ≡ 0
+            → Halts table classes pattern bytes seen left (set parts v part) stack m p o assigned₂ left₂ parts₂ stack₂
+            → Halts table classes pattern bytes assigned allowance parts₀ stack₀ m start o assigned₂ left₂ parts₂ stack₂
+        try-halt is-v is-first is-most none r = record {
+          reached = r .reached;
+          parts₁ = r .parts₁;
+          walks = λ s h. let w = r .walks (given s v n size) (written-holds s h) in record {
+            end = w .end;
+            is = ap₂ (λ (x : State) (l : ℕ). walkOf turns table classes pattern bytes x l) (sym (unchanged s h)) (sym (t .fresh at-first .0)) ∙ w .is;
+            holds = w .holds;
+            kept =
+                kept-then {m₁ = m} (λ i b. rw (q .is-seen) (bit-still assigned v i b)) (le-refl (m .frames)) (le-refl (m .waiting))
+                (kept-part assigned assigned m m parts₀ stack₀ parts stack (t .kept) (λ i b. b) v part (q .free .free)) (w .kept);
+            still = λ i b. w .still i (rw (q .is-seen) (bit-still assigned v i b));
+            more-frames = w .more-frames;
+            more-waiting = w .more-waiting;
+            same-first = w .same-first;
+            further = omega (arith, w .further, t .at);
+            stops = w .stops;
+            unassigned = w .unassigned;
+          };
+          same-left = r .same-left;
+          told = r .told;
+        }
+          where
+            at-first : n ≡ first
+            at-first = omega (arith, t .few, t .least, is-most)
 
-given-none : (s : State) → length (s .parts) ≡ variables → given s variables 0 0 ≡ s
-given-none s h =
-    let a : s .place .elements - 0 ≡ s .place .elements = omega arith in
-    let b : s .place .node + 0 ≡ s .place .node = omega arith in
-    rw (set-out (s .parts) variables (boundPart (s .place .node) 0 0) (omega (arith, h)), a, b)
+            unchanged : (s : State) → Starts s → given s v n size ≡ s
+            unchanged s h =
+                ap (λ (x : ℕ). given s x n size) is-v ∙ ap (λ (x : ℕ). given s variables x size) (at-first ∙ is-first)
+                ∙ ap (λ (x : ℕ). given s variables 0 x) (t .fresh at-first .1 ∙ none) ∙ given-none s (h .all-variables)
+
+      module _ {halts : Bool} {o : Outcome} {assigned₂ left₂ : ℕ} {parts₂ stack₂ : List ℕ} (a : Halting halts v first most behind)
+          (rest : RestBy halts table classes pattern bytes seen left (set parts v part) stack m p o assigned₂ left₂ parts₂ stack₂) where
+        abbrev repliedBy : (o′ : Outcome) → Type 0
+        repliedBy o′ = LevelBy halts table classes pattern bytes assigned allowance parts₀ stack₀ v first behind most m start o′ assigned₂ left₂ parts₂ stack₂
+
+        halt-by : halts ≡ true → Halts table classes pattern bytes assigned allowance parts₀ stack₀ m start o assigned₂ left₂ parts₂ stack₂
+        halt-by h = let n = a .none h in try-halt (n .0) (n .1) (n .2) (n .3) (rest .halted h)
+
+        pub try-last-by : most ≤ n → repliedBy o
+        try-last-by e = record { halted = halt-by; going = λ h. try-last (rest .going h) e }
+
+        pub try-hit-by : failed o ≡ false → repliedBy o
+        try-hit-by f = record { halted = halt-by; going = λ h. try-hit (rest .going h) f }
+
+        pub try-spent-by : failed o ≡ true → n < most → left₂ ≡ 0 → repliedBy Spent
+        try-spent-by f i z = record { halted = λ h. absurd (omega (arith, a .none h .2, i)); going = λ h. try-spent (rest .going h) f i z }
+
+        -- another length is tried only where it does not halt
+        pub rest-free : n < most → RestIs table classes pattern bytes seen left (set parts v part) stack m p o assigned₂ left₂ parts₂ stack₂
+        rest-free i = by halts refl
+          where
+            by : (b : Bool) → halts ≡ b → RestIs table classes pattern bytes seen left (set parts v part) stack m p o assigned₂ left₂ parts₂ stack₂
+            by true h = absurd (omega (arith, a .none h .2, i))
+            by false h = rest .going h
 
 pub rest-starts : {table classes pattern bytes : List ℕ} {assigned left : ℕ} {parts stack : List ℕ} {m : Marks} {p : Place}
     {o : Outcome} {assigned′ left′ : ℕ} {parts′ stack′ : List ℕ}
-    → LevelIs table classes pattern bytes assigned left parts stack variables 0 m p o assigned′ left′ parts′ stack′
+    → (size : ℕ) → size ≡ 0 → LevelIs table classes pattern bytes assigned left parts stack variables 0 size 0 m p o assigned′ left′ parts′ stack′
     → RestIs table classes pattern bytes assigned left parts stack m p o assigned′ left′ parts′ stack′
 unfolding triesOf
-rest-starts {table} {classes} {pattern} {bytes} {left = left} r = record {
-  replies = λ s h n l. r .replies s h n l ∙ ap (λ (x : State). levelOf n table classes bytes pattern x left) (given-none s (h .all-variables));
+rest-starts {table} {classes} {pattern} {bytes} {left = left} size z r = record {
+  replies = λ s h n l. r .replies s h n l ∙ ap (λ (x : ℕ). levelOf n table classes bytes pattern (given s variables 0 x) left) z
+      ∙ ap (λ (x : State). levelOf n table classes bytes pattern x left) (given-none s (h .all-variables));
   kept = r .kept;
 }
 
@@ -305,25 +374,26 @@ module _ (table classes pattern bytes : List ℕ) (assigned left : ℕ) (parts s
 
     -- the level past the run name, with place and variable as the code has them
     pub follow-tries : (v w : ℕ) (q : Place) → w ≡ v → q ≡ passed p 0 1 0 → (left ≡ 0 → ⊥) → p .at < length pattern
-        → LevelIs table classes pattern bytes assigned (left - 1) parts stack w (p .elements) m q o assigned′ left′ parts′ stack′
+        → (size : ℕ) → size ≡ 0 → LevelIs table classes pattern bytes assigned (left - 1) parts stack w 0 size (p .elements) m q o assigned′ left′ parts′ stack′
         → FollowIs table classes pattern bytes assigned left parts stack (RunName v) m p o assigned′ left′ parts′ stack′
-    follow-tries v w q is-w is-q z i r = record {
+    follow-tries v w q is-w is-q z i size none r = record {
       replies = λ s h n l. level-reply .replies (past s) (past-holds i h) n (omega arith)
+          ∙ ap₂ (λ (x y : ℕ). triesOf (levelOf n table classes bytes pattern) table bytes v (past s) x 0 y (left - 1)) (sub-zero (p .elements)) none
           ∙ sym (lengths-tries (levelOf n table classes bytes pattern) table bytes v s (s .place .elements) 0 0 left
           ∙ rw (ne-eqb left 0 z, h .place));
       kept = r .kept;
     }
       where
-        level-reply : LevelIs table classes pattern bytes assigned (left - 1) parts stack v (p .elements) m (passed p 0 1 0) o assigned′ left′ parts′ stack′
+        level-reply : LevelIs table classes pattern bytes assigned (left - 1) parts stack v 0 size (p .elements) m (passed p 0 1 0) o assigned′ left′ parts′ stack′
         level-reply =
-            subst (λ (x : ℕ). LevelIs table classes pattern bytes assigned (left - 1) parts stack x (p .elements) m (passed p 0 1 0) o
+            subst (λ (x : ℕ). LevelIs table classes pattern bytes assigned (left - 1) parts stack x 0 size (p .elements) m (passed p 0 1 0) o
             assigned′ left′ parts′ stack′) is-w
-            (subst (λ (x : Place). LevelIs table classes pattern bytes assigned (left - 1) parts stack w (p .elements) m x o
+            (subst (λ (x : Place). LevelIs table classes pattern bytes assigned (left - 1) parts stack w 0 size (p .elements) m x o
             assigned′ left′ parts′ stack′) is-q r)
 
 -- a walk that fails
 
-failure-is : (stop : Stop) → failure stop ≡ true → stop ≡ Failure
+pub failure-is : (stop : Stop) → failure stop ≡ true → stop ≡ Failure
 failure-is Failure e = refl
 failure-is NoAllowance e = absurd (true≢false (sym e))
 failure-is NoPair e = absurd (true≢false (sym e))
@@ -338,6 +408,49 @@ rest-fails {table} {classes} {pattern} {bytes} {r = r} {parts₁ = parts₁} {st
     rest-follows holding walks
     (follow-fails table classes pattern bytes (r .assigned) (r .left) parts₁ stack₁ (r .marks) (r .place) (r .stop) (failure-is (r .stop) e)) in
     record { replies = x .replies; kept = x .kept }
+
+-- a level that halts, or does not
+
+pub not-halting : {v first most size : ℕ} → Halting false v first most size
+not-halting = record { none = λ h. absurd (true≢false (sym h)) }
+
+module _ (halts : Bool) {table classes pattern bytes : List ℕ} {assigned left : ℕ} {parts stack : List ℕ} {m : Marks} {p : Place} {r : Reached}
+    {parts₁ stack₁ : List ℕ} (walks : Walks table classes pattern bytes assigned left parts stack m p parts₁ stack₁ r) where
+  pub rest-fails-by : Holding (length pattern) (length bytes) assigned parts stack m p → failure (r .stop) ≡ true
+      → RestBy halts table classes pattern bytes assigned left parts stack m p Failed assigned (r .left) parts₁ stack₁
+  rest-fails-by holding e = record {
+    halted = λ h. record {
+      reached = r;
+      parts₁ = parts₁;
+      walks = walks;
+      same-left = refl;
+      told = subst (λ (b : Bool). Told b r parts₁ Failed assigned parts₁) (sym e) (refl, refl);
+    };
+    going = λ h. rest-fails holding walks e;
+  }
+
+  pub rest-reports : halts ≡ true → failure (r .stop) ≡ false → {o : Outcome} {parts₂ : List ℕ}
+      → Reports parts₁ (r .stop) (r .marks) (r .place) o parts₂
+      → RestBy halts table classes pattern bytes assigned left parts stack m p o (r .assigned) (r .left) parts₂ stack₁
+  rest-reports is-true e {o} {parts₂} reports = record {
+    halted = λ h. record {
+      reached = r;
+      parts₁ = parts₁;
+      walks = walks;
+      same-left = refl;
+      told = subst (λ (b : Bool). Told b r parts₁ o (r .assigned) parts₂) (sym e) (refl, reports);
+    };
+    going = λ h. absurd (true≢false (sym is-true ∙ h));
+  }
+
+  pub rest-follows-by : halts ≡ false → Holding (length pattern) (length bytes) assigned parts stack m p
+      → {o : Outcome} {assigned₂ left₂ : ℕ} {parts₂ stack₂ : List ℕ}
+      → FollowIs table classes pattern bytes (r .assigned) (r .left) parts₁ stack₁ (r .stop) (r .marks) (r .place) o assigned₂ left₂ parts₂ stack₂
+      → RestBy halts table classes pattern bytes assigned left parts stack m p o assigned₂ left₂ parts₂ stack₂
+  rest-follows-by is-false holding follows = record {
+    halted = λ h. absurd (true≢false (sym h ∙ is-false));
+    going = λ h. rest-follows holding walks follows;
+  }
 
 -- Complements
 
@@ -356,7 +469,7 @@ module _ (pattern : List ℕ) (c : PutBy) (within : c .at + 1 + c .size ≤ leng
       → Holding (length taken) bytes assigned parts stack (inside m) (place 1 1 0 (c .node))
   inside-holding h = rw inside-length (h .holding)
 
-  module _ (table classes bytes : List ℕ) (assigned left : ℕ) (parts stack : List ℕ) (m : Marks) (short : length pattern ≤ 256) where
+  module _ (table classes bytes : List ℕ) (assigned left : ℕ) (parts stack : List ℕ) (m : Marks) (short : length pattern ≤ longestPattern) where
     complement-turned : {o o′ : Outcome} {assigned′ left′ : ℕ} {parts′ stack′ : List ℕ}
         → RestIs table classes taken bytes assigned left parts stack (inside m) (place 1 1 0 (c .node)) o assigned′ left′ parts′ stack′
         → o′ ≡ turned o → ComplementIs table classes pattern bytes assigned left parts stack c m o′ left′ parts′ stack′
@@ -376,13 +489,13 @@ module _ (pattern : List ℕ) (c : PutBy) (within : c .at + 1 + c .size ≤ leng
             r .replies (startOf shown (c .node)) (rw inside-length h) n (omega (arith, inside-length)) ∙ rw inside-is
 
     -- with the marks as the code has them
-    pub complement-tests : {k : Marks} {o o′ : Outcome} {assigned′ left′ : ℕ} {parts′ stack′ : List ℕ} → k ≡ inside m
-        → RestIs table classes taken bytes assigned left parts stack k (place 1 1 0 (c .node)) o assigned′ left′ parts′ stack′
+    pub complement-tests : {k : Marks} {p : Place} {o o′ : Outcome} {assigned′ left′ : ℕ} {parts′ stack′ : List ℕ} → k ≡ inside m → p ≡ place 1 1 0 (c .node)
+        → RestIs table classes taken bytes assigned left parts stack k p o assigned′ left′ parts′ stack′
         → o′ ≡ turned o → ComplementIs table classes pattern bytes assigned left parts stack c m o′ left′ parts′ stack′
-    complement-tests {k} {o} {o′} {assigned′} {left′} {parts′} {stack′} is-k r e =
+    complement-tests {k} {p} {o} {o′} {assigned′} {left′} {parts′} {stack′} is-k is-p r e =
         complement-turned
-        (subst (λ (x : Marks). RestIs table classes taken bytes assigned left parts stack x (place 1 1 0 (c .node)) o assigned′ left′ parts′ stack′)
-        is-k r) e
+        (subst (λ (x : Marks). RestIs table classes taken bytes assigned left parts stack x (place 1 1 0 (c .node)) o assigned′ left′ parts′ stack′) is-k
+        (subst (λ (x : Place). RestIs table classes taken bytes assigned left parts stack k x o assigned′ left′ parts′ stack′) is-p r)) e
 
 module _ (assigned left : ℕ) (parts : List ℕ) (next : ℕ → Reply) where
   refuted-stop : (a o : Outcome) (l : ℕ) → o ≡ turned a → left ≡ l → found o ≡ false → replyOf o left assigned parts ≡ refuted a l next
@@ -522,15 +635,17 @@ module _ (table classes pattern bytes : List ℕ) (assigned allowance : ℕ) (pa
 -- The whole search
 
 module _ (table classes pattern bytes : List ℕ) (allowance : ℕ) where
-  pub search-over : leb (length pattern) 256 && leb (length bytes) longestRecord ≡ false → failedAt allowance ≡ searchOf table classes pattern bytes allowance
+  pub search-over : leb (length pattern) longestPattern && leb (length bytes) longestRecord ≡ false → failedAt allowance ≡ searchOf table classes pattern bytes allowance
   unfolding searchOf
   search-over h = rw h
 
-  pub search-within : (parts stack : List ℕ) {o : Outcome} {assigned left : ℕ} {parts′ stack′ : List ℕ}
-      → length pattern ≤ 256 → length bytes ≤ longestRecord → Sized parts stack
-      → RestIs table classes pattern bytes 0 allowance parts stack (marks 0 0 0 0) (place 1 1 0 0) o assigned left parts′ stack′
+  pub search-within : (parts stack : List ℕ) {p : Place} {o : Outcome} {assigned left : ℕ} {parts′ stack′ : List ℕ}
+      → length pattern ≤ longestPattern → length bytes ≤ longestRecord → Sized parts stack → p ≡ place 1 1 0 0
+      → RestIs table classes pattern bytes 0 allowance parts stack (marks 0 0 0 0) p o assigned left parts′ stack′
       → replyOf o left assigned parts′ ≡ searchOf table classes pattern bytes allowance
   unfolding searchOf
-  search-within parts stack h k z r =
-      rw (le-leb (length pattern) 256 h, le-leb (length bytes) longestRecord k)
+  search-within parts stack {p} {o} {assigned} {left} {parts′} {stack′} h k z is-p r₁ =
+      let r : RestIs table classes pattern bytes 0 allowance parts stack (marks 0 0 0 0) (place 1 1 0 0) o assigned left parts′ stack′ =
+      subst (λ (x : Place). RestIs table classes pattern bytes 0 allowance parts stack (marks 0 0 0 0) x o assigned left parts′ stack′) is-p r₁ in
+      rw (le-leb (length pattern) longestPattern h, le-leb (length bytes) longestRecord k)
       (r .replies (startOf (replicate variables absent) 0) (first-holds (length pattern) (length bytes) parts stack h z) (levels pattern 0) (omega arith))

@@ -9,5 +9,9 @@ pub mod Kept
 pub mod Levels
 pub mod FirstPairs
 pub mod Halves
+pub mod Reporting
+pub mod Givens
+pub mod Spreads
+pub mod Nexts
 pub mod Lefts
 pub mod Shown

@@ -1,6 +1,6 @@
 -- What a search shows in the answer buffer.
 -- Assumes nothing.
-use Prim.Native.Nat.{ℕ, zero, suc, _+_, _*_, _/_, _%_, _^_, _<_, _≤_}
+use Prim.Native.Nat.{ℕ, zero, suc, _+_, _-_, _*_, _/_, _%_, _^_, _<_, _≤_}
 use native.Mathlib.Omega.{arith}
 use native.Mathlib.Numerals.{add-one}
 use mathlib.Core.Path.{_≡_, refl, sym, _∙_, ap, ap₂}
@@ -9,15 +9,15 @@ use mathlib.Core.Bool.{Bool, true, false, _&&_, true≢false}
 use lib.ListN.{length, getD, drop, set, replicate, length-set, getD-replicate}
 use lib.Seq.{getD-set-same, getD-set-other, set-append-left, drop-at, paste, paste-zero, paste-suc}
 use lib.Dec.{leb, eqb}
-use borrow.Author.Tests.{lt-ltb, le-ltb, eqb-true, eqb-false}
-use Rattle.term.specs.Limits.{longestRecord}
+use borrow.Author.Tests.{lt-ltb, le-ltb, le-leb, eqb-true, eqb-false}
+use Rattle.term.specs.Limits.{longestRecord, longestPattern}
 use Rattle.term.specs.Code.{variables}
 use Rattle.term.specs.Part.{nowhere, part, absent}
 use Rattle.term.specs.declared.Part.{Part}
-use Rattle.search.specs.Level.{Reply, endOf, searchOf}
+use Rattle.search.specs.Level.{Reply, levels, endOf, searchOf}
 use Rattle.search.specs.Shown.{answerWidth, numbers, shownBy, shownIn}
 use Rattle.search.specs.Inner.Memory.{partIn}
-use Rattle.search.specs.Inner.Replies.{found, partsIn, replyOf}
+use Rattle.search.specs.Inner.Replies.{found, partsIn, replyWith, replyOf, EndsAtOnce}
 use Rattle.search.specs.declared.Ended.{Ended}
 use Rattle.search.specs.declared.Outcome.{Outcome}
 use Rattle.search.specs.declared.Outcome.the-variants.{Found, Failed, Spent}
@@ -209,6 +209,13 @@ other-unshown Found ps before h = absurd (true≢false h)
 other-unshown Failed ps before h = refl
 other-unshown Spent ps before h = refl
 
+pub absent-shown : (o : Outcome) (before after : List ℕ) → found o ≡ true → answerWidth ≤ length before
+    → after ≡ marks ++ drop answerWidth before → after ≡ shownBy o (replicate variables absent) before
+unfolding shownBy
+absent-shown Found before after h wide e = e ∙ rw (le-ltb (length before) answerWidth wide)
+absent-shown Failed before after h wide e = absurd (true≢false (sym h))
+absent-shown Spent before after h wide e = absurd (true≢false (sym h))
+
 pub narrow-unshown : (o : Outcome) (ps : List Part) (before : List ℕ) → length before < answerWidth → before ≡ shownBy o ps before
 unfolding shownBy
 narrow-unshown Found ps before h = rw (lt-ltb (length before) answerWidth h) refl
@@ -225,15 +232,28 @@ module _ (table classes pattern bytes before : List ℕ) (allowance : ℕ) where
   abbrev pub Shows : Ended → List ℕ → Type 0
   Shows e after = (e ≡ endOf (searchOf table classes pattern bytes allowance)) × (after ≡ shownIn (searchOf table classes pattern bytes allowance) before)
 
-  pub over-shows : leb (length pattern) 256 && leb (length bytes) longestRecord ≡ false → Shows (ended Failed allowance) before
+  pub over-shows : leb (length pattern) longestPattern && leb (length bytes) longestRecord ≡ false → Shows (ended Failed allowance) before
   unfolding shownBy
   over-shows h =
       let z = search-over table classes pattern bytes allowance h in
       (ap endOf z, ap (λ (r : Reply). shownIn r before) z)
 
+  reply-shows : (o : Outcome) (left : ℕ) (shown : List Part) (after : List ℕ) → after ≡ shownBy o shown before
+      → replyWith o left shown ≡ searchOf table classes pattern bytes allowance → Shows (ended o left) after
+  unfolding shownBy
+  reply-shows Found left shown after s z = (ap endOf z, s ∙ ap (λ (r : Reply). shownIn r before) z)
+  reply-shows Failed left shown after s z = (ap endOf z, s ∙ ap (λ (r : Reply). shownIn r before) z)
+  reply-shows Spent left shown after s z = (ap endOf z, s ∙ ap (λ (r : Reply). shownIn r before) z)
+
   pub within-shows : (o : Outcome) (left assigned : ℕ) (parts after : List ℕ) → after ≡ shownBy o (partsIn assigned parts 0 variables) before
       → replyOf o left assigned parts ≡ searchOf table classes pattern bytes allowance → Shows (ended o left) after
-  unfolding shownBy
-  within-shows Found left assigned parts after s z = (ap endOf z, s ∙ ap (λ (r : Reply). shownIn r before) z)
-  within-shows Failed left assigned parts after s z = (ap endOf z, s ∙ ap (λ (r : Reply). shownIn r before) z)
-  within-shows Spent left assigned parts after s z = (ap endOf z, s ∙ ap (λ (r : Reply). shownIn r before) z)
+  within-shows o left assigned parts after s z = reply-shows o left (partsIn assigned parts 0 variables) after s z
+
+  -- its first pair decides it
+  pub at-once-shows : (o : Outcome) (after : List ℕ) → length pattern ≤ longestPattern → length bytes ≤ longestRecord
+      → EndsAtOnce table classes pattern bytes 0 allowance o → after ≡ shownBy o (replicate variables absent) before
+      → Shows (ended o (allowance - 1)) after
+  unfolding searchOf
+  at-once-shows o after h k d s =
+      reply-shows o (allowance - 1) (replicate variables absent) after s
+      (rw (le-leb (length pattern) longestPattern h, le-leb (length bytes) longestRecord k) (sym (d .ends (replicate variables absent) (levels pattern 0) (omega arith))))

@@ -2,3 +2,5 @@
 pub mod Memory
 pub mod Bounds
 pub mod Replies
+pub mod Halts
+pub mod GivenReplies

@@ -14,7 +14,7 @@ use term::same;
 use term::same_symbol;
 ghost use mathlib.Core.Path.{_≡_};
 ghost use mathlib.Core.List.{_++_};
-ghost use mathlib.Core.Bool.{_&&_};
+ghost use mathlib.Core.Bool.{_&&_, false};
 ghost use Prim.Native.Nat.{_+_, _-_, _/_, _%_, _^_, _≤_, _<_};
 ghost use lib.ListN.{length, drop, replicate, set};
 ghost use lib.Bits.{bitOr};
@@ -25,9 +25,14 @@ ghost use Rattle.term.specs.Part.{absent, boundPart};
 ghost use Rattle.search.specs.State.{place, remainingIn, nextIn, placeOf, frame, putBy, passed, entered, reopened, variableOf, variableAt, standsOf, overStep, symbolStep, assignedStep, nameStep, runStep, complementStep, pairStep, plainStep, stepOf};
 ghost use Rattle.search.specs.Level.{failed, endOf, searchOf};
 ghost use Rattle.search.specs.Inner.Memory.{stackPlaces, bit, packed, unpacked, partIn, frameIn, outer, putByIn, nodesIn, queueIn, marksOf, openedMarks, closedMarks, putByMarks, FramePushed, ComplementPushed, Holding};
-ghost use Rattle.search.specs.Inner.Bounds.{Short, Walks, StopsAt, Unassigned, reached};
+ghost use Rattle.search.specs.Given.{elementsOf};
+ghost use Rattle.search.specs.Spread.{pastOf};
+ghost use Rattle.search.specs.Following.{nextPass, followedOf, shownPass, shownKnown};
+ghost use Rattle.search.specs.Inner.GivenReplies.{resuming, resumedAs, leftBy, FurtherIs, GivenFollows, GivenIs, SpreadIs};
+ghost use Rattle.search.specs.Inner.Bounds.{Short, Ready, Walks, StopsAt, Unassigned, reached};
 ghost use Rattle.search.specs.Shown.{answerWidth, numbers, shownBy, shownIn};
-ghost use Rattle.search.specs.Inner.Replies.{failure, found, turned, partsIn, inside, Free, Resting, Testable, Decides, LevelIs, RestIs, FollowIs, ComplementIs, ComplementsAre};
+ghost use Rattle.search.specs.Inner.Replies.{failure, found, turned, partsIn, inside, Free, Between, runStart, Resting, Testable, Decides, RestIs, FollowIs, ComplementIs, ComplementsAre};
+ghost use Rattle.search.specs.Inner.Halts.{haltedAs, runOf, stopIn, reportedBy, Reports, Halting, RestBy, LevelBy, PairsAre};
 
 // The numbers that a variable is shown with: offset and length.
 pub const ENTRY_WIDTH: usize = 2;
@@ -35,8 +40,8 @@ pub const ENTRY_WIDTH: usize = 2;
 // The numbers of an answer.
 pub const ANSWER_WIDTH: usize = ENTRY_WIDTH * VARIABLES;
 
-// A part for each variable, and one for none.
-const PARTS: usize = VARIABLES + 1;
+// A part for each variable, and three for where a level halts; the first of them is also that of no variable.
+const PARTS: usize = VARIABLES + 3;
 
 // A place in the stack for each byte of the longest pattern.
 const STACK: usize = LONGEST_PATTERN;
@@ -782,8 +787,8 @@ impl Marks {
     }
 }
 
-// The variable v is given 0 up to `most` of the elements from a place on, until the rest of the level does not fail. At a level's start v is `VARIABLES`, for
-// none, and `most` 0.
+// The variable v is given `first` up to `most` of the elements from a byte on, until the rest of the level does not fail; the place is that behind
+// the first of these lengths. At a level's start v is `VARIABLES`, for none, and `most` 0. A level that halts only reports where its pairs stop.
 fn level(
     table: &[u8],
     classes: &[u8],
@@ -794,24 +799,26 @@ fn level(
     assigned: &mut u64,
     left: &mut u32,
     v: usize,
+    halts: bool,
+    first: u8,
     most: u8,
+    from: usize,
     nodes: Nodes,
     queue: Queue,
     remaining: Remaining,
     next: Next,
 ) -> Outcome
-    requires { ⌜ Holding (length (now pattern)) (length (now «record»)) (now assigned) (now parts) (now stack) (marksOf nodes queue) (placeOf remaining next) × Free (now assigned) v × (most ≤ remaining .elements) × Short (now pattern) (now «record») ⌝ }
-    ensures { λ r. ⌜ LevelIs (now (table .entry)) (now (classes .entry)) (now (pattern .entry)) (now («record» .entry)) (now (assigned .entry)) (now (left .entry)) (now (parts .entry)) (now (stack .entry)) v most (marksOf nodes queue) (placeOf remaining next) r (now (assigned .exit)) (now (left .exit)) (now (parts .exit)) (now (stack .exit)) ⌝ }
+    requires { ⌜ Holding (length (now pattern)) (length (now «record»)) (now assigned) (now parts) (now stack) (marksOf nodes queue) (runStart first from (placeOf remaining next)) × Free (now assigned) v × Between first most from (length (now «record»)) (placeOf remaining next) × Short (now pattern) (now «record») × Halting halts v first most (next .node - from) ⌝ }
+    ensures { λ r. ⌜ LevelBy halts (now (table .entry)) (now (classes .entry)) (now (pattern .entry)) (now («record» .entry)) (now (assigned .entry)) (now (left .entry)) (now (parts .entry)) (now (stack .entry)) v first (next .node - from) most (marksOf nodes queue) (runStart first from (placeOf remaining next)) r (now (assigned .exit)) (now (left .exit)) (now (parts .exit)) (now (stack .exit)) ⌝ }
 {
     let marks = Marks::of(nodes, queue);
     let start = Place::of(remaining, next);
     let seen = also(*assigned, v);
-    let node = start.node;
     let mut place = start;
-    let mut n: u8 = 0;
+    let mut n = first;
     let outcome = loop {
         *assigned = seen;
-        parts[v] = packed(Part::bound(node, place.node - node, n));
+        parts[v] = packed(Part::bound(from, place.node - from, n));
         let x = rest(
             table,
             classes,
@@ -821,6 +828,7 @@ fn level(
             stack,
             assigned,
             left,
+            halts,
             marks,
             place,
         );
@@ -842,44 +850,9 @@ fn level(
     outcome
 }
 
-// A level from its start: one pattern node against the record node at a place, with these marks in use. (A function stores the slices that it
-// hands on when it starts; `level` is called from here and from `lengths` only, so that none is stored where no call is made.)
+// A level from a place, with these marks in use. (A function stores the slices that it hands on when it starts; the search calls `level` from
+// here and from `lengths` only, so that none is stored where no call is made.)
 fn start_level(
-    table: &[u8],
-    classes: &[u8],
-    pattern: &[u8],
-    record: &[u8],
-    parts: &mut [u64; PARTS],
-    stack: &mut [u32; STACK],
-    assigned: &mut u64,
-    left: &mut u32,
-    marks: Marks,
-    node: usize,
-) -> Outcome
-    requires { ⌜ Holding (length (now pattern)) (length (now «record»)) (now assigned) (now parts) (now stack) marks (place 1 1 0 node) × Short (now pattern) (now «record») ⌝ }
-    ensures { λ r. ⌜ RestIs (now (table .entry)) (now (classes .entry)) (now (pattern .entry)) (now («record» .entry)) (now (assigned .entry)) (now (left .entry)) (now (parts .entry)) (now (stack .entry)) marks (place 1 1 0 node) r (now (assigned .exit)) (now (left .exit)) (now (parts .exit)) (now (stack .exit)) ⌝ }
-{
-    let start = Place::start(node);
-    level(
-        table,
-        classes,
-        pattern,
-        record,
-        parts,
-        stack,
-        assigned,
-        left,
-        VARIABLES,
-        0,
-        marks.nodes(),
-        marks.queue(),
-        start.remaining(),
-        start.next(),
-    )
-}
-
-// The rest of a level from a place: the pairs that leave no choice, and what follows them.
-fn rest(
     table: &[u8],
     classes: &[u8],
     pattern: &[u8],
@@ -893,6 +866,128 @@ fn rest(
 ) -> Outcome
     requires { ⌜ Holding (length (now pattern)) (length (now «record»)) (now assigned) (now parts) (now stack) marks start × Short (now pattern) (now «record») ⌝ }
     ensures { λ r. ⌜ RestIs (now (table .entry)) (now (classes .entry)) (now (pattern .entry)) (now («record» .entry)) (now (assigned .entry)) (now (left .entry)) (now (parts .entry)) (now (stack .entry)) marks start r (now (assigned .exit)) (now (left .exit)) (now (parts .exit)) (now (stack .exit)) ⌝ }
+{
+    level(
+        table,
+        classes,
+        pattern,
+        record,
+        parts,
+        stack,
+        assigned,
+        left,
+        VARIABLES,
+        false,
+        0,
+        0,
+        start.node,
+        marks.nodes(),
+        marks.queue(),
+        start.remaining(),
+        start.next(),
+    )
+}
+
+// The outcome of a level that halts.
+fn halted(stop: Stop) -> Outcome
+    ensures { λ r. ⌜ r ≡ haltedAs stop ⌝ }
+{
+    match stop {
+        Stop::Failure => Outcome::Failed,
+        Stop::NoAllowance => Outcome::Spent,
+        Stop::NoPair => Outcome::Found,
+        Stop::RunName(_) => Outcome::Found,
+    }
+}
+
+// The run name of a stop, or `VARIABLES` for none.
+fn run_of(stop: Stop) -> usize
+    ensures { λ r. ⌜ r ≡ runOf stop ⌝ }
+{
+    match stop {
+        Stop::Failure => VARIABLES,
+        Stop::NoAllowance => VARIABLES,
+        Stop::NoPair => VARIABLES,
+        Stop::RunName(v) => wide(v),
+    }
+}
+
+// Where a level halts, as the numbers of three parts.
+fn report(parts: &mut [u64; PARTS], stop: Stop, marks: Marks, place: Place) -> Outcome
+    ensures { λ r. ⌜ Reports (now (parts .entry)) stop marks place r (now (parts .exit)) ⌝ }
+{
+    parts[VARIABLES + 2] = packed(Part::bound(marks.waiting, run_of(stop), 0));
+    parts[VARIABLES + 1] = packed(Part::bound(marks.inner, marks.frames, place.children));
+    parts[VARIABLES] = packed(Part::bound(place.node, place.at, place.elements));
+    halted(stop)
+}
+
+// The stop of an outcome, at a run name or none.
+fn stop_of(outcome: Outcome, run: u16) -> Stop
+    ensures { λ r. ⌜ r ≡ stopIn outcome run ⌝ }
+{
+    match outcome {
+        Outcome::Failed => Stop::Failure,
+        Outcome::Spent => Stop::NoAllowance,
+        Outcome::Found => {
+            if (run as usize) < VARIABLES {
+                return Stop::RunName((run % 256) as u8);
+            }
+            Stop::NoPair
+        }
+    }
+}
+
+// What a level that halts reported.
+fn reported(
+    parts: &[u64; PARTS],
+    outcome: Outcome,
+    left: u32,
+    assigned: u64,
+    first: usize,
+) -> Reached
+    ensures { λ r. ⌜ r ≡ reportedBy (now (parts .entry)) outcome left assigned first ⌝ }
+{
+    let here = unpacked(parts[VARIABLES]);
+    let open = unpacked(parts[VARIABLES + 1]);
+    let put_by = unpacked(parts[VARIABLES + 2]);
+    let marks = Marks {
+        inner: open.offset as usize,
+        frames: open.length as usize,
+        first: first,
+        waiting: put_by.offset as usize,
+    };
+    let place = Place {
+        children: open.elements,
+        elements: here.elements,
+        at: here.length as usize,
+        node: here.offset as usize,
+    };
+    Reached::of(
+        stop_of(outcome, put_by.length),
+        left,
+        assigned,
+        marks,
+        place,
+    )
+}
+
+// The rest of a level from a place: the pairs that leave no choice, and what follows them, unless it halts there.
+fn rest(
+    table: &[u8],
+    classes: &[u8],
+    pattern: &[u8],
+    record: &[u8],
+    parts: &mut [u64; PARTS],
+    stack: &mut [u32; STACK],
+    assigned: &mut u64,
+    left: &mut u32,
+    halts: bool,
+    marks: Marks,
+    start: Place,
+) -> Outcome
+    requires { ⌜ Holding (length (now pattern)) (length (now «record»)) (now assigned) (now parts) (now stack) marks start × Short (now pattern) (now «record») ⌝ }
+    ensures { λ r. ⌜ RestBy halts (now (table .entry)) (now (classes .entry)) (now (pattern .entry)) (now («record» .entry)) (now (assigned .entry)) (now (left .entry)) (now (parts .entry)) (now (stack .entry)) marks start r (now (assigned .exit)) (now (left .exit)) (now (parts .exit)) (now (stack .exit)) ⌝ }
 {
     let w = walk(
         table,
@@ -914,6 +1009,9 @@ fn rest(
         return Outcome::Failed;
     }
     *assigned = w.assigned;
+    if halts {
+        return report(parts, stop, ends, end);
+    }
     follow(
         table,
         classes,
@@ -1008,7 +1106,10 @@ fn lengths(
         assigned,
         left,
         wide(v),
+        false,
+        0,
         place.elements,
+        past.node,
         marks.nodes(),
         marks.queue(),
         past.remaining(),
@@ -1084,7 +1185,7 @@ fn complement(
         assigned,
         left,
         marks.inside(),
-        node,
+        Place::start(node),
     ))
 }
 
@@ -1129,6 +1230,319 @@ fn complements(
     Outcome::Found
 }
 
+// The search after a given answer ends; or the lengths given belong to no answer.
+pub enum Known {
+    Ended(Outcome),
+    Unknown,
+}
+
+fn is_resumed(known: Known) -> bool
+    ensures { λ r. ⌜ r ≡ resuming known ⌝ }
+{
+    match known {
+        Known::Ended(outcome) => is_failed(outcome),
+        Known::Unknown => false,
+    }
+}
+
+// The given answer is known where the complements put by hold; the search goes on as after a failure.
+fn resumed(outcome: Outcome) -> Known
+    ensures { λ r. ⌜ r ≡ resumedAs outcome ⌝ }
+{
+    match outcome {
+        Outcome::Found => Known::Ended(Outcome::Failed),
+        Outcome::Failed => Known::Unknown,
+        Outcome::Spent => Known::Ended(Outcome::Spent),
+    }
+}
+
+// The byte behind so many elements.
+fn behind(table: &[u8], record: &[u8], node: usize, n: u8) -> usize
+    requires { ⌜ (node ≤ length (now «record»)) × (length (now «record») ≤ longestRecord) ⌝ }
+    ensures { λ r. ⌜ (r ≡ node + elementsOf (now (table .entry)) (drop node (now («record» .entry))) n) × (r ≤ length (now («record» .entry))) ⌝ }
+{
+    let mut at = node;
+    let mut i: u8 = 0;
+    while i < n {
+        at = at + extent(table, &record[at..]);
+        i = i + 1;
+    }
+    at
+}
+
+// The lengths of an unassigned run name after n, which ends at a byte.
+fn further(
+    table: &[u8],
+    classes: &[u8],
+    pattern: &[u8],
+    record: &[u8],
+    parts: &mut [u64; PARTS],
+    stack: &mut [u32; STACK],
+    assigned: &mut u64,
+    left: &mut u32,
+    v: usize,
+    n: u8,
+    node: usize,
+    marks: Marks,
+    place: Place,
+) -> Outcome
+    requires { ⌜ Holding (length (now pattern)) (length (now «record»)) (now assigned) (now parts) (now stack) marks place × Ready (length (now pattern)) v place × (bit (now assigned) v ≡ false) × (n ≤ place .elements) × (place .node ≤ node) × (node ≤ length (now «record»)) × Short (now pattern) (now «record») ⌝ }
+    ensures { λ r. ⌜ FurtherIs (now (table .entry)) (now (classes .entry)) (now (pattern .entry)) (now («record» .entry)) (now (assigned .entry)) (now (left .entry)) (now (parts .entry)) (now (stack .entry)) v n (node - place .node) marks place r (now (assigned .exit)) (now (left .exit)) (now (parts .exit)) (now (stack .exit)) ⌝ }
+{
+    if place.elements <= n {
+        return Outcome::Failed;
+    }
+    if *left == 0 {
+        return Outcome::Spent;
+    }
+    *left = *left - 1;
+    let end = node + extent(table, &record[node..]);
+    let next = place.passed(n + 1, 1, end - place.node);
+    level(
+        table,
+        classes,
+        pattern,
+        record,
+        parts,
+        stack,
+        assigned,
+        left,
+        v,
+        false,
+        n + 1,
+        place.elements,
+        place.node,
+        marks.nodes(),
+        marks.queue(),
+        next.remaining(),
+        next.next(),
+    )
+}
+
+// The pairs that leave no choice, by a level that halts: while `walk` has one caller, it is compiled into `level`.
+fn pairs(
+    table: &[u8],
+    classes: &[u8],
+    pattern: &[u8],
+    record: &[u8],
+    parts: &mut [u64; PARTS],
+    stack: &mut [u32; STACK],
+    assigned: u64,
+    left: u32,
+    marks: Marks,
+    start: Place,
+) -> Reached
+    requires { ⌜ Holding (length (now pattern)) (length (now «record»)) assigned (now parts) (now stack) marks start × Short (now pattern) (now «record») ⌝ }
+    ensures { λ r. ⌜ PairsAre (now (table .entry)) (now (classes .entry)) (now (pattern .entry)) (now («record» .entry)) assigned left (now (parts .entry)) (now (stack .entry)) marks start (now (parts .exit)) (now (stack .exit)) r ⌝ }
+{
+    let mut seen = assigned;
+    let mut rest = left;
+    let outcome = level(
+        table,
+        classes,
+        pattern,
+        record,
+        parts,
+        stack,
+        &mut seen,
+        &mut rest,
+        VARIABLES,
+        true,
+        0,
+        0,
+        start.node,
+        marks.nodes(),
+        marks.queue(),
+        start.remaining(),
+        start.next(),
+    );
+    reported(parts, outcome, rest, seen, marks.first)
+}
+
+// The rest of a level from a place, where each unassigned run name has its given length; and the search resumed after the answer that
+// this comes to, if it does.
+fn given_rest(
+    table: &[u8],
+    classes: &[u8],
+    pattern: &[u8],
+    record: &[u8],
+    given: &[u16; VARIABLES],
+    parts: &mut [u64; PARTS],
+    stack: &mut [u32; STACK],
+    assigned: &mut u64,
+    left: &mut u32,
+    marks: Marks,
+    start: Place,
+) -> Known
+    requires { ⌜ Holding (length (now pattern)) (length (now «record»)) (now assigned) (now parts) (now stack) marks start × Short (now pattern) (now «record») ⌝ }
+    ensures { λ r. ⌜ GivenIs (now (table .entry)) (now (classes .entry)) (now (pattern .entry)) (now («record» .entry)) (now (given .entry)) (now (assigned .entry)) (now (left .entry)) (now (parts .entry)) (now (stack .entry)) marks start r (now (assigned .exit)) (now (left .exit)) (now (parts .exit)) (now (stack .exit)) ⌝ }
+{
+    let walked = pairs(
+        table,
+        classes,
+        pattern,
+        record,
+        parts,
+        stack,
+        *assigned,
+        *left,
+        marks,
+        start,
+    );
+    let stop = walked.stop;
+    let ends = walked.marks;
+    let end = walked.place;
+    *left = walked.left;
+    *assigned = walked.assigned;
+    match stop {
+        Stop::Failure => Known::Unknown,
+        Stop::NoAllowance => Known::Ended(Outcome::Spent),
+        Stop::NoPair => resumed(start_level(
+            table,
+            classes,
+            pattern,
+            record,
+            parts,
+            stack,
+            assigned,
+            left,
+            ends,
+            end,
+        )),
+        Stop::RunName(v) => given_length(
+            table,
+            classes,
+            pattern,
+            record,
+            given,
+            parts,
+            stack,
+            assigned,
+            left,
+            wide(v),
+            ends,
+            end,
+        ),
+    }
+}
+
+// The given length of an unassigned run name, fitting or not; resumed, the lengths after it.
+fn given_length(
+    table: &[u8],
+    classes: &[u8],
+    pattern: &[u8],
+    record: &[u8],
+    given: &[u16; VARIABLES],
+    parts: &mut [u64; PARTS],
+    stack: &mut [u32; STACK],
+    assigned: &mut u64,
+    left: &mut u32,
+    v: usize,
+    marks: Marks,
+    place: Place,
+) -> Known
+    requires { ⌜ Holding (length (now pattern)) (length (now «record»)) (now assigned) (now parts) (now stack) marks place × Ready (length (now pattern)) v place × (bit (now assigned) v ≡ false) × Short (now pattern) (now «record») ⌝ }
+    ensures { λ r. ⌜ GivenFollows (now (table .entry)) (now (classes .entry)) (now (pattern .entry)) (now («record» .entry)) (now (given .entry)) (now (assigned .entry)) (now (left .entry)) (now (parts .entry)) (now (stack .entry)) (Stop.RunName v) marks place r (now (assigned .exit)) (now (left .exit)) (now (parts .exit)) (now (stack .exit)) ⌝ }
+{
+    if *left == 0 {
+        return Known::Ended(Outcome::Spent);
+    }
+    *left = *left - 1;
+    let length = given[v];
+    if (place.elements as u16) < length {
+        return Known::Unknown;
+    }
+    let n = (length % 256) as u8;
+    let node = behind(table, record, place.node, n);
+    let past = place.passed(n, 1, node - place.node);
+    let before = *assigned;
+    *assigned = also(before, v);
+    parts[v] = packed(Part::bound(place.node, node - place.node, n));
+    let x = given_rest(
+        table,
+        classes,
+        pattern,
+        record,
+        given,
+        parts,
+        stack,
+        assigned,
+        left,
+        marks,
+        past,
+    );
+    if !is_resumed(x) {
+        return x;
+    }
+    *assigned = before;
+    Known::Ended(further(
+        table,
+        classes,
+        pattern,
+        record,
+        parts,
+        stack,
+        assigned,
+        left,
+        v,
+        n,
+        node,
+        marks,
+        place,
+    ))
+}
+
+// The bytes of the pattern node at the start of s, and of a complement those of its inside too.
+fn past(table: &[u8], s: &[u8]) -> usize
+    requires { ⌜ 0 < length (now s) ⌝ }
+    ensures { λ r. ⌜ (r ≡ pastOf (now (table .entry)) (now (s .entry))) × (r ≤ length (now (s .entry)) + 1) ⌝ }
+{
+    let code = decode(s[0]);
+    match code {
+        Code::Symbol(b) => {
+            if entry_of(table, b) == LIST {
+                return 2;
+            }
+            1
+        }
+        Code::Name(_) => 1,
+        Code::Run(_) => 1,
+        Code::Complement => extent(table, s),
+        Code::Refused => 1,
+    }
+}
+
+// The given lengths by run name, where there is one for each free run name.
+fn spread(table: &[u8], pattern: &[u8], given: &[u16], lengths: &mut [u16; VARIABLES]) -> bool
+    requires { ⌜ length (now pattern) ≤ longestPattern ⌝ }
+    ensures { λ r. ⌜ SpreadIs (now (table .entry)) (now (pattern .entry)) (now (given .entry)) (now (lengths .entry)) (now (lengths .exit)) r ⌝ }
+{
+    let mut at: usize = 0;
+    let mut seen: u64 = 0;
+    let mut n: usize = 0;
+    while at < pattern.len() {
+        let code = decode(pattern[at]);
+        let next = at + past(table, &pattern[at..]);
+        let Code::Run(v) = code else {
+            at = next;
+            continue;
+        };
+        if is_assigned(seen, v) {
+            at = next;
+            continue;
+        }
+        if given.len() <= n {
+            return false;
+        }
+        let i = wide(v);
+        seen = also(seen, i);
+        lengths[i] = given[n];
+        n = n + 1;
+        at = next;
+    }
+    n == given.len()
+}
+
 // Absent marks for every name and run name.
 fn clear(answer: &mut [u16])
     requires { ⌜ answerWidth ≤ length (now answer) ⌝ }
@@ -1158,6 +1572,19 @@ fn show_from(parts: &[u64; PARTS], assigned: u64, first: u8, answer: &mut [u16])
         answer[ENTRY_WIDTH * j + 1] = p.length;
         i = i + 1;
     }
+}
+
+// The same where nothing is assigned.
+fn show_absent(end: Outcome, answer: &mut [u16])
+    ensures { λ _. ⌜ now (answer .exit) ≡ shownBy end (replicate variables absent) (now (answer .entry)) ⌝ }
+{
+    if !is_found(end) {
+        return;
+    }
+    if answer.len() < ANSWER_WIDTH {
+        return;
+    }
+    clear(answer);
 }
 
 // What is found is shown in a buffer of `ANSWER_WIDTH` numbers or more: offset and length of what each name and run name is assigned, and absent marks for
@@ -1200,6 +1627,15 @@ pub fn search(
             left: allowance,
         };
     }
+    // No buffer is made where the first pair decides: most rules of a sheet fail there.
+    let first = first_pair(table, classes, pattern, record, 0, allowance);
+    if let First::Decided(outcome) = first {
+        show_absent(outcome, answer);
+        return Ended {
+            outcome: outcome,
+            left: allowance - 1,
+        };
+    }
     let mut parts = [0u64; PARTS];
     let mut stack = [0u32; STACK];
     let mut assigned: u64 = 0;
@@ -1214,11 +1650,93 @@ pub fn search(
         &mut assigned,
         &mut left,
         Marks::NONE,
-        0,
+        Place::start(0),
     );
     show(outcome, &parts, assigned, answer);
     Ended {
         outcome: outcome,
         left: left,
+    }
+}
+
+// How the search after a given answer ends, and what is left of the allowance.
+pub struct Followed {
+    pub known: Known,
+    pub left: u32,
+}
+
+// Unknown lengths count nothing.
+fn left_of(known: Known, left: u32, allowance: u32) -> u32
+    ensures { λ r. ⌜ r ≡ leftBy known left allowance ⌝ }
+{
+    match known {
+        Known::Ended(_) => left,
+        Known::Unknown => allowance,
+    }
+}
+
+// What the search after a given answer finds is shown as that of the first.
+fn show_known(known: Known, parts: &[u64; PARTS], assigned: u64, answer: &mut [u16])
+    ensures { λ _. ⌜ now (answer .exit) ≡ shownKnown known (partsIn assigned (now (parts .entry)) 0 variables) (now (answer .entry)) ⌝ }
+{
+    if let Known::Ended(outcome) = known {
+        show(outcome, parts, assigned, answer);
+    }
+}
+
+// The answer after the one with the given run lengths, in order of the free run names; unknown where there is none of these lengths, or not one
+// length for each free run name.
+pub fn search_next(
+    table: &[u8],
+    classes: &[u8],
+    pattern: &[u8],
+    record: &[u8],
+    given: &[u16],
+    allowance: u32,
+    answer: &mut [u16],
+) -> Followed
+    ensures is { λ r. ⌜ r ≡ followedOf allowance (nextPass (now (table .entry)) (now (classes .entry)) (now (pattern .entry)) (now («record» .entry)) (now (given .entry)) allowance) ⌝ }
+    ensures shows { λ r. ⌜ now (answer .exit) ≡ shownPass (nextPass (now (table .entry)) (now (classes .entry)) (now (pattern .entry)) (now («record» .entry)) (now (given .entry)) allowance) (now (answer .entry)) ⌝ }
+{
+    if LONGEST_PATTERN < pattern.len() {
+        return Followed {
+            known: Known::Unknown,
+            left: allowance,
+        };
+    }
+    if LONGEST_RECORD < record.len() {
+        return Followed {
+            known: Known::Unknown,
+            left: allowance,
+        };
+    }
+    let mut lengths = [0u16; VARIABLES];
+    if !spread(table, pattern, given, &mut lengths) {
+        return Followed {
+            known: Known::Unknown,
+            left: allowance,
+        };
+    }
+    let mut parts = [0u64; PARTS];
+    let mut stack = [0u32; STACK];
+    let mut assigned: u64 = 0;
+    let mut left: u32 = allowance;
+    let known = given_rest(
+        table,
+        classes,
+        pattern,
+        record,
+        &lengths,
+        &mut parts,
+        &mut stack,
+        &mut assigned,
+        &mut left,
+        Marks::NONE,
+        Place::start(0),
+    );
+    show_known(known, &parts, assigned, answer);
+    Followed {
+        known: known,
+        left: left_of(known, left, allowance),
     }
 }

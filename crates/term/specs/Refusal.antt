@@ -1,9 +1,9 @@
--- Document 01's number for each refusal (10 and 11, none and spent, are answers), and what a reading shows.
+-- Document 01's number for each refusal, and document 02's from 14 on (10 and 11, none and spent, are answers); and what a reading shows.
 use Prim.Native.Nat.{ℕ}
 use Rattle.term.specs.declared.Read.{Read}
 use Rattle.term.specs.declared.Read.the-variants.{Ends}
 use Rattle.term.specs.declared.Refusal.{Refusal}
-use Rattle.term.specs.declared.Refusal.the-variants.{Table, Short, Spare, BadCode, Deep, Long, Stray, Narrow, Directory, Full, Unread, Class}
+use Rattle.term.specs.declared.Refusal.the-variants.{Table, Short, Spare, BadCode, Deep, Long, Stray, Narrow, Directory, Full, Unread, Class, Unknown}
 
 abbrev pub numberOf : Refusal → ℕ
 numberOf Table = 1
@@ -18,6 +18,7 @@ numberOf Directory = 9
 numberOf Full = 12
 numberOf Unread = 13
 numberOf Class = 14
+numberOf Unknown = 15
 
 -- what is read has 0 for a number, and its length in bytes; a refusal has length 0
 abbrev pub readNumber : Read → ℕ

@@ -72,6 +72,7 @@ pub enum Refusal {
     Full,
     Unread,
     Class,
+    Unknown,
 }
 
 // The checks of one node: its own bytes, its number of children, whether it is a list, and the nesting left for its children.
@@ -135,6 +136,7 @@ impl Refusal {
             Refusal::Full => 12,
             Refusal::Unread => 13,
             Refusal::Class => 14,
+            Refusal::Unknown => 15,
         }
     }
 }

@@ -1,161 +1,202 @@
 // The calls by their names, each with its fields in the order of its parameters. Lengths are a list; the index, the allowance and the
 // length of an answer buffer or an output are numbers.
 //
-// Each function puts the outcome as text, and answers its length, or 0 where it has no such call or its fields can't be read.
+// A function that is called `with` something reads the fields of the calls of one kind, one that is called `of` something makes the call and
+// shows the outcome as text: nothing where it has no such call or its fields can't be read.
 use crate::shown;
+use crate::shown::Answered;
+use crate::shown::Shown;
 use crate::text;
-use matcher::Answer;
-use rules::RuleAnswer;
+use matcher::match_one_with_classes;
+use matcher::next_with_classes;
+use rules::match_rules_with_classes;
 use sheet::Writing;
 
-// The most symbols that a class list names here, and the room for an outcome by single classes.
+// The most symbols that a class list names here.
 const SYMBOLS: usize = 256;
 
-const SINGLE_OUTCOME: usize = 4096;
+// The calls of the match, by their places among their names.
+const MATCH_ONE: usize = 0;
 
-fn of_part(name: &[u8], part: &[u8], out: &mut [u8]) -> usize {
-    if check::same(name, b"check_table") {
-        return shown::put_accepted(out, term::check_table(part), 1);
+const MATCH_RULES: usize = 1;
+
+const MATCH_CHECKED: usize = 2;
+
+const MATCH_RULES_CHECKED: usize = 3;
+
+const NEXT: usize = 4;
+
+fn of_part(name: &[u8], part: &[u8]) -> Shown {
+    let call = text::place_among(b"check_table check_sheet", name);
+    match call {
+        0 => shown::show_accepted(term::check_table(part), 1),
+        1 => shown::show_checked(sheet::check_sheet(part)),
+        _ => shown::nothing(),
     }
-    if check::same(name, b"check_sheet") {
-        return shown::put_checked(out, sheet::check_sheet(part));
-    }
-    0
 }
 
-fn of_two_parts(name: &[u8], first: &[u8], second: &[u8], out: &mut [u8]) -> usize {
-    if check::same(name, b"read_record") {
-        return shown::put_read(out, term::read_record(first, second));
+// Bytes that are read by a table.
+fn of_reading(name: &[u8], table: &[u8], bytes: &[u8]) -> Shown {
+    let call = text::place_among(b"read_record read_pattern extent", name);
+    match call {
+        0 => shown::show_read(term::read_record(table, bytes)),
+        1 => shown::show_read(term::read_pattern(table, bytes)),
+        2 => shown::show_number(b" ", term::extent(table, bytes) as u64),
+        _ => shown::nothing(),
     }
-    if check::same(name, b"read_pattern") {
-        return shown::put_read(out, term::read_pattern(first, second));
-    }
-    if check::same(name, b"extent") {
-        return shown::put_number(out, 0, b" ", term::extent(first, second) as u64);
-    }
-    if check::same(name, b"check_classes") {
-        return shown::put_accepted(out, term::check_classes(first, second), 14);
-    }
-    if check::same(name, b"check_states") {
-        return shown::put_checked(out, sheet::check_states(first, second));
-    }
-    if check::same(name, b"check_rules") {
-        return shown::put_checked(out, sheet::check_rules(first, second));
-    }
-    0
 }
 
-fn of_index(name: &[u8], part: &[u8], index: usize, out: &mut [u8]) -> usize {
-    if check::same(name, b"check_entry") {
-        return shown::put_checked(out, sheet::check_entry(part, index));
+// A class list or a sheet that is checked by a table.
+fn of_check(name: &[u8], table: &[u8], bytes: &[u8]) -> Shown {
+    let call = text::place_among(b"check_classes check_states check_rules", name);
+    match call {
+        0 => shown::show_accepted(term::check_classes(table, bytes), 14),
+        1 => shown::show_checked(sheet::check_states(table, bytes)),
+        2 => shown::show_checked(sheet::check_rules(table, bytes)),
+        _ => shown::nothing(),
     }
-    if check::same(name, b"entry") {
-        return shown::put_bytes(out, 0, sheet::entry(part, index));
-    }
-    if check::same(name, b"place_of") {
-        return shown::put_place(out, sheet::place_of(part, index));
-    }
-    if check::same(name, b"part_at") {
-        return shown::put_bytes(out, 0, sheet::part_at(part, index));
-    }
-    0
 }
 
-// A call of the match: a table, a class list where it brings one, a pattern or a rule sheet, a record, an allowance, and the numbers of the
-// answer buffer.
+fn of_index(name: &[u8], sheet: &[u8], index: usize) -> Shown {
+    let call = text::place_among(b"check_entry entry place_of part_at", name);
+    match call {
+        0 => shown::show_checked(sheet::check_entry(sheet, index)),
+        1 => shown::show_bytes(sheet::entry(sheet, index)),
+        2 => shown::show_place(sheet::place_of(sheet, index)),
+        3 => shown::show_bytes(sheet::part_at(sheet, index)),
+        _ => shown::nothing(),
+    }
+}
+
+// A call of the match that checks nothing, with a class list or an empty one.
+fn match_checked(
+    call: usize,
+    table: &[u8],
+    classes: &[u8],
+    rule: &[u8],
+    record: &[u8],
+    allowance: u32,
+    answer: &mut [u16],
+) -> Answered {
+    match call {
+        MATCH_CHECKED => {
+            let one = matcher::match_checked(table, classes, rule, record, allowance, answer);
+            Answered::ByRule(one)
+        }
+        MATCH_RULES_CHECKED => {
+            let first = rules::match_rules_checked(table, classes, rule, record, allowance, answer);
+            Answered::BySheet(first)
+        }
+        _ => Answered::Nothing,
+    }
+}
+
+// A call of the match that brings no class list. The given lengths are those of the call for the next answer.
+fn match_plain(
+    call: usize,
+    table: &[u8],
+    rule: &[u8],
+    record: &[u8],
+    given: &[u16],
+    allowance: u32,
+    answer: &mut [u16],
+) -> Answered {
+    match call {
+        MATCH_ONE => {
+            let one = matcher::match_one(table, rule, record, allowance, answer);
+            Answered::ByRule(one)
+        }
+        NEXT => {
+            let next = matcher::next(table, rule, record, given, allowance, answer);
+            Answered::ByRule(next)
+        }
+        MATCH_RULES => {
+            let first = rules::match_rules(table, rule, record, allowance, answer);
+            Answered::BySheet(first)
+        }
+        _ => match_checked(call, table, &table[..0], rule, record, allowance, answer),
+    }
+}
+
+// The same with a class list.
+fn match_by_class(
+    call: usize,
+    table: &[u8],
+    classes: &[u8],
+    rule: &[u8],
+    record: &[u8],
+    given: &[u16],
+    allowance: u32,
+    answer: &mut [u16],
+) -> Answered {
+    match call {
+        MATCH_ONE => {
+            let one = match_one_with_classes(table, classes, rule, record, allowance, answer);
+            Answered::ByRule(one)
+        }
+        NEXT => {
+            let next = next_with_classes(table, classes, rule, record, given, allowance, answer);
+            Answered::ByRule(next)
+        }
+        MATCH_RULES => {
+            let first = match_rules_with_classes(table, classes, rule, record, allowance, answer);
+            Answered::BySheet(first)
+        }
+        _ => match_checked(call, table, classes, rule, record, allowance, answer),
+    }
+}
+
+// A call of the match, with the class list if it brings one.
+fn match_brought(
+    call: usize,
+    brings: bool,
+    table: &[u8],
+    classes: &[u8],
+    rule: &[u8],
+    record: &[u8],
+    given: &[u16],
+    allowance: u32,
+    answer: &mut [u16],
+) -> Answered {
+    if brings {
+        return match_by_class(call, table, classes, rule, record, given, allowance, answer);
+    }
+    match_plain(call, table, rule, record, given, allowance, answer)
+}
+
+fn allowance(field: &[u8]) -> u32 {
+    (text::number(field) % text::UNREAD) as u32
+}
+
+// The same with an answer buffer. The numbers are the allowance and the width of the buffer.
 fn of_match(
-    name: &[u8],
+    call: usize,
     brings: bool,
     table: &[u8],
     classes: &[u8],
     rule: &[u8],
     record: &[u8],
-    allowance: u32,
-    width: usize,
-    out: &mut [u8],
-) -> usize {
+    given: &[u16],
+    numbers: &[u8],
+) -> Shown {
     let mut buffer = [shown::UNTOUCHED; shown::BUFFER];
+    let allowance = allowance(text::field(numbers, 0));
+    let width = text::number(text::field(numbers, 1));
     if shown::BUFFER < width {
-        return 0;
+        return shown::nothing();
     }
-    let lent = &mut buffer[0..width];
-    if check::same(name, b"match_one") {
-        let answer = match_one(brings, table, classes, rule, record, allowance, lent);
-        return shown::put_answer(out, answer, &buffer);
-    }
-    if check::same(name, b"match_checked") {
-        let answer = matcher::match_checked(table, classes, rule, record, allowance, lent);
-        return shown::put_answer(out, answer, &buffer);
-    }
-    if check::same(name, b"match_rules") {
-        let answer = match_rules(brings, table, classes, rule, record, allowance, lent);
-        return shown::put_rule_answer(out, answer, &buffer);
-    }
-    if check::same(name, b"match_rules_checked") {
-        let answer = rules::match_rules_checked(table, classes, rule, record, allowance, lent);
-        return shown::put_rule_answer(out, answer, &buffer);
-    }
-    0
-}
-
-fn match_one(
-    brings: bool,
-    table: &[u8],
-    classes: &[u8],
-    pattern: &[u8],
-    record: &[u8],
-    allowance: u32,
-    answer: &mut [u16],
-) -> Answer {
-    if brings {
-        return matcher::match_one_with_classes(table, classes, pattern, record, allowance, answer);
-    }
-    matcher::match_one(table, pattern, record, allowance, answer)
-}
-
-fn match_rules(
-    brings: bool,
-    table: &[u8],
-    classes: &[u8],
-    sheet: &[u8],
-    record: &[u8],
-    allowance: u32,
-    answer: &mut [u16],
-) -> RuleAnswer {
-    if brings {
-        return rules::match_rules_with_classes(table, classes, sheet, record, allowance, answer);
-    }
-    rules::match_rules(table, sheet, record, allowance, answer)
-}
-
-// A call without a class list, and the same once more with one of single classes, whose outcome must be the same.
-fn without_classes(
-    name: &[u8],
-    table: &[u8],
-    rule: &[u8],
-    record: &[u8],
-    allowance: u32,
-    width: usize,
-    out: &mut [u8],
-) -> usize {
-    let classes = single();
-    let mut again = [0u8; SINGLE_OUTCOME];
-    let n = of_match(name, false, table, &[], rule, record, allowance, width, out);
-    let m = of_match(
-        name,
-        true,
+    let answered = match_brought(
+        call,
+        brings,
         table,
-        text::start(&classes, table.len()),
+        classes,
         rule,
         record,
+        given,
         allowance,
-        width,
-        &mut again,
+        &mut buffer[0..width],
     );
-    if check::same(text::start(out, n), text::start(&again, m)) {
-        return n;
-    }
-    shown::put(out, n, b", another by single classes")
+    shown::show_answered(answered, &buffer)
 }
 
 // Each symbol is its own class.
@@ -169,184 +210,215 @@ fn single() -> [u8; SYMBOLS] {
     classes
 }
 
-// Writes joined records into an output of so many bytes, and compares it with the sheet that is stated.
-fn write(
+// Whether two texts are the same; no byte of a text is 0.
+fn is_same(first: Shown, second: Shown) -> bool {
+    let first_bytes = first.bytes;
+    let second_bytes = second.bytes;
+    check::same(&first_bytes, &second_bytes)
+}
+
+// A call without a class list, and the same once more with one of single classes, whose outcome must be the same.
+fn without_classes(
+    call: usize,
     table: &[u8],
-    records: &[u8],
-    lengths: &[u16],
-    room: usize,
-    stated: &[u8],
-    out: &mut [u8],
-) -> usize {
-    let mut output = [shown::BLANK; text::ROOM];
-    if text::ROOM < room {
-        return 0;
+    rule: &[u8],
+    record: &[u8],
+    given: &[u16],
+    numbers: &[u8],
+) -> Shown {
+    let single = single();
+    let classes = text::start(&single, table.len());
+    let plain = of_match(call, false, table, classes, rule, record, given, numbers);
+    let by_class = of_match(call, true, table, classes, rule, record, given, numbers);
+    if is_same(plain, by_class) {
+        return plain;
     }
-    let written = sheet::write_sheet(table, records, lengths, &mut output[0..room]);
-    match written {
-        Writing::Written(_) => shown::put_written(out, written.length(), &output, stated),
-        Writing::Refused(_, _) => shown::put_unwritten(
-            out,
-            written.number(),
-            written.index(),
-            &output,
-        ),
-    }
+    shown::put(plain, b", another by single classes")
 }
 
-fn with_part(name: &[u8], fields: &[u8], out: &mut [u8]) -> usize {
-    let mut part = [0u8; text::ROOM];
+// A call with the class list after the table.
+fn with_classes(
+    call: usize,
+    fields: &[u8],
+    table: &[u8],
+    rule: &[u8],
+    record: &[u8],
+    given: &[u16],
+    numbers: &[u8],
+) -> Shown {
+    let mut space = text::space();
+    let classes = text::bytes(fields, 1, &mut space);
+    of_match(call, true, table, classes, rule, record, given, numbers)
+}
+
+// The fields after the table, and after the class list if the call brings one.
+fn after_classes(brings: bool, fields: &[u8]) -> &[u8] {
+    if brings {
+        return text::after(fields, 2);
+    }
+    text::after(fields, 1)
+}
+
+// The table, the rule and the record, which every call of the match has.
+fn with_bytes(call: usize, brings: bool, fields: &[u8], given: &[u16], numbers: &[u8]) -> Shown {
+    let mut table_space = text::space();
+    let mut rule_space = text::space();
+    let mut record_space = text::space();
+    let rest = after_classes(brings, fields);
+    let table = text::bytes(fields, 0, &mut table_space);
+    let rule = text::bytes(rest, 0, &mut rule_space);
+    let record = text::bytes(rest, 1, &mut record_space);
+    if brings {
+        return with_classes(call, fields, table, rule, record, given, numbers);
+    }
+    without_classes(call, table, rule, record, given, numbers)
+}
+
+// A call for the next answer has the given lengths after the record.
+fn with_given(fields: &[u8]) -> Shown {
+    let mut space = text::list_space();
+    if text::fits(fields, b"bbblnn") {
+        let given = text::list(fields, 3, &mut space);
+        return with_bytes(NEXT, false, fields, given, text::after(fields, 4));
+    }
+    if text::fits(fields, b"bbbblnn") {
+        let given = text::list(fields, 4, &mut space);
+        return with_bytes(NEXT, true, fields, given, text::after(fields, 5));
+    }
+    shown::nothing()
+}
+
+fn without_given(call: usize, fields: &[u8]) -> Shown {
+    if text::fits(fields, b"bbbnn") {
+        return with_bytes(call, false, fields, &[], text::after(fields, 3));
+    }
+    if text::fits(fields, b"bbbbnn") {
+        return with_bytes(call, true, fields, &[], text::after(fields, 4));
+    }
+    shown::nothing()
+}
+
+fn with_match(name: &[u8], fields: &[u8]) -> Shown {
+    let call = text::place_among(
+        b"match_one match_rules match_checked match_rules_checked next",
+        name,
+    );
+    if call == NEXT {
+        return with_given(fields);
+    }
+    without_given(call, fields)
+}
+
+fn with_part(name: &[u8], fields: &[u8]) -> Shown {
+    let mut space = text::space();
     if !text::fits(fields, b"b") {
-        return 0;
+        return shown::nothing();
     }
-    let n = text::unpack(text::field(fields, 0), &mut part);
-    of_part(name, text::start(&part, n), out)
+    of_part(name, text::bytes(fields, 0, &mut space))
 }
 
-fn with_two_parts(name: &[u8], fields: &[u8], out: &mut [u8]) -> usize {
-    let mut first = [0u8; text::ROOM];
-    let mut second = [0u8; text::ROOM];
+fn with_two_parts(name: &[u8], fields: &[u8]) -> Shown {
+    let mut table_space = text::space();
+    let mut space = text::space();
     if !text::fits(fields, b"bb") {
-        return 0;
+        return shown::nothing();
     }
-    let n = text::unpack(text::field(fields, 0), &mut first);
-    let m = text::unpack(text::field(fields, 1), &mut second);
-    of_two_parts(name, text::start(&first, n), text::start(&second, m), out)
+    let table = text::bytes(fields, 0, &mut table_space);
+    let bytes = text::bytes(fields, 1, &mut space);
+    let read = of_reading(name, table, bytes);
+    if 0 < read.length {
+        return read;
+    }
+    of_check(name, table, bytes)
 }
 
-fn with_index(name: &[u8], fields: &[u8], out: &mut [u8]) -> usize {
-    let mut part = [0u8; text::ROOM];
+fn with_index(name: &[u8], fields: &[u8]) -> Shown {
+    let mut space = text::space();
     if !text::fits(fields, b"bn") {
-        return 0;
+        return shown::nothing();
     }
-    let n = text::unpack(text::field(fields, 0), &mut part);
-    let index = text::number(text::field(fields, 1));
-    of_index(name, text::start(&part, n), index, out)
-}
-
-fn with_buffer(name: &[u8], fields: &[u8], out: &mut [u8]) -> usize {
-    let mut table = [0u8; text::ROOM];
-    let mut rule = [0u8; text::ROOM];
-    let mut record = [0u8; text::ROOM];
-    if !text::fits(fields, b"bbbnn") {
-        return 0;
-    }
-    let t = text::unpack(text::field(fields, 0), &mut table);
-    let p = text::unpack(text::field(fields, 1), &mut rule);
-    let r = text::unpack(text::field(fields, 2), &mut record);
-    without_classes(
-        name,
-        text::start(&table, t),
-        text::start(&rule, p),
-        text::start(&record, r),
-        allowance(text::field(fields, 3)),
-        text::number(text::field(fields, 4)),
-        out,
-    )
-}
-
-// A call that brings a class list.
-fn with_classes(name: &[u8], fields: &[u8], out: &mut [u8]) -> usize {
-    let mut table = [0u8; text::ROOM];
-    let mut classes = [0u8; text::ROOM];
-    let mut rule = [0u8; text::ROOM];
-    let mut record = [0u8; text::ROOM];
-    if !text::fits(fields, b"bbbbnn") {
-        return 0;
-    }
-    let t = text::unpack(text::field(fields, 0), &mut table);
-    let c = text::unpack(text::field(fields, 1), &mut classes);
-    let p = text::unpack(text::field(fields, 2), &mut rule);
-    let r = text::unpack(text::field(fields, 3), &mut record);
-    of_match(
-        name,
-        true,
-        text::start(&table, t),
-        text::start(&classes, c),
-        text::start(&rule, p),
-        text::start(&record, r),
-        allowance(text::field(fields, 4)),
-        text::number(text::field(fields, 5)),
-        out,
-    )
+    let sheet = text::bytes(fields, 0, &mut space);
+    of_index(name, sheet, text::number(text::field(fields, 1)))
 }
 
 // Two parts of records by a table and a class list, or an empty one.
-fn with_parts(name: &[u8], fields: &[u8], out: &mut [u8]) -> usize {
-    let mut table = [0u8; text::ROOM];
-    let mut classes = [0u8; text::ROOM];
-    let mut first = [0u8; text::ROOM];
-    let mut second = [0u8; text::ROOM];
+fn of_parts(fields: &[u8]) -> Shown {
+    let mut table_space = text::space();
+    let mut classes_space = text::space();
+    let mut first_space = text::space();
+    let mut second_space = text::space();
+    let table = text::bytes(fields, 0, &mut table_space);
+    let classes = text::bytes(fields, 1, &mut classes_space);
+    let first = text::bytes(fields, 2, &mut first_space);
+    let second = text::bytes(fields, 3, &mut second_space);
+    shown::show_same(term::same(table, classes, first, second))
+}
+
+fn with_parts(name: &[u8], fields: &[u8]) -> Shown {
     if !check::same(name, b"same") || !text::fits(fields, b"bbbb") {
-        return 0;
+        return shown::nothing();
     }
-    let t = text::unpack(text::field(fields, 0), &mut table);
-    let c = text::unpack(text::field(fields, 1), &mut classes);
-    let p = text::unpack(text::field(fields, 2), &mut first);
-    let q = text::unpack(text::field(fields, 3), &mut second);
-    let same = term::same(
-        text::start(&table, t),
-        text::start(&classes, c),
-        text::start(&first, p),
-        text::start(&second, q),
-    );
-    shown::put_same(out, same)
+    of_parts(fields)
 }
 
-fn allowance(field: &[u8]) -> u32 {
-    (text::number(field) % text::UNREAD) as u32
+// Writes joined records into an output of so many bytes, and compares it with the sheet that is stated.
+fn write(table: &[u8], records: &[u8], lengths: &[u16], room: usize, stated: &[u8]) -> Shown {
+    let mut output = shown::blank();
+    if text::ROOM < room {
+        return shown::nothing();
+    }
+    let written = sheet::write_sheet(table, records, lengths, &mut output[0..room]);
+    match written {
+        Writing::Written(_) => shown::show_written(written.length(), &output, stated),
+        Writing::Refused(_, _) => shown::show_unwritten(written.number(), written.index(), &output),
+    }
 }
 
-fn with_output(name: &[u8], fields: &[u8], stated: &[u8], out: &mut [u8]) -> usize {
-    let mut table = [0u8; text::ROOM];
-    let mut records = [0u8; text::ROOM];
-    let mut lengths = [0u16; text::ROOM];
+fn of_output(fields: &[u8], stated: &[u8]) -> Shown {
+    let mut table_space = text::space();
+    let mut records_space = text::space();
+    let mut lengths_space = text::list_space();
+    let table = text::bytes(fields, 0, &mut table_space);
+    let records = text::bytes(fields, 1, &mut records_space);
+    let lengths = text::list(fields, 2, &mut lengths_space);
+    let room = text::number(text::field(fields, 3));
+    write(table, records, lengths, room, stated)
+}
+
+// The sheet of a writing is stated after a word and a number.
+fn with_output(name: &[u8], fields: &[u8], stated: &[u8]) -> Shown {
     if !check::same(name, b"write_sheet") || !text::fits(fields, b"bbln") {
-        return 0;
+        return shown::nothing();
     }
-    let t = text::unpack(text::field(fields, 0), &mut table);
-    let r = text::unpack(text::field(fields, 1), &mut records);
-    let l = text::unpack_list(text::field(fields, 2), &mut lengths);
-    write(
-        text::start(&table, t),
-        text::start(&records, r),
-        text::start_of_list(&lengths, l),
-        text::number(text::field(fields, 3)),
-        stated,
-        out,
-    )
+    of_output(fields, text::field(stated, 3))
 }
 
 // A call on one part or several.
-fn with_any_parts(name: &[u8], fields: &[u8], out: &mut [u8]) -> usize {
-    let part = with_part(name, fields, out);
-    if 0 < part {
+fn with_any_parts(name: &[u8], fields: &[u8]) -> Shown {
+    let part = with_part(name, fields);
+    if 0 < part.length {
         return part;
     }
-    let two_parts = with_two_parts(name, fields, out);
-    if 0 < two_parts {
+    let two_parts = with_two_parts(name, fields);
+    if 0 < two_parts.length {
         return two_parts;
     }
-    let parts = with_parts(name, fields, out);
-    if 0 < parts {
+    let parts = with_parts(name, fields);
+    if 0 < parts.length {
         return parts;
     }
-    with_index(name, fields, out)
+    with_index(name, fields)
 }
 
-// What is answered to the call of this name. The sheet of a writing is stated after a word and a number.
-pub fn answer(name: &[u8], fields: &[u8], stated: &[u8], out: &mut [u8]) -> usize {
-    let parts = with_any_parts(name, fields, out);
-    if 0 < parts {
+// What is answered to the call of this name.
+pub fn answer(name: &[u8], fields: &[u8], stated: &[u8]) -> Shown {
+    let parts = with_any_parts(name, fields);
+    if 0 < parts.length {
         return parts;
     }
-    let buffer = with_buffer(name, fields, out);
-    if 0 < buffer {
-        return buffer;
+    let found = with_match(name, fields);
+    if 0 < found.length {
+        return found;
     }
-    let classes = with_classes(name, fields, out);
-    if 0 < classes {
-        return classes;
-    }
-    with_output(name, fields, text::field(stated, 3), out)
+    with_output(name, fields, stated)
 }

@@ -6,35 +6,27 @@ mod text;
 
 use libc::STDOUT_FILENO;
 
-// The most bytes of a file, and of an outcome.
+// The most bytes of a file.
 const FILE: usize = 262144;
 
-const OUTCOME: usize = 4096;
-
-// What a line turns out to be.
-enum Line {
-    Comment,
-    Agrees,
-    Differs,
-}
-
+// How many lines agree, and how many differ.
 struct Tally {
     agree: u64,
     differ: u64,
 }
 
 impl Tally {
-    fn with(self, line: Line) -> Tally {
-        match line {
-            Line::Comment => self,
-            Line::Agrees => Tally {
-                agree: std::num::wrapping_add_u64(self.agree, 1),
-                differ: self.differ,
-            },
-            Line::Differs => Tally {
-                agree: self.agree,
-                differ: std::num::wrapping_add_u64(self.differ, 1),
-            },
+    fn agreed(self) -> Tally {
+        Tally {
+            agree: std::num::wrapping_add_u64(self.agree, 1),
+            differ: self.differ,
+        }
+    }
+
+    fn differed(self) -> Tally {
+        Tally {
+            agree: self.agree,
+            differ: std::num::wrapping_add_u64(self.differ, 1),
         }
     }
 }
@@ -59,29 +51,29 @@ fn print_difference(line: &[u8], answered: &[u8]) {
 }
 
 // Whether what is answered is what the line states. An outcome that fills its room may be cut, and counts as another.
-fn run_vector(line: &[u8]) -> Line {
-    let mut out = [0u8; OUTCOME];
+fn run_vector(line: &[u8]) -> bool {
     let call = text::tail(text::head(line, b'='), b' ');
     let stated = text::tail(line, b'=');
-    let n = calls::answer(
-        text::head(call, b' '),
-        text::tail(call, b' '),
-        stated,
-        &mut out,
-    );
-    let answered = text::start(&out, n);
-    if 0 < n && n < OUTCOME && check::same(answered, stated) {
-        return Line::Agrees;
+    let shown = calls::answer(text::head(call, b' '), text::tail(call, b' '), stated);
+    let bytes = shown.bytes;
+    let n = shown.length;
+    let answered = text::start(&bytes, n);
+    if 0 < n && n < shown::ROOM && check::same(answered, stated) {
+        return true;
     }
     print_difference(line, answered);
-    Line::Differs
+    false
 }
 
-fn run_line(line: &[u8]) -> Line {
+// A line that is no vector counts as neither.
+fn run_line(tally: Tally, line: &[u8]) -> Tally {
     if line.len() == 0 || line[0] == b'#' {
-        return Line::Comment;
+        return tally;
     }
-    run_vector(line)
+    if run_vector(line) {
+        return tally.agreed();
+    }
+    tally.differed()
 }
 
 fn run_lines(text: &[u8]) -> Tally {
@@ -91,7 +83,7 @@ fn run_lines(text: &[u8]) -> Tally {
     };
     let mut rest = text;
     while rest.len() > 0 {
-        tally = tally.with(run_line(text::head(rest, b'\n')));
+        tally = run_line(tally, text::head(rest, b'\n'));
         let n = text::through(rest, b'\n');
         rest = &rest[n..];
     }
@@ -107,16 +99,24 @@ fn print_tally(name: &[u8], tally: Tally) {
     print(b" differ\n");
 }
 
-// The vectors of an open file.
-fn run_open(name: &[u8], fd: i32) {
-    let mut space = [0u8; FILE];
-    let n = io::read_full(fd, &mut space);
-    if n == FILE {
+// The vectors of an open file, read into a space that must be longer.
+fn run_space(name: &[u8], fd: i32, space: &mut [u8]) {
+    let n = io::read_full(fd, space);
+    if n == space.len() {
         print(name);
         print(b": too long\n");
         return;
     }
-    print_tally(name, run_lines(&space[..n]));
+    print_tally(name, run_lines(text::start(space, n)));
+}
+
+fn file_space() -> [u8; FILE] {
+    [0u8; FILE]
+}
+
+fn run_open(name: &[u8], fd: i32) {
+    let mut space = file_space();
+    run_space(name, fd, &mut space);
 }
 
 fn run_file(name: &[u8]) {

@@ -1,4 +1,4 @@
-// An outcome as text: each word and number with a blank before it. A text that has no more room is cut.
+// Outcomes as text: each word and number with a blank before it. A text that has no more room is cut.
 use crate::text;
 use matcher::Answer;
 use rules::RuleAnswer;
@@ -18,34 +18,61 @@ const NAMES: usize = 32;
 pub const UNTOUCHED: u16 = 43690;
 
 // What stands everywhere in an output before a call; no record has this code.
-pub const BLANK: u8 = 250;
+const BLANK: u8 = 250;
 
-// Puts the text at n, and answers where it ends.
-pub fn put(out: &mut [u8], n: usize, text: &[u8]) -> usize {
-    let mut end = n;
-    let mut i: usize = 0;
-    while i < text.len() {
-        if out.len() <= end {
-            return end;
-        }
-        let at = end;
-        end += 1;
-        out[at] = text[i];
-        i += 1;
-    }
-    end
+// The most bytes of an outcome.
+pub const ROOM: usize = 4096;
+
+// An outcome as text. The bytes past its length are 0.
+pub struct Shown {
+    pub bytes: [u8; ROOM],
+    pub length: usize,
 }
 
-fn put_decimal(out: &mut [u8], n: usize, value: u64) -> usize {
+// What a call of the match answers, of one rule or of a rule sheet; nothing where there is no such call.
+pub enum Answered {
+    Nothing,
+    ByRule(Answer),
+    BySheet(RuleAnswer),
+}
+
+// The empty text, which no outcome has.
+pub fn nothing() -> Shown {
+    Shown {
+        bytes: [0u8; ROOM],
+        length: 0,
+    }
+}
+
+// Puts the text after what is there.
+pub fn put(out: Shown, text: &[u8]) -> Shown {
+    let mut more = out;
+    let mut i: usize = 0;
+    while i < text.len() {
+        let at = more.length;
+        if ROOM <= at {
+            return more;
+        }
+        more.bytes[at] = text[i];
+        more.length = at + 1;
+        i += 1;
+    }
+    more
+}
+
+fn put_decimal(out: Shown, value: u64) -> Shown {
     let mut digits = [0u8; 20];
     let k = io::decimal(value, &mut digits);
-    put(out, n, &digits[..k])
+    put(out, &digits[..k])
 }
 
 // A word or a sign, and a number after it.
-pub fn put_number(out: &mut [u8], n: usize, word: &[u8], value: u64) -> usize {
-    let at = put(out, n, word);
-    put_decimal(out, at, value)
+fn put_number(out: Shown, word: &[u8], value: u64) -> Shown {
+    put_decimal(put(out, word), value)
+}
+
+pub fn show_number(word: &[u8], value: u64) -> Shown {
+    put_number(nothing(), word, value)
 }
 
 fn digit(value: u8) -> u8 {
@@ -53,165 +80,188 @@ fn digit(value: u8) -> u8 {
     if d < 10 { b'0' + d } else { b'A' + (d - 10) }
 }
 
+// A byte in hexadecimal.
+fn put_byte(out: Shown, value: u8) -> Shown {
+    put(out, &[digit(value / 16), digit(value)])
+}
+
 // Bytes in hexadecimal, - for none.
-pub fn put_bytes(out: &mut [u8], n: usize, bytes: &[u8]) -> usize {
+fn put_bytes(out: Shown, bytes: &[u8]) -> Shown {
     if bytes.len() == 0 {
-        return put(out, n, b" -");
+        return put(out, b" -");
     }
-    let mut end = put(out, n, b" ");
+    let mut more = put(out, b" ");
     let mut i: usize = 0;
     while i < bytes.len() {
-        end = put(out, end, &[digit(bytes[i] / 16), digit(bytes[i])]);
+        more = put_byte(more, bytes[i]);
         i += 1;
     }
-    end
+    more
+}
+
+pub fn show_bytes(bytes: &[u8]) -> Shown {
+    put_bytes(nothing(), bytes)
 }
 
 // A name or a run name and its part.
-fn put_named(out: &mut [u8], n: usize, sign: &[u8], k: usize, offset: u16, length: u16) -> usize {
-    let name = put_number(out, n, sign, k as u64);
-    let at = put_number(out, name, b"=", offset as u64);
-    put_number(out, at, b"+", length as u64)
+fn put_named(out: Shown, sign: &[u8], k: usize, offset: u16, length: u16) -> Shown {
+    let named = put_number(out, sign, k as u64);
+    let at = put_number(named, b"=", offset as u64);
+    put_number(at, b"+", length as u64)
 }
 
 // An entry of the answer, where it is not the absent mark.
-fn put_part(out: &mut [u8], n: usize, k: usize, offset: u16, length: u16) -> usize {
+fn put_part(out: Shown, k: usize, offset: u16, length: u16) -> Shown {
     if offset == 65535 && length == 0 {
-        return n;
+        return out;
     }
     if k < NAMES {
-        return put_named(out, n, b" ?", k, offset, length);
+        return put_named(out, b" ?", k, offset, length);
     }
-    put_named(out, n, b" @", k - NAMES, offset, length)
+    put_named(out, b" @", k - NAMES, offset, length)
 }
 
 // Two numbers of the buffer. Those of a bound answer are shown, all others must be as they were.
-fn put_pair(out: &mut [u8], n: usize, bound: bool, i: usize, first: u16, second: u16) -> usize {
+fn put_pair(out: Shown, bound: bool, i: usize, first: u16, second: u16) -> Shown {
     if bound && i < ANSWER {
-        return put_part(out, n, i / 2, first, second);
+        return put_part(out, i / 2, first, second);
     }
     if first == UNTOUCHED && second == UNTOUCHED {
-        return n;
+        return out;
     }
-    put(out, n, b" changed")
+    put(out, b" changed")
 }
 
-fn put_buffer(out: &mut [u8], n: usize, bound: bool, buffer: &[u16; BUFFER]) -> usize {
-    let mut end = n;
+fn put_buffer(out: Shown, bound: bool, buffer: &[u16; BUFFER]) -> Shown {
+    let mut more = out;
     let mut i: usize = 0;
     while i < BUFFER - 1 {
-        end = put_pair(out, end, bound, i, buffer[i], buffer[i + 1]);
+        more = put_pair(more, bound, i, buffer[i], buffer[i + 1]);
         i += 2;
     }
-    end
+    more
 }
 
 // The word of document 01's number.
-fn put_word(out: &mut [u8], n: usize, number: u8) -> usize {
+fn show_word(number: u8) -> Shown {
     match number {
-        0 => put(out, n, b" bound"),
-        10 => put(out, n, b" none"),
-        11 => put(out, n, b" spent"),
-        _ => put_number(out, n, b" refused ", number as u64),
+        0 => put(nothing(), b" bound"),
+        10 => put(nothing(), b" none"),
+        11 => put(nothing(), b" spent"),
+        _ => show_number(b" refused ", number as u64),
     }
 }
 
 // A count; a refusal's is 0 and not shown.
-fn put_count(out: &mut [u8], n: usize, number: u8, count: u64) -> usize {
+fn put_count(out: Shown, number: u8, count: u64) -> Shown {
     match number {
-        0 | 10 | 11 => put_number(out, n, b" ", count),
+        0 | 10 | 11 => put_number(out, b" ", count),
         _ => {
             if count == 0 {
-                return n;
+                return out;
             }
-            put_number(out, n, b" count ", count)
+            put_number(out, b" count ", count)
         }
     }
 }
 
-pub fn put_answer(out: &mut [u8], answer: Answer, buffer: &[u16; BUFFER]) -> usize {
+fn show_answer(answer: Answer, buffer: &[u16; BUFFER]) -> Shown {
     let number = answer.number();
-    let word = put_word(out, 0, number);
-    let count = put_count(out, word, number, answer.count() as u64);
-    put_buffer(out, count, number == 0, buffer)
+    let counted = put_count(show_word(number), number, answer.count() as u64);
+    put_buffer(counted, number == 0, buffer)
 }
 
-pub fn put_rule_answer(out: &mut [u8], answer: RuleAnswer, buffer: &[u16; BUFFER]) -> usize {
+fn show_rule_answer(answer: RuleAnswer, buffer: &[u16; BUFFER]) -> Shown {
     let number = answer.number();
-    let word = put_word(out, 0, number);
-    let index = put_number(out, word, b" ", answer.index() as u64);
-    let count = put_count(out, index, number, answer.count());
-    put_buffer(out, count, number == 0, buffer)
+    let index = put_number(show_word(number), b" ", answer.index() as u64);
+    let counted = put_count(index, number, answer.count());
+    put_buffer(counted, number == 0, buffer)
+}
+
+// The answer of a call that is known.
+pub fn show_answered(answered: Answered, buffer: &[u16; BUFFER]) -> Shown {
+    match answered {
+        Answered::Nothing => nothing(),
+        Answered::ByRule(answer) => show_answer(answer, buffer),
+        Answered::BySheet(answer) => show_rule_answer(answer, buffer),
+    }
 }
 
 // Accepted, or refused with this number.
-pub fn put_accepted(out: &mut [u8], accepted: bool, number: u64) -> usize {
+pub fn show_accepted(accepted: bool, number: u64) -> Shown {
     if accepted {
-        return put(out, 0, b" accepted");
+        return put(nothing(), b" accepted");
     }
-    put_number(out, 0, b" refused ", number)
+    show_number(b" refused ", number)
 }
 
-pub fn put_same(out: &mut [u8], same: bool) -> usize {
+pub fn show_same(same: bool) -> Shown {
     if same {
-        return put(out, 0, b" same");
+        return put(nothing(), b" same");
     }
-    put(out, 0, b" different")
+    put(nothing(), b" different")
 }
 
-pub fn put_read(out: &mut [u8], read: Read) -> usize {
+pub fn show_read(read: Read) -> Shown {
     match read {
-        Read::Ends(_) => put_number(out, 0, b" read ", read.length() as u64),
-        Read::Refused(_) => put_number(out, 0, b" refused ", read.number() as u64),
+        Read::Ends(_) => show_number(b" read ", read.length() as u64),
+        Read::Refused(_) => show_number(b" refused ", read.number() as u64),
     }
+}
+
+// A word and two numbers.
+fn show_two(word: &[u8], first: u64, second: u64) -> Shown {
+    put_number(show_number(word, first), b" ", second)
 }
 
 // A refusal's number and index.
-fn put_refused(out: &mut [u8], number: u8, index: usize) -> usize {
-    let at = put_number(out, 0, b" refused ", number as u64);
-    put_number(out, at, b" ", index as u64)
+fn show_refused(number: u8, index: usize) -> Shown {
+    show_two(b" refused ", number as u64, index as u64)
 }
 
-pub fn put_checked(out: &mut [u8], checked: Checked) -> usize {
+pub fn show_checked(checked: Checked) -> Shown {
     match checked {
-        Checked::Accepted(n) => put_number(out, 0, b" accepted ", n as u64),
-        Checked::Refused(_, _) => put_refused(out, checked.number(), checked.index()),
+        Checked::Accepted(n) => show_number(b" accepted ", n as u64),
+        Checked::Refused(_, _) => show_refused(checked.number(), checked.index()),
     }
 }
 
-pub fn put_place(out: &mut [u8], place: Place) -> usize {
+pub fn show_place(place: Place) -> Shown {
     match place {
-        Place::At(offset, length) => {
-            let at = put_number(out, 0, b" at ", offset as u64);
-            put_number(out, at, b" ", length as u64)
-        }
-        Place::Refused(r) => put_number(out, 0, b" refused ", r.number() as u64),
+        Place::At(offset, length) => show_two(b" at ", offset as u64, length as u64),
+        Place::Refused(r) => show_number(b" refused ", r.number() as u64),
     }
+}
+
+// An output before a call.
+pub fn blank() -> [u8; text::ROOM] {
+    [BLANK; text::ROOM]
 }
 
 // A refused writing leaves the output.
-pub fn put_unwritten(out: &mut [u8], number: u8, index: usize, output: &[u8; text::ROOM]) -> usize {
-    let n = put_refused(out, number, index);
-    if check::same(output, &[BLANK; text::ROOM]) {
-        return n;
+pub fn show_unwritten(number: u8, index: usize, output: &[u8; text::ROOM]) -> Shown {
+    let refused = show_refused(number, index);
+    if check::same(output, &blank()) {
+        return refused;
     }
-    put(out, n, b" changed")
+    put(refused, b" changed")
 }
 
-// The sheet that was written, in the words stated where those stand for it and the output past it is as it was.
-pub fn put_written(
-    out: &mut [u8],
-    length: usize,
-    output: &[u8; text::ROOM],
-    stated: &[u8],
-) -> usize {
-    let mut expected = [BLANK; text::ROOM];
+// Whether the output is the stated sheet, of this length, and past it as it was.
+fn is_stated(output: &[u8; text::ROOM], length: usize, stated: &[u8]) -> bool {
+    let mut expected = blank();
     let size = text::unpack(stated, &mut expected);
-    let n = put_number(out, 0, b" written ", length as u64);
-    if size == length && check::same(output, &expected) {
-        let at = put(out, n, b" ");
-        return put(out, at, stated);
+    size == length && check::same(output, &expected)
+}
+
+// The sheet that was written, in the words stated where those stand for it.
+pub fn show_written(length: usize, output: &[u8; text::ROOM], stated: &[u8]) -> Shown {
+    let written = show_number(b" written ", length as u64);
+    if is_stated(output, length, stated) {
+        return put(put(written, b" "), stated);
     }
-    let at = put_bytes(out, n, text::start(output, length));
-    put(out, at, b", another output")
+    put(
+        put_bytes(written, text::start(output, length)),
+        b", another output",
+    )
 }

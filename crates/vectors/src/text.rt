@@ -37,6 +37,15 @@ pub fn before(s: &[u8], b: u8) -> usize
     n
 }
 
+// Room for the bytes, and for the numbers of a list, that a field stands for.
+pub fn space() -> [u8; ROOM] {
+    [0u8; ROOM]
+}
+
+pub fn list_space() -> [u16; ROOM] {
+    [0u16; ROOM]
+}
+
 // The first n bytes of s, or all of it.
 pub fn start(s: &[u8], n: usize) -> &[u8] {
     if n < s.len() {
@@ -46,7 +55,7 @@ pub fn start(s: &[u8], n: usize) -> &[u8] {
 }
 
 // The same of a list of numbers.
-pub fn start_of_list(s: &[u16], n: usize) -> &[u16] {
+fn start_of_list(s: &[u16], n: usize) -> &[u16] {
     if n < s.len() {
         return &s[0..n];
     }
@@ -73,8 +82,8 @@ pub fn tail(s: &[u8], b: u8) -> &[u8] {
     &s[n..]
 }
 
-// The field after k others.
-pub fn field(s: &[u8], k: usize) -> &[u8] {
+// The fields after the first k.
+pub fn after(s: &[u8], k: usize) -> &[u8] {
     let mut rest = s;
     let mut left = k;
     while left > 0 {
@@ -82,7 +91,27 @@ pub fn field(s: &[u8], k: usize) -> &[u8] {
         rest = &rest[n..];
         left -= 1;
     }
-    head(rest, b' ')
+    rest
+}
+
+// The field after k others.
+pub fn field(s: &[u8], k: usize) -> &[u8] {
+    head(after(s, k), b' ')
+}
+
+// How many words stand before this one in a text of words, or how many there are.
+pub fn place_among(words: &[u8], word: &[u8]) -> usize {
+    let mut rest = words;
+    let mut k: usize = 0;
+    while rest.len() > 0 {
+        if check::same(head(rest, b' '), word) {
+            return k;
+        }
+        let n = through(rest, b' ');
+        rest = &rest[n..];
+        k = std::num::wrapping_add_usize(k, 1);
+    }
+    k
 }
 
 // What a decimal or hexadecimal digit stands for; 16 for any other character.
@@ -278,6 +307,13 @@ pub fn unpack(text: &[u8], out: &mut [u8]) -> usize {
     unpack_pieces(text, out)
 }
 
+// The bytes that the field after k others stands for, put into out.
+pub fn bytes<'a>(fields: &[u8], k: usize, out: &'a mut [u8]) -> &'a [u8] {
+    let n = unpack(field(fields, k), out);
+    let all = &out[..];
+    start(all, n)
+}
+
 // How often a number of a list stands there: once, or as the brackets after it say.
 fn times_of(item: &[u8]) -> usize {
     let open = before(item, b'(');
@@ -329,7 +365,7 @@ fn unpack_numbers(text: &[u8], out: &mut [u16]) -> usize {
 }
 
 // The same for a list of 16-bit numbers.
-pub fn unpack_list(text: &[u8], out: &mut [u16]) -> usize {
+fn unpack_list(text: &[u8], out: &mut [u16]) -> usize {
     if text.len() == 0 || text[text.len() - 1] == b',' {
         return UNREAD;
     }
@@ -337,6 +373,13 @@ pub fn unpack_list(text: &[u8], out: &mut [u16]) -> usize {
         return 0;
     }
     unpack_numbers(text, out)
+}
+
+// The numbers that the field after k others stands for, put into out.
+pub fn list<'a>(fields: &[u8], k: usize, out: &'a mut [u16]) -> &'a [u16] {
+    let n = unpack_list(field(fields, k), out);
+    let all = &out[..];
+    start_of_list(all, n)
 }
 
 // Whether a field can be read as one of a kind.

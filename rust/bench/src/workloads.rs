@@ -1,6 +1,6 @@
 //! The named workloads.
 
-use interface::{sheet_of, Library, ANSWER, LIST, RECORD_LIMIT};
+use interface::{sheet_of, Library, Word, ANSWER, LIST, NAMES, RECORD_LIMIT};
 use notation::Symbols;
 use reference::Reference;
 use std::cell::RefCell;
@@ -32,6 +32,7 @@ pub fn all() -> Vec<Workload> {
     all.extend([1, 32, 255].map(long_record_complement));
     all.extend([256, 1_024, 4_096].map(record));
     all.extend([256, 1_024, 4_096].map(record_search).map(Match::search));
+    all.extend([10, 20, 40, 60].map(every_answer));
     all.extend(rules.map(|n| rule_sheet("rule sheet over 1,000 states", n, false)));
     all.extend(bytes.map(read_states));
     all.extend(rules.map(read_rules));
@@ -201,6 +202,29 @@ fn record_search(n: usize) -> Match {
     let pattern = symbols.pattern("gates(@0, gates(@1, row(shut, ?0), @2), @3)").expect("a rule");
     let (name, table) = ("long record, list within a list", symbols.table().to_vec());
     Match { name, n, table, classes: None, pattern, record: full(n) }
+}
+
+/// All answers of three run names on a list of n elements: the match, then the next until none.
+fn every_answer(n: usize) -> Workload {
+    let record = format!("gates({})", vec!["open"; n].join(", "));
+    let Match { name, table, pattern, record, .. } =
+        Match::of("every answer", n, "gates(@0, @1, @2)", &record);
+    let answer = RefCell::new([0; ANSWER]);
+    let listed = move |library: &dyn Library| {
+        let answer = &mut *answer.borrow_mut();
+        let mut found = library.match_one(&table, &pattern, &record, u32::MAX, answer);
+        let (mut answers, mut steps) = (0, found.count);
+        while found.word() == Some(Word::Bound) {
+            // Each element is one byte, so a run has as many elements as bytes.
+            let given = [0, 1, 2].map(|run| answer[2 * (NAMES + run) + 1]);
+            found = library.next(&table, &pattern, &record, &given, u32::MAX, answer);
+            (answers, steps) = (answers + 1, steps + found.count);
+        }
+        (answers, steps)
+    };
+    let all = ((n + 1) * (n + 2) / 2, listed(&Reference).1);
+    let run = Box::new(move |library: &dyn Library| assert_eq!(listed(library), all));
+    Workload { name, n, call: "qonveshir_next", unit: "step", units: all.1, run }
 }
 
 /// A record of n bytes: lists of leaves and pairs within a list.

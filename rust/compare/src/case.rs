@@ -9,6 +9,8 @@ use std::fmt;
 pub enum Call {
     Match,
     MatchWithClasses,
+    Next,
+    NextWithClasses,
     Rules,
     RulesWithClasses,
     Write,
@@ -17,19 +19,27 @@ pub enum Call {
     CheckStates,
 }
 
-/// Their names, in the order of [`Call`].
-pub const CALLS: [&str; 8] = [
-    "match",
-    "match_with_classes",
-    "match_rules",
-    "match_rules_with_classes",
-    "write_sheet",
-    "entry",
-    "check_rules",
-    "check_states",
+/// The calls in their order, with their names.
+pub const CALLS: [(Call, &str); 10] = [
+    (Call::Match, "match"),
+    (Call::MatchWithClasses, "match_with_classes"),
+    (Call::Next, "next"),
+    (Call::NextWithClasses, "next_with_classes"),
+    (Call::Rules, "match_rules"),
+    (Call::RulesWithClasses, "match_rules_with_classes"),
+    (Call::Write, "write_sheet"),
+    (Call::Entry, "entry"),
+    (Call::CheckRules, "check_rules"),
+    (Call::CheckStates, "check_states"),
 ];
 
-/// What is special about a case of a match.
+impl Call {
+    pub fn name(self) -> &'static str {
+        CALLS[self as usize].1
+    }
+}
+
+/// What is special about a case of a search.
 #[derive(Clone, Copy, Debug, PartialEq, Eq)]
 pub enum Kind {
     LongRecord,
@@ -52,6 +62,12 @@ pub enum Kind {
     AboveItsIndex,
     NotItsOwnClass,
     UnlikeTableBytes,
+    AfterTheOnly,
+    AfterTheFirst,
+    AfterALater,
+    OneLengthLess,
+    OneLengthMore,
+    AnotherLength,
 }
 
 /// A call and its inputs.
@@ -60,7 +76,7 @@ pub struct Case {
     pub call: Call,
     /// Table, class list, pattern, record, sheet or records, as many as the call has, in its order.
     pub inputs: Vec<Vec<u8>>,
-    /// The writer's lengths.
+    /// The writer's lengths, or those of a given answer.
     pub lengths: Vec<u16>,
     /// The allowance or the entry's index.
     pub number: u32,
@@ -114,41 +130,27 @@ impl Case {
         let margin = *margin;
         let (output, answer) = (within_mut(output, margin), within_mut(answer, margin));
         let inputs: Vec<&[u8]> = inputs.iter().map(|input| within(input, margin)).collect();
-        match (self.call, &inputs[..]) {
-            (Call::Match, [table, pattern, record]) => {
-                outcome(library.match_one(table, pattern, record, self.number, answer))
+        let (lengths, n) = (within(lengths, margin), self.number);
+        // t: table, c: class list, p: pattern, r: record, s: sheet.
+        outcome(match (self.call, &inputs[..]) {
+            (Call::Match, [t, p, r]) => library.match_one(t, p, r, n, answer),
+            (Call::MatchWithClasses, [t, c, p, r]) => {
+                library.match_one_with_classes(t, c, p, r, n, answer)
             }
-            (Call::MatchWithClasses, [table, classes, pattern, record]) => {
-                outcome(library.match_one_with_classes(
-                    table,
-                    classes,
-                    pattern,
-                    record,
-                    self.number,
-                    answer,
-                ))
+            (Call::Next, [t, p, r]) => library.next(t, p, r, lengths, n, answer),
+            (Call::NextWithClasses, [t, c, p, r]) => {
+                library.next_with_classes(t, c, p, r, lengths, n, answer)
             }
-            (Call::Rules, [table, rules, record]) => {
-                outcome(library.match_rules(table, rules, record, self.number, answer))
+            (Call::Rules, [t, s, r]) => library.match_rules(t, s, r, n, answer),
+            (Call::RulesWithClasses, [t, c, s, r]) => {
+                library.match_rules_with_classes(t, c, s, r, n, answer)
             }
-            (Call::RulesWithClasses, [table, classes, rules, record]) => {
-                outcome(library.match_rules_with_classes(
-                    table,
-                    classes,
-                    rules,
-                    record,
-                    self.number,
-                    answer,
-                ))
-            }
-            (Call::Write, [table, records]) => {
-                outcome(library.write_sheet(table, records, within(lengths, margin), output))
-            }
-            (Call::Entry, [sheet]) => part(library.entry(sheet, self.number)),
-            (Call::CheckRules, [table, sheet]) => outcome(library.check_rules(table, sheet)),
-            (Call::CheckStates, [table, sheet]) => outcome(library.check_states(table, sheet)),
+            (Call::Write, [t, records]) => library.write_sheet(t, records, lengths, output),
+            (Call::Entry, [s]) => return part(library.entry(s, n)),
+            (Call::CheckRules, [t, s]) => library.check_rules(t, s),
+            (Call::CheckStates, [t, s]) => library.check_states(t, s),
             _ => panic!("{self}: a wrong number of inputs"),
-        }
+        })
     }
 }
 
@@ -206,7 +208,7 @@ fn place<T: PartialEq + fmt::Debug>(name: &str, margin: usize, one: &[T], two: &
 
 impl fmt::Display for Case {
     fn fmt(&self, f: &mut fmt::Formatter) -> fmt::Result {
-        write!(f, "{}", CALLS[self.call as usize])?;
+        write!(f, "{}", self.call.name())?;
         for input in &self.inputs {
             f.write_str(if input.is_empty() { " -" } else { " " })?;
             input.iter().try_for_each(|byte| write!(f, "{byte:02X}"))?;

@@ -3,6 +3,7 @@
 use crate::case::{Call, Case, Kind};
 use crate::classes::Classes;
 use crate::make::{damaged_sheet, table, Maker};
+use crate::nexts::Search;
 use crate::rng::Rng;
 use interface::{sheet_of, Library, Outcome, Word, ANSWER, SHEET_LIMIT};
 
@@ -10,13 +11,15 @@ use interface::{sheet_of, Library, Outcome, Word, ANSWER, SHEET_LIMIT};
 pub fn case(rng: &mut Rng, library: &dyn Library) -> Case {
     let table = table(rng);
     match rng.below(100) {
-        0..=34 => match_case(rng, table, library),
-        35..=54 => match_with_classes_case(rng, table, library),
-        55..=67 => rules_case(rng, table, library),
-        68..=79 => rules_with_classes_case(rng, table, library),
-        80..=86 => write_case(rng, table),
-        87..=90 => entry_case(rng, table),
-        91..=95 => {
+        0..=22 => match_case(rng, table, library),
+        23..=38 => match_with_classes_case(rng, table, library),
+        39..=49 => next_case(rng, table, library),
+        50..=60 => next_with_classes_case(rng, table, library),
+        61..=71 => rules_case(rng, table, library),
+        72..=82 => rules_with_classes_case(rng, table, library),
+        83..=88 => write_case(rng, table),
+        89..=92 => entry_case(rng, table),
+        93..=96 => {
             let rules = rules(rng, &table, &[0]);
             let sheet = perhaps_damaged(rng, sheet_of(&rules));
             Case::new(Call::CheckRules, vec![table, sheet])
@@ -37,9 +40,33 @@ fn match_case(rng: &mut Rng, table: Vec<u8>, library: &dyn Library) -> Case {
 }
 
 fn match_with_classes_case(rng: &mut Rng, table: Vec<u8>, library: &dyn Library) -> Case {
-    let UpToClass { classes, pattern, record, number, kinds } = up_to_class(rng, table, library);
+    let made = up_to_class(rng, table, library, pair);
+    let (number, kinds) = allowance(rng, made.found);
+    let UpToClass { classes, pattern, record, kinds, .. } = made.damaged(rng, kinds);
     let inputs = vec![classes.table, classes.list, pattern, record];
     Case { number, kinds, room: room(rng), ..Case::new(Call::MatchWithClasses, inputs) }
+}
+
+fn next_case(rng: &mut Rng, table: Vec<u8>, library: &dyn Library) -> Case {
+    let (pattern, record) = pair_with_runs(rng, &table, library);
+    let pair = Search { library, table: &table, classes: None, pattern: &pattern, record: &record };
+    let (lengths, found, kind) = pair.given(rng);
+    let (number, mut kinds) = allowance(rng, found);
+    kinds.extend(kind);
+    let case = Case::new(Call::Next, vec![table, pattern, record]);
+    Case { lengths, number, kinds, room: room(rng), ..case }
+}
+
+fn next_with_classes_case(rng: &mut Rng, table: Vec<u8>, library: &dyn Library) -> Case {
+    let made = up_to_class(rng, table, library, pair_with_runs);
+    let UpToClass { classes: Classes { table, list }, pattern, record, .. } = &made;
+    let pair = Search { library, table, classes: Some(list), pattern, record };
+    let (lengths, found, kind) = pair.given(rng);
+    let (number, mut kinds) = allowance(rng, found);
+    kinds.extend(kind);
+    let UpToClass { classes, pattern, record, kinds, .. } = made.damaged(rng, kinds);
+    let inputs = vec![classes.table, classes.list, pattern, record];
+    Case { lengths, number, kinds, room: room(rng), ..Case::new(Call::NextWithClasses, inputs) }
 }
 
 /// What a match up to class is made of.
@@ -47,29 +74,52 @@ struct UpToClass {
     classes: Classes,
     pattern: Vec<u8>,
     record: Vec<u8>,
-    number: u32,
+    /// The outcome with the allowance [`MOST`].
+    found: Outcome,
     kinds: Vec<Kind>,
 }
 
-/// A match up to class, whose class list is damaged now and then.
-fn up_to_class(rng: &mut Rng, table: Vec<u8>, library: &dyn Library) -> UpToClass {
-    let mut classes = Classes::new(rng, table);
-    let (pattern, record, kind) = pair_with_classes(rng, &classes, library);
+impl UpToClass {
+    /// The same with further kinds and, now and then, a damaged class list.
+    fn damaged(mut self, rng: &mut Rng, kinds: Vec<Kind>) -> Self {
+        self.kinds.extend(kinds);
+        if rng.chance(12) {
+            self.kinds.extend(self.classes.damage(rng));
+        }
+        self
+    }
+}
+
+/// A pattern and a record over a table.
+type Pair = (Vec<u8>, Vec<u8>);
+
+/// A match up to class, of a pair that is made so.
+fn up_to_class(
+    rng: &mut Rng,
+    table: Vec<u8>,
+    library: &dyn Library,
+    pair: fn(&mut Rng, &[u8], &dyn Library) -> Pair,
+) -> UpToClass {
+    let classes = Classes::new(rng, table);
+    let twins = if rng.chance(20) { classes.twins(rng) } else { None };
+    let (pattern, record, kind) = match twins {
+        Some((pattern, record, kind)) => (pattern, record, Some(kind)),
+        None => {
+            let (pattern, record) = pair(rng, &classes.table, library);
+            (pattern, classes.exchanged(rng, record), None)
+        }
+    };
     let Classes { table, list } = &classes;
     let found = library.find_with_classes(table, list, &pattern, &record, MOST);
     let decide = library.find(table, &pattern, &record, MOST) != found;
-    let (number, mut kinds) = allowance(rng, found.0);
-    kinds.push(classes.kind());
+    let mut kinds = vec![classes.kind()];
     kinds.extend(kind);
     kinds.extend(decide.then_some(Kind::ClassesDecide));
-    if rng.chance(20) {
-        kinds.extend(classes.damage(rng));
-    }
-    UpToClass { classes, pattern, record, number, kinds }
+    UpToClass { classes, pattern, record, found: found.0, kinds }
 }
 
-/// A pattern and a record.
-fn pair(rng: &mut Rng, table: &[u8], library: &dyn Library) -> (Vec<u8>, Vec<u8>) {
+/// A pattern and a record, any.
+fn pair(rng: &mut Rng, table: &[u8], library: &dyn Library) -> Pair {
     if rng.chance(4) {
         return long_search(rng, table, library);
     }
@@ -78,29 +128,36 @@ fn pair(rng: &mut Rng, table: &[u8], library: &dyn Library) -> (Vec<u8>, Vec<u8>
     (maker.pattern(&record), record)
 }
 
-/// A pattern and a record with symbols exchanged within classes, and their kind if they have one.
-fn pair_with_classes(
-    rng: &mut Rng,
-    classes: &Classes,
-    library: &dyn Library,
-) -> (Vec<u8>, Vec<u8>, Option<Kind>) {
-    if rng.chance(20) {
-        if let Some((pattern, record, kind)) = classes.twins(rng) {
-            return (pattern, record, Some(kind));
-        }
+/// A pattern and a record, mostly such that there is an answer with run names.
+fn pair_with_runs(rng: &mut Rng, table: &[u8], library: &dyn Library) -> Pair {
+    if rng.chance(12) {
+        return pair(rng, table, library);
     }
-    let (pattern, record) = pair(rng, &classes.table, library);
-    (pattern, classes.exchanged(rng, record), None)
+    let (searched, most) = (rng.chance(60), rng.pick(&[6, 12, 80]));
+    let mut maker = Maker::new(rng, table);
+    let pair = || match searched {
+        true => (maker.search(), maker.row(most)),
+        false => {
+            let record = maker.record();
+            (maker.pattern(&record), record)
+        }
+    };
+    tried(pair, |(pattern, record)| {
+        Search { library, table, classes: None, pattern, record }.has_run_lengths()
+    })
 }
 
 /// A pattern and a record whose count is over 1,000, where some tries find one.
-fn long_search(rng: &mut Rng, table: &[u8], library: &dyn Library) -> (Vec<u8>, Vec<u8>) {
+fn long_search(rng: &mut Rng, table: &[u8], library: &dyn Library) -> Pair {
     let mut maker = Maker::new(rng, table);
-    let mut pair = || (maker.search(), maker.row(80));
-    let long = |(pattern, record): &(Vec<u8>, Vec<u8>)| {
-        library.find(table, pattern, record, MOST).0.count > 1_000
-    };
-    (0..8).map(|_| pair()).find(long).unwrap_or_else(pair)
+    let pair = || (maker.search(), maker.row(80));
+    tried(pair, |(pattern, record)| library.find(table, pattern, record, MOST).0.count > 1_000)
+}
+
+/// The first of some tries that is as wanted, or else any.
+fn tried(mut pair: impl FnMut() -> Pair, wanted: impl Fn(&Pair) -> bool) -> Pair {
+    let found = (0..16).map(|_| pair()).find(wanted);
+    found.unwrap_or_else(pair)
 }
 
 fn rules_case(rng: &mut Rng, table: Vec<u8>, library: &dyn Library) -> Case {
@@ -116,7 +173,9 @@ fn rules_case(rng: &mut Rng, table: Vec<u8>, library: &dyn Library) -> Case {
 }
 
 fn rules_with_classes_case(rng: &mut Rng, table: Vec<u8>, library: &dyn Library) -> Case {
-    let UpToClass { classes, pattern, record, number, kinds } = up_to_class(rng, table, library);
+    let made = up_to_class(rng, table, library, pair);
+    let (number, kinds) = allowance(rng, made.found);
+    let UpToClass { classes, pattern, record, kinds, .. } = made.damaged(rng, kinds);
     let mut rules = rules(rng, &classes.table, &record);
     rules.insert(rng.below(rules.len() + 1), pattern);
     let rules = perhaps_damaged(rng, sheet_of(&rules));
@@ -213,18 +272,18 @@ fn room(rng: &mut Rng) -> usize {
 }
 
 /// A count that is found out before a case is made.
-const MOST: u32 = 20_000;
+pub const MOST: u32 = 20_000;
 
 /// An allowance at, around or far from the count of an outcome that had [`MOST`].
 fn allowance(rng: &mut Rng, outcome: Outcome) -> (u32, Vec<Kind>) {
     let (count, known) = (outcome.count as u32, outcome.word() != Some(Word::Spent));
     match rng.below(20) {
         0 => (0, vec![]),
-        1..=3 => (rng.below(count as usize + 1) as u32, vec![]),
+        1..=2 => (rng.below(count as usize + 1) as u32, vec![]),
         _ if !known => (rng.pick(&[100, 2_000, MOST]), vec![]),
-        4..=7 => (count.saturating_sub(1), vec![Kind::OneBelow]),
-        8..=12 => (count, vec![Kind::AtTheCount]),
-        13..=14 => (count + 1, vec![]),
+        3..=5 => (count.saturating_sub(1), vec![Kind::OneBelow]),
+        6..=11 => (count, vec![Kind::AtTheCount]),
+        12..=14 => (count + 1, vec![]),
         15..=16 => (rng.pick(&[u32::MAX, u32::MAX - 1, 1 << 31, 1 << 16]), vec![Kind::FarAbove]),
         _ => (100_000, vec![Kind::FarAbove]),
     }

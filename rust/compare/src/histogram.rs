@@ -13,14 +13,14 @@ pub struct Histogram {
 }
 
 /// The kinds in their order, the words with which they count, and the calls that must have them.
-const KINDS: [(&str, &[Word], &[Call]); 20] = [
-    ("record over 1,000 bytes, not spent", &ENDED, &MATCHES),
+const KINDS: [(&str, &[Word], &[Call]); 26] = [
+    ("record over 1,000 bytes, not spent", &ENDED, &SEARCHES),
     ("pattern over 100 bytes, not spent", &ENDED, &MATCHES),
-    ("count over 1,000, not spent", &ENDED, &MATCHES),
-    ("over 32 complements in a row, not spent", &ENDED, &MATCHES),
-    ("allowance one below the count", &ACCEPTED, &MATCHES),
-    ("allowance at the count", &ACCEPTED, &MATCHES),
-    ("allowance far above the count", &ACCEPTED, &MATCHES),
+    ("count over 1,000, not spent", &ENDED, &SEARCHES),
+    ("over 32 complements in a row, not spent", &ENDED, &SEARCHES),
+    ("allowance one below the count", &SEARCHED, &SEARCHES),
+    ("allowance at the count", &SEARCHED, &SEARCHES),
+    ("allowance far above the count", &SEARCHED, &SEARCHES),
     ("each symbol its own class", &ACCEPTED, &WITH_CLASSES),
     ("symbols that share a class", &ACCEPTED, &WITH_CLASSES),
     ("another answer than without classes", &ACCEPTED, &WITH_CLASSES),
@@ -34,11 +34,22 @@ const KINDS: [(&str, &[Word], &[Call]); 20] = [
     ("class above its own index", &[Word::Class], &WITH_CLASSES),
     ("class that is not its own", &[Word::Class], &WITH_CLASSES),
     ("class with unlike table bytes", &[Word::Class], &WITH_CLASSES),
+    ("after the only answer, which has no run names, not spent", &ENDED, &NEXTS),
+    ("after the first answer by its run lengths, not spent", &ENDED, &NEXTS),
+    ("after a later answer by its run lengths, not spent", &ENDED, &NEXTS),
+    ("one given length less", &[Word::Unknown], &NEXTS),
+    ("one given length more", &[Word::Unknown], &NEXTS),
+    ("another given length", &[Word::Unknown], &NEXTS),
 ];
 const ENDED: [Word; 2] = [Word::Bound, Word::None];
 const ACCEPTED: [Word; 3] = [Word::Bound, Word::None, Word::Spent];
+const SEARCHED: [Word; 4] = [Word::Bound, Word::None, Word::Spent, Word::Unknown];
 const MATCHES: [Call; 2] = [Call::Match, Call::MatchWithClasses];
-const WITH_CLASSES: [Call; 2] = [Call::MatchWithClasses, Call::RulesWithClasses];
+const NEXTS: [Call; 2] = [Call::Next, Call::NextWithClasses];
+const SEARCHES: [Call; 4] =
+    [Call::Match, Call::MatchWithClasses, Call::Next, Call::NextWithClasses];
+const WITH_CLASSES: [Call; 3] =
+    [Call::MatchWithClasses, Call::NextWithClasses, Call::RulesWithClasses];
 
 impl Histogram {
     pub(crate) fn add(&mut self, case: &Case, [number, _, count]: [u64; 3]) {
@@ -54,26 +65,26 @@ impl Histogram {
 
     /// The words and kinds of a call that fewer than one in 10,000 cases had.
     pub fn rare(&self) -> Vec<String> {
-        let rare = |cases: u64| cases < (self.cases / 10_000).max(1);
-        let words = Word::ALL.iter().zip(&self.words);
-        let words = words.map(|(word, row)| (word.text(), row, possible(*word)));
-        let kinds =
-            KINDS.iter().zip(&self.kinds).map(|((kind, _, calls), row)| (*kind, row, *calls));
-        words
-            .chain(kinds)
-            .flat_map(|(name, row, calls)| {
-                calls.iter().map(move |&call| (name, row, call as usize))
-            })
-            .filter(|&(_, row, call)| rare(row[call]))
-            .map(|(name, _, call)| format!("{name} of {}", CALLS[call]))
-            .collect()
+        let least = (self.cases / 10_000).max(1);
+        let words = Word::ALL.iter().zip(&self.words).flat_map(|(&word, row)| {
+            let calls = CALLS.iter().map(|&(call, _)| call);
+            calls
+                .filter(move |&call| can_give(call, word))
+                .map(move |call| (word.text(), row, call))
+        });
+        let kinds = KINDS
+            .iter()
+            .zip(&self.kinds)
+            .flat_map(|((kind, _, calls), row)| calls.iter().map(move |&call| (*kind, row, call)));
+        let rare = words.chain(kinds).filter(|&(_, row, call)| row[call as usize] < least);
+        rare.map(|(name, _, call)| format!("{name} of {}", call.name())).collect()
     }
 }
 
-/// The kinds that a case of a match has by its sizes and its count.
+/// The kinds that a search has by its sizes and its count.
 fn sizes(case: &Case, count: u64) -> impl Iterator<Item = Kind> {
-    let sizes = match (case.call, &case.inputs[..]) {
-        (Call::Match | Call::MatchWithClasses, [.., pattern, record]) => {
+    let sizes = match &case.inputs[..] {
+        [.., pattern, record] if SEARCHES.contains(&case.call) => {
             let complements = pattern.split(|&code| code != COMPLEMENT).any(|row| row.len() > 32);
             [record.len() > 1_000, pattern.len() > 100, count > 1_000, complements]
         }
@@ -83,47 +94,37 @@ fn sizes(case: &Case, count: u64) -> impl Iterator<Item = Kind> {
     kinds.into_iter().zip(sizes).filter_map(|(kind, has)| has.then_some(kind))
 }
 
-/// The calls that can give a word.
-fn possible(word: Word) -> &'static [Call] {
+/// Whether a call can give a word.
+fn can_give(call: Call, word: Word) -> bool {
     use Call::*;
     match word {
-        Word::Bound | Word::Long => &[
-            Match,
-            MatchWithClasses,
-            Rules,
-            RulesWithClasses,
-            Write,
-            Entry,
-            CheckRules,
-            CheckStates,
-        ],
-        Word::Table | Word::Short | Word::Spare | Word::Code | Word::Deep => {
-            &[Match, MatchWithClasses, Rules, RulesWithClasses, Write, CheckRules, CheckStates]
-        }
-        Word::Stray => &[Match, MatchWithClasses, Rules, RulesWithClasses, CheckRules],
+        Word::Bound | Word::Long => true,
+        Word::Table | Word::Short | Word::Spare | Word::Code | Word::Deep => call != Entry,
+        Word::Stray => !matches!(call, Write | Entry | CheckStates),
         Word::Narrow | Word::None | Word::Spent => {
-            &[Match, MatchWithClasses, Rules, RulesWithClasses]
+            !matches!(call, Write | Entry | CheckRules | CheckStates)
         }
-        Word::Directory => &[Rules, RulesWithClasses, Write, Entry, CheckRules, CheckStates],
-        Word::Full => &[Write],
-        Word::Unread => &[],
-        Word::Class => &[MatchWithClasses, RulesWithClasses],
+        Word::Directory => !SEARCHES.contains(&call),
+        Word::Full => call == Write,
+        Word::Unread => false,
+        Word::Class => WITH_CLASSES.contains(&call),
+        Word::Unknown => NEXTS.contains(&call),
     }
 }
 
 impl fmt::Display for Histogram {
     fn fmt(&self, f: &mut fmt::Formatter) -> fmt::Result {
         write!(f, "{:9}", "word")?;
-        CALLS.iter().try_for_each(|call| write!(f, " {call:>12}"))?;
+        CALLS.iter().try_for_each(|(_, call)| write!(f, " {call:>12}"))?;
         for (word, row) in Word::ALL.iter().zip(&self.words) {
             write!(f, "\n{:9}", word.text())?;
-            CALLS.iter().zip(row).try_for_each(|(call, cases)| {
+            CALLS.iter().zip(row).try_for_each(|((_, call), cases)| {
                 write!(f, " {cases:>width$}", width = call.len().max(12))
             })?;
         }
         for ((kind, _, calls), row) in KINDS.iter().zip(&self.kinds) {
-            let cases = calls.iter().map(|&call| (row[call as usize], CALLS[call as usize]));
-            let cases = cases.map(|(cases, call)| format!("{cases} of {call}"));
+            let cases =
+                calls.iter().map(|&call| format!("{} of {}", row[call as usize], call.name()));
             write!(f, "\n{kind}: {}", cases.collect::<Vec<_>>().join(", "))?;
         }
         Ok(())

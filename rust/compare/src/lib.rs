@@ -6,6 +6,7 @@ mod cases;
 mod classes;
 mod histogram;
 mod make;
+mod nexts;
 mod rng;
 
 pub use histogram::Histogram;

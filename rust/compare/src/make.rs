@@ -113,7 +113,7 @@ impl<'a> Maker<'a> {
                 _ => {}
             }
         }
-        let last = if pattern { self.rng.pick(&[200, 200, 232, 248, 250, leaf]) } else { leaf };
+        let last = if pattern { self.rng.pick(&[200, 232, 232, 248, 250, leaf]) } else { leaf };
         bytes.push(last);
         bytes
     }

@@ -6,9 +6,13 @@ use reference::Reference;
 /// What becomes of a class list that is brought with a table.
 type Brought = fn(&[u8], &[u8]) -> Vec<u8>;
 
+/// What becomes of given run lengths.
+type Given = fn(&[u16]) -> Vec<u16>;
+
 /// The independent implementation with what it is brought, shows and writes spoiled.
 struct Faulty {
     classes: Brought,
+    given: Given,
     outcome: fn(&mut Outcome),
     answer: fn(&Outcome, &mut [u16]),
     output: fn(&Outcome, &mut [u8]),
@@ -17,6 +21,7 @@ struct Faulty {
 
 const SOUND: Faulty = Faulty {
     classes: |_, classes| classes.to_vec(),
+    given: |given| given.to_vec(),
     outcome: |_| (),
     answer: |_, _| (),
     output: |_, _| (),
@@ -48,6 +53,37 @@ impl Library for Faulty {
     ) -> Outcome {
         let classes = (self.classes)(t, classes);
         let outcome = Reference.match_one_with_classes(t, &classes, p, r, allowance, a);
+        (self.answer)(&outcome, a);
+        self.spoil(outcome)
+    }
+
+    fn next(
+        &self,
+        t: &[u8],
+        p: &[u8],
+        r: &[u8],
+        given: &[u16],
+        allowance: u32,
+        a: &mut [u16],
+    ) -> Outcome {
+        let given = (self.given)(given);
+        let outcome = Reference.next(t, p, r, &given, allowance, a);
+        (self.answer)(&outcome, a);
+        self.spoil(outcome)
+    }
+
+    fn next_with_classes(
+        &self,
+        t: &[u8],
+        classes: &[u8],
+        p: &[u8],
+        r: &[u8],
+        given: &[u16],
+        allowance: u32,
+        a: &mut [u16],
+    ) -> Outcome {
+        let (classes, given) = ((self.classes)(t, classes), (self.given)(given));
+        let outcome = Reference.next_with_classes(t, &classes, p, r, &given, allowance, a);
         (self.answer)(&outcome, a);
         self.spoil(outcome)
     }
@@ -132,6 +168,22 @@ fn faults_are_found() {
     assert!(differs(Faulty { answer: past, ..SOUND }));
     assert!(differs(Faulty { output: full, ..SOUND }));
     assert!(differs(Faulty { part: refused, ..SOUND }));
+}
+
+#[test]
+fn faults_of_given_lengths_are_found() {
+    let faults: [Given; 5] = [
+        |_| Vec::new(),
+        |given| given.iter().map(|length| length % 256).collect(),
+        |given| given.iter().rev().copied().collect(),
+        |given| given[..given.len().min(2)].to_vec(),
+        |given| [given, &[0]].concat()[..given.len().max(1)].to_vec(),
+    ];
+    for (i, given) in faults.into_iter().enumerate() {
+        assert!(differs(Faulty { given, ..SOUND }), "fault {i}");
+    }
+    let unknown = |outcome: &mut Outcome| outcome.count += u64::from(outcome.number == 15);
+    assert!(differs(Faulty { outcome: unknown, ..SOUND }));
 }
 
 /// The class list of a table in which each symbol is its own class.

@@ -1,6 +1,10 @@
 //! The calls of `include/qonveshir.h` as a trait, so that the proved library and the
 //! independent implementation can stand in each other's place.
 
+mod answers;
+
+pub use answers::Answers;
+
 use std::ops::Range;
 
 /// Most bytes of a table.
@@ -53,15 +57,16 @@ pub enum Word {
     Full,
     Unread,
     Class,
+    Unknown,
 }
 
 impl Word {
     /// Every word, in the order of the numbers.
-    pub const ALL: [Word; 15] = {
+    pub const ALL: [Word; 16] = {
         use Word::*;
         [
             Bound, Table, Short, Spare, Code, Deep, Long, Stray, Narrow, Directory, None, Spent,
-            Full, Unread, Class,
+            Full, Unread, Class, Unknown,
         ]
     };
 
@@ -93,6 +98,7 @@ impl Word {
             Word::Full => "full",
             Word::Unread => "unread",
             Word::Class => "class",
+            Word::Unknown => "unknown",
         }
     }
 
@@ -109,13 +115,16 @@ impl Word {
             Word::Stray => "run name elsewhere than as a list's child",
             Word::Narrow => "answer buffer under 96 numbers",
             Word::Directory => "a sheet breaks its rules, or no such entry",
-            Word::None => "no assignment satisfies the pattern",
+            Word::None => "no assignment satisfies the pattern, or none after the given answer",
             Word::Spent => "the count is over the allowance",
             Word::Full => "output too short for the sheet",
             Word::Unread => "the program can't open or read a file",
             Word::Class => {
                 "a class list of the wrong length, an entry above its own index or not its own \
                  class, or unlike table bytes within a class"
+            }
+            Word::Unknown => {
+                "the given run lengths are not one for each free run name, or belong to no answer"
             }
         }
     }
@@ -221,6 +230,31 @@ pub trait Library {
         classes: &[u8],
         pattern: &[u8],
         record: &[u8],
+        allowance: u32,
+        answer: &mut [u16],
+    ) -> Outcome;
+
+    /// Shows the answer after the one with the given run lengths, in elements; [`Answers`] lists
+    /// them all.
+    fn next(
+        &self,
+        table: &[u8],
+        pattern: &[u8],
+        record: &[u8],
+        given: &[u16],
+        allowance: u32,
+        answer: &mut [u16],
+    ) -> Outcome;
+
+    /// [`next`](Self::next) up to class.
+    #[allow(clippy::too_many_arguments)]
+    fn next_with_classes(
+        &self,
+        table: &[u8],
+        classes: &[u8],
+        pattern: &[u8],
+        record: &[u8],
+        given: &[u16],
         allowance: u32,
         answer: &mut [u16],
     ) -> Outcome;

@@ -140,7 +140,7 @@ type Call = (String, Vec<String>, String);
 #[test]
 fn calls() {
     let header = header_calls(&read("include/qonveshir.h"));
-    assert_eq!(header.len(), 8);
+    assert_eq!(header.len(), 10);
     assert_eq!(rattle_calls(&rattle()), header);
     assert_eq!(rust_calls(&read("rust/proved/src/link.rs")), header);
 }

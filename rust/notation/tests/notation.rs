@@ -104,7 +104,7 @@ fn complements_do_not_nest() {
     assert_eq!(symbols().show_pattern(&bytes).unwrap(), chain(31));
     let error = symbols().pattern(&chain(32)).unwrap_err().to_string();
     assert_eq!(error, "column 193: nesting over 32");
-    let bytes = [vec![COMPLEMENT, 3].repeat(32), vec![COMPLEMENT, 0]].concat();
+    let bytes = [[COMPLEMENT, 3].repeat(32), vec![COMPLEMENT, 0]].concat();
     let error = symbols().show_pattern(&bytes).unwrap_err().to_string();
     assert_eq!(error, "byte 64: nesting over 32");
     let row = format!("{}?0", "!".repeat(255));

@@ -14,6 +14,11 @@ macro_rules! library {
                 table: u8, pattern: u8, record: u8; allowance; answer: u16) -> Outcome;
             match_one_with_classes = qonveshir_match_with_classes(
                 table: u8, classes: u8, pattern: u8, record: u8; allowance; answer: u16) -> Outcome;
+            next = qonveshir_next(
+                table: u8, pattern: u8, record: u8, given: u16; allowance; answer: u16) -> Outcome;
+            next_with_classes = qonveshir_next_with_classes(
+                table: u8, classes: u8, pattern: u8, record: u8,
+                given: u16; allowance; answer: u16) -> Outcome;
             match_rules = qonveshir_match_rules(
                 table: u8, rules: u8, record: u8; allowance; answer: u16) -> Outcome;
             match_rules_with_classes = qonveshir_match_rules_with_classes(

@@ -1,6 +1,6 @@
 //! `explain`: the readers of the independent implementation find the place.
 
-use crate::{read, trouble, Reply, Stop};
+use crate::{read, trouble, wrong_call, Reply, Stop};
 use interface::*;
 use reference::{
     classes::Classes, pattern::Steps, record::Record, sheet::Sheet, table::Table, Refusal,
@@ -28,7 +28,7 @@ pub fn explain(arguments: &[&str]) -> Reply {
     }
     match rest {
         [] => Ok(text),
-        _ => trouble("a wrong call; see qonveshir --help"),
+        _ => wrong_call(),
     }
 }
 

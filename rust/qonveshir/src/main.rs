@@ -5,7 +5,7 @@ mod matching;
 mod sheets;
 
 use interface::Library;
-use std::io::{ErrorKind, Write};
+use std::io::{self, ErrorKind, Write};
 use std::{env, fmt, fs, process::ExitCode};
 
 const HELP: &str = "\
@@ -19,8 +19,10 @@ usage:
   qonveshir unpack classes SYMBOLS CLASSES  print the symbols with the classes of a class list
   qonveshir unpack rules SYMBOLS SHEET      print the rules of a sheet, a line for each
   qonveshir unpack states SYMBOLS SHEET     print the states of a sheet, a line for each
-  qonveshir match [--allowance N] SYMBOLS RULE STATE
-                                            match a rule against a state, both given as text
+  qonveshir match [--all] [--allowance N] SYMBOLS RULE STATE
+                                            match a rule against a state, both given as text, and
+                                            show the first answer, or all of them; N, 100,000 if
+                                            not given, is the allowance of each answer
   qonveshir explain TABLE [--classes CLASSES] [--rules SHEET] [--states SHEET]
                     [--pattern FILE] [--record FILE]
                                             say why an input is refused
@@ -60,24 +62,25 @@ fn trouble<T>(error: impl fmt::Display) -> Result<T, Stop> {
 fn main() -> ExitCode {
     let arguments: Vec<String> = env::args().skip(1).collect();
     let arguments: Vec<&str> = arguments.iter().map(String::as_str).collect();
-    match reply(&arguments) {
-        Ok(text) => show(&text, ExitCode::SUCCESS),
-        Err(Stop::No(text)) => show(&(text + "\n"), ExitCode::from(1)),
-        Err(Stop::Trouble(text)) => {
-            eprintln!("qonveshir: {text}");
-            ExitCode::from(2)
-        }
-    }
+    let (text, status) = match reply(&arguments) {
+        Ok(text) => (text, 0),
+        Err(Stop::No(text)) => (text + "\n", 1),
+        Err(Stop::Trouble(text)) => return troubled(text),
+    };
+    print(&text).map_or_else(troubled, |_| ExitCode::from(status))
 }
 
-/// Prints to standard output; a reader that stops early is no trouble.
-fn show(text: &str, status: ExitCode) -> ExitCode {
-    match std::io::stdout().write_all(text.as_bytes()) {
-        Err(error) if error.kind() != ErrorKind::BrokenPipe => {
-            eprintln!("qonveshir: {error}");
-            ExitCode::from(2)
-        }
-        _ => status,
+fn troubled(error: impl fmt::Display) -> ExitCode {
+    eprintln!("qonveshir: {error}");
+    ExitCode::from(2)
+}
+
+/// Prints to standard output, and says whether that is read: a reader that stops early is no
+/// trouble.
+fn print(text: &str) -> io::Result<bool> {
+    match io::stdout().write_all(text.as_bytes()) {
+        Err(error) if error.kind() == ErrorKind::BrokenPipe => Ok(false),
+        written => written.map(|()| true),
     }
 }
 
@@ -94,14 +97,35 @@ fn reply(arguments: &[&str]) -> Reply {
         ["unpack", "classes", symbols, list] => sheets::unpack_classes(symbols, list),
         ["unpack", "rules", symbols, sheet] => sheets::unpack_rules(symbols, sheet),
         ["unpack", "states", symbols, sheet] => sheets::unpack_states(symbols, sheet),
-        ["match", "--allowance", allowance, symbols, rule, state] => match allowance.parse() {
-            Ok(allowance) => matching::find(symbols, rule, state, allowance),
-            Err(_) => trouble(format!("--allowance {allowance}: expected 0 to {}", u32::MAX)),
-        },
-        ["match", symbols, rule, state] => matching::find(symbols, rule, state, 100_000),
+        ["match", rest @ ..] => matched(rest),
         ["explain", rest @ ..] if !rest.is_empty() => explain::explain(rest),
-        _ => trouble("a wrong call; see qonveshir --help"),
+        _ => wrong_call(),
     }
+}
+
+/// Matches symbols, a rule and a state with an allowance.
+type Find = fn(&str, &str, &str, u32) -> Reply;
+
+/// Runs a match by its arguments: options, then symbols, rule and state.
+fn matched(mut arguments: &[&str]) -> Reply {
+    let (mut find, mut allowance): (Find, _) = (matching::find, 100_000);
+    loop {
+        match arguments {
+            ["--all", rest @ ..] => (find, arguments) = (matching::find_all, rest),
+            ["--allowance", number, rest @ ..] => match number.parse() {
+                Ok(number) => (allowance, arguments) = (number, rest),
+                Err(_) => {
+                    return trouble(format!("--allowance {number}: expected 0 to {}", u32::MAX))
+                }
+            },
+            [symbols, rule, state] => return find(symbols, rule, state, allowance),
+            _ => return wrong_call(),
+        }
+    }
+}
+
+fn wrong_call() -> Reply {
+    trouble("a wrong call; see qonveshir --help")
 }
 
 fn read(path: &str) -> Result<Vec<u8>, Stop> {

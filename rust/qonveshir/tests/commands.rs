@@ -1,7 +1,8 @@
 //! The commands, their output and their exit status.
 
+use std::io::Read;
 use std::path::{Path, PathBuf};
-use std::process::Command;
+use std::process::{Command, Stdio};
 use std::{env, fs};
 
 /// A folder of its own for a test, with document 01's symbols.
@@ -42,6 +43,70 @@ fn matches() {
 }
 
 #[test]
+fn lists_every_answer() {
+    let folder = folder("all");
+    let all = |options: &[&str], rule, state| {
+        run(&folder, &[&["match", "--all"][..], options, &["symbols", rule, state]].concat())
+    };
+    let first =
+        "bound 5\n@0 = nothing  (offset 2, length 0)\n@1 = open, shut  (offset 2, length 2)\n";
+    let second = "bound 6\n@0 = open  (offset 2, length 1)\n@1 = shut  (offset 3, length 1)\n";
+    let third =
+        "bound 5\n@0 = open, shut  (offset 2, length 2)\n@1 = nothing  (offset 4, length 0)\n";
+    let (rule, state) = ("gates(@0, @1)", "gates(open, shut)");
+    let listed = format!("{first}{second}{third}answers: 3, sum of counts: 19\n");
+    assert_eq!(all(&[], rule, state), (0, listed));
+    assert_eq!(all(&["--allowance", "5"], rule, state), (1, format!("{first}spent 5\n")));
+    assert_eq!(all(&["--allowance", "4"], rule, state), (1, "spent 4\n".into()));
+    assert_eq!(
+        all(&[], "gates(@0, held)", state),
+        run(&folder, &["match", "symbols", "gates(@0, held)", state])
+    );
+    let one = "bound 2\nanswers: 1, sum of counts: 4\n";
+    assert_eq!(all(&[], "!shut", "open"), (0, one.into()));
+    fs::remove_dir_all(folder).unwrap();
+}
+
+#[test]
+fn prints_each_answer_when_it_is_found() {
+    let folder = folder("pipe");
+    let state = format!("gates({}shut)", "open, ".repeat(200));
+    let rule = "gates(@0, @1, @2, @3, @4, @5, @6, @7)";
+    let mut command = Command::new(env!("CARGO_BIN_EXE_qonveshir"))
+        .args(["match", "--all", "symbols", rule, &state])
+        .current_dir(&folder)
+        .stdout(Stdio::piped())
+        .spawn()
+        .unwrap();
+    let mut first = [0; 10];
+    // Far more answers than can be listed: who reads the first and goes ends the command.
+    command.stdout.take().unwrap().read_exact(&mut first).unwrap();
+    assert_eq!(&first, b"bound 210\n");
+    assert_eq!(command.wait().unwrap().code(), Some(0));
+    fs::remove_dir_all(folder).unwrap();
+}
+
+#[test]
+fn options_of_a_match() {
+    let folder = folder("options");
+    let rest = ["symbols", "gates(@0, @1)", "gates(open)"];
+    let find = |options: &[&str]| run(&folder, &[&["match"], options, &rest].concat());
+    let bound = find(&["--all"]);
+    assert!(bound.1.ends_with("answers: 2, sum of counts: 12\n"), "{}", bound.1);
+    assert_eq!(find(&["--all", "--allowance", "5"]), bound);
+    assert_eq!(find(&["--allowance", "5", "--all"]), bound);
+    let number = "qonveshir: --allowance -1: expected 0 to 4294967295\n";
+    assert_eq!(find(&["--all", "--allowance", "-1"]), (2, number.into()));
+    let wrong = (2, "qonveshir: a wrong call; see qonveshir --help\n".into());
+    for options in [&["--al"][..], &["--all", "more"], &["--all", "--all", "more"]] {
+        assert_eq!(find(options), wrong, "{options:?}");
+    }
+    assert_eq!(run(&folder, &["match", "--all", "symbols", "open"]), wrong);
+    assert_eq!(run(&folder, &["match", "--all"]), wrong);
+    fs::remove_dir_all(folder).unwrap();
+}
+
+#[test]
 fn matches_up_to_class() {
     let folder = folder("classes");
     let text = "open held gate/1 row/2 gates/* stopped=held door=gate";
@@ -53,6 +118,12 @@ fn matches_up_to_class() {
     assert_eq!(find("classes", rule, state), (0, bound.into()));
     assert_eq!(find("plain", rule, state), (1, "none 3\n".into()));
     assert_eq!(find("classes", "row(!held, ?0)", "row(stopped, open)"), (1, "none 4\n".into()));
+    let all = |symbols| {
+        let (rule, state) = ("gates(@0, held, @1)", "gates(held, stopped)");
+        run(&folder, &["match", "--all", symbols, rule, state]).1.lines().last().unwrap().to_owned()
+    };
+    assert_eq!(all("classes"), "answers: 2, sum of counts: 17");
+    assert_eq!(all("plain"), "answers: 1, sum of counts: 12");
     let command = |text: &str| run(&folder, &text.split(' ').collect::<Vec<_>>());
     assert_eq!(command("pack classes classes c"), (0, "c: 7 bytes\n".into()));
     assert_eq!(fs::read(folder.join("c")).unwrap(), [0, 1, 2, 3, 4, 1, 2]);
@@ -129,6 +200,10 @@ fn explains() {
     let class = "14 class: a class list of the wrong length, an entry above its own index or not \
                  its own class, or unlike table bytes within a class\n";
     assert_eq!(run(&folder, &["explain", "14"]), (0, class.into()));
+    let unknown =
+        "15 unknown: the given run lengths are not one for each free run name, or belong \
+                   to no answer\n";
+    assert_eq!(run(&folder, &["explain", "15"]), (0, unknown.into()));
     fs::remove_dir_all(folder).unwrap();
 }
 
@@ -167,7 +242,7 @@ fn wrong_calls() {
     let folder = folder("calls");
     assert_eq!(run(&folder, &[]).0, 2);
     assert_eq!(run(&folder, &["match", "nowhere", "open", "open"]).0, 2);
-    assert_eq!(run(&folder, &["explain", "15"]).0, 2);
+    assert_eq!(run(&folder, &["explain", "16"]).0, 2);
     assert_eq!(run(&folder, &["--help"]).0, 0);
     assert!(run(&folder, &["--version"]).1.starts_with("qonveshir 0."));
     fs::remove_dir_all(folder).unwrap();

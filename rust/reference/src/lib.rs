@@ -51,6 +51,31 @@ impl Library for Reference {
         shown(match_one(table, Some(classes), pattern, record, allowance, answer))
     }
 
+    fn next(
+        &self,
+        table: &[u8],
+        pattern: &[u8],
+        record: &[u8],
+        given: &[u16],
+        allowance: u32,
+        answer: &mut [u16],
+    ) -> Outcome {
+        shown(next(table, None, pattern, record, given, allowance, answer))
+    }
+
+    fn next_with_classes(
+        &self,
+        table: &[u8],
+        classes: &[u8],
+        pattern: &[u8],
+        record: &[u8],
+        given: &[u16],
+        allowance: u32,
+        answer: &mut [u16],
+    ) -> Outcome {
+        shown(next(table, Some(classes), pattern, record, given, allowance, answer))
+    }
+
     fn match_rules(
         &self,
         table: &[u8],
@@ -173,6 +198,36 @@ fn match_one(
     first_of(table, classes, steps, &[start], record, allowance, answer)
 }
 
+/// Shows the answer after the one with the given lengths, up to class if a class list is brought.
+fn next(
+    table: &[u8],
+    brought: Option<&[u8]>,
+    pattern: &[u8],
+    record: &[u8],
+    given: &[u16],
+    allowance: u32,
+    answer: &mut [u16],
+) -> Result<Outcome, Refusal> {
+    let answer = wide(answer)?;
+    let table = Table::read(table)?;
+    let classes = read_classes(table, brought)?;
+    let mut steps = Steps::new();
+    let start = steps.read(table, pattern)?;
+    let runs = steps.free_runs(start);
+    let unknown = Fault::new(Word::Unknown, 0);
+    with_search(table, classes, steps, record, |search| {
+        if given.len() != runs.len() {
+            return Err(unknown.into());
+        }
+        let given = runs.iter().copied().zip(given.iter().copied());
+        let (found, count) = search.run_after(start, given, allowance).ok_or(unknown)?;
+        if found == Found::Bound {
+            search.answer(answer);
+        }
+        Ok(Outcome::counted(found.word(), 0, count))
+    })
+}
+
 /// Tries the patterns of a sheet, up to class if a class list is brought.
 #[inline(always)]
 fn match_rules(
@@ -197,11 +252,36 @@ fn match_rules(
 fn first_of(
     table: Table,
     classes: Option<Classes>,
-    mut steps: Steps,
+    steps: Steps,
     starts: &[usize],
     record: &[u8],
     allowance: u32,
     answer: &mut [u16; ANSWER],
+) -> Result<Outcome, Refusal> {
+    with_search(table, classes, steps, record, |search| {
+        let mut sum = 0;
+        for (rule, &start) in starts.iter().enumerate() {
+            let (found, count) = search.run(start, allowance);
+            sum += count;
+            if found == Found::Bound {
+                search.answer(answer);
+            }
+            if found != Found::None {
+                return Ok(Outcome::counted(found.word(), rule, sum));
+            }
+        }
+        Ok(Outcome::counted(Word::None, 0, sum))
+    })
+}
+
+/// Reads a record, and does something with a search of it by these patterns.
+#[inline(always)]
+fn with_search(
+    table: Table,
+    classes: Option<Classes>,
+    mut steps: Steps,
+    record: &[u8],
+    run: impl FnOnce(&mut Search) -> Result<Outcome, Refusal>,
 ) -> Result<Outcome, Refusal> {
     let ends = &mut Vec::new();
     let mut record = Record::read(table, record, ends)?;
@@ -211,21 +291,7 @@ fn first_of(
         merged = classes.merged(record.bytes);
         record.bytes = &merged;
     }
-    let mut search = Search::new(&steps, record);
-    let mut sum = 0;
-    for (rule, &start) in starts.iter().enumerate() {
-        let (found, count) = search.run(start, allowance);
-        sum += count;
-        match found {
-            Found::None => {}
-            Found::Spent => return Ok(Outcome::counted(Word::Spent, rule, sum)),
-            Found::Bound => {
-                search.answer(answer);
-                return Ok(Outcome::counted(Word::Bound, rule, sum));
-            }
-        }
-    }
-    Ok(Outcome::counted(Word::None, 0, sum))
+    run(&mut Search::new(&steps, record))
 }
 
 /// The class list, if one is brought.

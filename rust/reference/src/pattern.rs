@@ -61,6 +61,21 @@ impl Steps {
         Ok(start)
     }
 
+    /// The free run names of the pattern that starts at a step, by their places in the answer, in
+    /// order of their first places outside complements.
+    pub fn free_runs(&self, start: usize) -> Vec<u8> {
+        let (mut runs, mut step) = (Vec::new(), start);
+        loop {
+            match self.0[step] {
+                Step::Run { place, .. } if !runs.contains(&place) => runs.push(place),
+                Step::Complement { skip, .. } => step = skip.into(),
+                Step::Done => return runs,
+                _ => {}
+            }
+            step += 1;
+        }
+    }
+
     /// Replaces each symbol by its class.
     pub fn merge(&mut self, classes: Classes) {
         for step in &mut self.0 {

@@ -2,7 +2,7 @@
 
 use crate::pattern::{Step, Steps, NO_LIST};
 use crate::record::Record;
-use interface::{ABSENT, ANSWER, NAMES, RUNS};
+use interface::{Word, ABSENT, ANSWER, NAMES, RUNS};
 
 /// How a search ends.
 #[derive(Clone, Copy, Debug, PartialEq, Eq)]
@@ -10,6 +10,17 @@ pub enum Found {
     Bound,
     None,
     Spent,
+}
+
+impl Found {
+    /// The word that says so.
+    pub fn word(self) -> Word {
+        match self {
+            Found::Bound => Word::Bound,
+            Found::None => Word::None,
+            Found::Spent => Word::Spent,
+        }
+    }
 }
 
 /// The count would go over the allowance.
@@ -25,7 +36,8 @@ struct PutBy {
     at: u16,
 }
 
-/// A search of a record by any of several patterns.
+/// A search of a record by any of several patterns. With `GIVEN` a level is that of a whole pattern,
+/// which starts with the lengths of a given answer; every other tries all lengths.
 pub struct Search<'a> {
     steps: &'a [Step],
     record: Record<'a>,
@@ -38,6 +50,10 @@ pub struct Search<'a> {
     /// Start and end of what each place is assigned.
     parts: [(u16, u16); NAMES + RUNS],
     put_by: Vec<PutBy>,
+    /// Whether the lengths of a given answer are being checked.
+    checks: bool,
+    /// The given length of each free run name, by its place.
+    given: [u16; NAMES + RUNS],
 }
 
 impl<'a> Search<'a> {
@@ -52,16 +68,37 @@ impl<'a> Search<'a> {
             assigned: 0,
             parts: [(0, 0); NAMES + RUNS],
             put_by: Vec::new(),
+            checks: false,
+            given: [0; NAMES + RUNS],
         }
     }
 
     /// Searches by the pattern that starts at a step, and counts; a spent search shows the
     /// allowance.
     pub fn run(&mut self, start: usize, allowance: u32) -> (Found, u64) {
+        self.whole::<false>(start, allowance)
+    }
+
+    /// Searches after the answer with these lengths of the free run names, each with its place:
+    /// checks them, and goes on from there as after a failure. Nothing is found and counted where
+    /// they belong to no answer.
+    pub fn run_after(
+        &mut self,
+        start: usize,
+        given: impl Iterator<Item = (u8, u16)>,
+        allowance: u32,
+    ) -> Option<(Found, u64)> {
+        given.for_each(|(place, length)| self.given[usize::from(place)] = length);
+        self.checks = true;
+        let (found, count) = self.whole::<true>(start, allowance);
+        (!self.checks || found == Found::Spent).then_some((found, count))
+    }
+
+    fn whole<const GIVEN: bool>(&mut self, start: usize, allowance: u32) -> (Found, u64) {
         self.left = allowance;
         self.assigned = 0;
         self.put_by.clear();
-        let found = match self.level(start, 0) {
+        let found = match self.level::<GIVEN>(start, 0) {
             Ok(true) => Found::Bound,
             Ok(false) => Found::None,
             Err(Spent) => Found::Spent,
@@ -82,15 +119,20 @@ impl<'a> Search<'a> {
     }
 
     /// Searches one level to its first answer, from the present assignments.
-    fn level(&mut self, step: usize, at: usize) -> Result<bool, Spent> {
+    fn level<const GIVEN: bool>(&mut self, step: usize, at: usize) -> Result<bool, Spent> {
         let first = self.put_by.len();
-        let found = self.rest(step, at, first)?;
+        let found = self.rest::<GIVEN>(step, at, first)?;
         self.put_by.truncate(first);
         Ok(found)
     }
 
     /// Searches the rest of a level whose complements are put by from `first` on.
-    fn rest(&mut self, mut step: usize, mut at: usize, first: usize) -> Result<bool, Spent> {
+    fn rest<const GIVEN: bool>(
+        &mut self,
+        mut step: usize,
+        mut at: usize,
+        first: usize,
+    ) -> Result<bool, Spent> {
         loop {
             let next = match self.steps[step] {
                 Step::Symbol { within, symbol } => self.symbol(within, symbol, at)?,
@@ -98,7 +140,7 @@ impl<'a> Search<'a> {
                 Step::Close { list } => (at == self.list_end(list)).then_some(at),
                 Step::Name { within, place } => self.name(within, place, at)?,
                 Step::Run { within, place } if self.assigned >> place & 1 == 0 => {
-                    return self.lengths(within, place, step, at, first);
+                    return self.lengths::<GIVEN>(within, place, step, at, first);
                 }
                 Step::Run { within, place } => self.assigned_run(within, place, at)?,
                 Step::Complement { within, skip } => {
@@ -106,7 +148,7 @@ impl<'a> Search<'a> {
                     step = skip.into();
                     next
                 }
-                Step::Done => return self.complements_hold(first),
+                Step::Done => return self.done::<GIVEN>(first),
             };
             match next {
                 Some(next) => (step, at) = (step + 1, next),
@@ -116,7 +158,7 @@ impl<'a> Search<'a> {
     }
 
     /// Tries the lengths of an unassigned run name, each with the rest of its level.
-    fn lengths(
+    fn lengths<const GIVEN: bool>(
         &mut self,
         within: u8,
         place: u8,
@@ -126,19 +168,50 @@ impl<'a> Search<'a> {
     ) -> Result<bool, Spent> {
         let (assigned, put_by) = (self.assigned | 1 << place, self.put_by.len());
         let (mut end, last) = (at, self.list_end(within));
+        let checks = GIVEN && self.checks;
+        if checks {
+            let Some(given) = self.elements_on(at, last, self.given[usize::from(place)]) else {
+                self.count()?;
+                return Ok(false);
+            };
+            end = given;
+        }
         loop {
             self.count()?;
             self.assigned = assigned;
             self.put_by.truncate(put_by);
             self.parts[usize::from(place)] = (at as u16, end as u16);
-            if self.rest(step + 1, end, first)? {
+            if self.rest::<GIVEN>(step + 1, end, first)? {
                 return Ok(true);
             }
-            if end == last {
+            if end == last || checks && self.checks {
                 return Ok(false);
             }
             end = self.record.ends[end].into();
         }
+    }
+
+    /// Where so many elements from an offset on end, if the list has them.
+    fn elements_on(&self, mut at: usize, last: usize, elements: u16) -> Option<usize> {
+        for _ in 0..elements {
+            if at == last {
+                return None;
+            }
+            at = self.record.ends[at].into();
+        }
+        Some(at)
+    }
+
+    /// A level has no pair left. That is the given answer if it is being checked; the search then
+    /// goes on as after a failure.
+    #[inline(always)]
+    fn done<const GIVEN: bool>(&mut self, first: usize) -> Result<bool, Spent> {
+        let holds = self.complements_hold(first)?;
+        if GIVEN && holds && self.checks {
+            self.checks = false;
+            return Ok(false);
+        }
+        Ok(holds)
     }
 
     /// Whether no inside of the complements put by from `first` on has an answer.
@@ -146,7 +219,7 @@ impl<'a> Search<'a> {
         let assigned = self.assigned;
         for i in first..self.put_by.len() {
             let PutBy { step, at } = self.put_by[i];
-            let found = self.level(step.into(), at.into())?;
+            let found = self.level::<false>(step.into(), at.into())?;
             self.assigned = assigned;
             if found {
                 return Ok(false);

@@ -5,8 +5,8 @@ use interface::{Library, Outcome, Word, ANSWER, NAMES, RUNS};
 use reference::Reference;
 use std::{collections::BTreeMap, env, fs, path::PathBuf};
 
-const FILES: [&str; 5] =
-    ["matches.txt", "classes.txt", "complements.txt", "rules.txt", "sheets.txt"];
+const FILES: [&str; 6] =
+    ["matches.txt", "classes.txt", "complements.txt", "nexts.txt", "rules.txt", "sheets.txt"];
 
 #[test]
 fn every_vector_has_its_outcome() {
@@ -23,7 +23,8 @@ fn every_vector_has_its_outcome() {
             let words: Vec<&str> = call.split(' ').collect();
             if let Some(answered) = outcome(words[1], &words[2..], stated) {
                 assert_eq!(answered, stated, "{line}");
-                let classes = if words.len() == 8 { " with classes" } else { "" };
+                let fields = if words[1] == "next" { 6 } else { 5 };
+                let classes = if words.len() > 2 + fields { " with classes" } else { "" };
                 *run.entry(format!("{}{classes}", words[1])).or_insert(0) += 1;
             }
         }
@@ -35,6 +36,8 @@ fn every_vector_has_its_outcome() {
         "match_one with classes",
         "match_rules",
         "match_rules with classes",
+        "next",
+        "next with classes",
         "place_of",
         "write_sheet",
     ];
@@ -45,39 +48,11 @@ fn every_vector_has_its_outcome() {
 /// What is answered, as a line states it, or nothing where it is none of the calls.
 fn outcome(call: &str, fields: &[&str], stated: &str) -> Option<String> {
     Some(match (call, fields) {
-        ("match_one", [table, pattern, record, allowance, width]) => {
-            let [table, pattern, record] = [table, pattern, record].map(|text| bytes(text));
-            let find = |answer: &mut [u16]| {
-                Reference.match_one(&table, &pattern, &record, number(allowance), answer)
-            };
-            matched(number(width), false, find)
+        ("match_one" | "match_rules", [inputs @ .., allowance, width]) => {
+            found(call, inputs, &[], number(allowance), number(width))
         }
-        ("match_rules", [table, rules, record, allowance, width]) => {
-            let [table, rules, record] = [table, rules, record].map(|text| bytes(text));
-            let find = |answer: &mut [u16]| {
-                Reference.match_rules(&table, &rules, &record, number(allowance), answer)
-            };
-            matched(number(width), true, find)
-        }
-        ("match_one", [table, classes, pattern, record, allowance, width]) => {
-            let [table, classes, pattern, record] =
-                [table, classes, pattern, record].map(|text| bytes(text));
-            let find = |answer: &mut [u16]| {
-                let allowance = number(allowance);
-                Reference
-                    .match_one_with_classes(&table, &classes, &pattern, &record, allowance, answer)
-            };
-            matched(number(width), false, find)
-        }
-        ("match_rules", [table, classes, rules, record, allowance, width]) => {
-            let [table, classes, rules, record] =
-                [table, classes, rules, record].map(|text| bytes(text));
-            let find = |answer: &mut [u16]| {
-                let allowance = number(allowance);
-                Reference
-                    .match_rules_with_classes(&table, &classes, &rules, &record, allowance, answer)
-            };
-            matched(number(width), true, find)
+        ("next", [inputs @ .., given, allowance, width]) => {
+            found(call, inputs, &list(given), number(allowance), number(width))
         }
         ("check_rules", [table, sheet]) => {
             checked(&bytes(sheet), |sheet| Reference.check_rules(&bytes(table), sheet))
@@ -97,6 +72,26 @@ fn outcome(call: &str, fields: &[&str], stated: &str) -> Option<String> {
         }
         _ => return None,
     })
+}
+
+/// The outcome of a search of a table, a class list if there is one, a pattern or rules (p), and a
+/// record.
+fn found(call: &str, inputs: &[&str], given: &[u16], allowance: u32, width: u32) -> String {
+    let inputs: Vec<Vec<u8>> = inputs.iter().map(|text| bytes(text)).collect();
+    let find = |answer: &mut [u16]| match (call, &inputs[..]) {
+        ("match_one", [t, p, r]) => Reference.match_one(t, p, r, allowance, answer),
+        ("match_one", [t, c, p, r]) => {
+            Reference.match_one_with_classes(t, c, p, r, allowance, answer)
+        }
+        ("next", [t, p, r]) => Reference.next(t, p, r, given, allowance, answer),
+        ("next", [t, c, p, r]) => Reference.next_with_classes(t, c, p, r, given, allowance, answer),
+        ("match_rules", [t, p, r]) => Reference.match_rules(t, p, r, allowance, answer),
+        ("match_rules", [t, c, p, r]) => {
+            Reference.match_rules_with_classes(t, c, p, r, allowance, answer)
+        }
+        _ => panic!("{call}: a wrong number of inputs"),
+    };
+    matched(width, call == "match_rules", find)
 }
 
 /// The outcome of a match with a buffer of so many numbers; that of a rule sheet shows an index.

@@ -10,13 +10,14 @@ use borrow.Author.Tests.{not-true, not-false}
 use Rattle.search.specs.Level.{levels}
 use Rattle.search.specs.Inner.Memory.{packed, putByIn}
 use Rattle.search.specs.Inner.Bounds.{StopsAt, Unassigned}
-use Rattle.search.specs.Inner.Replies.{Decides}
+use Rattle.search.specs.Inner.Replies.{Decides, runStart}
+use Rattle.search.specs.Inner.Halts.{Halting}
 use Rattle.search.specs.declared.Place.{Place}
 use Rattle.search.proofs.Steps.{rest-length}
 use Rattle.search.proofs.Kept.{past, past-holds, none-free}
 use Rattle.search.proofs.FirstPairs.{complement-ends}
-use Rattle.search.proofs.Halves.{level-from}
-use Rattle.search.proofs.Levels.{rest-follows, rest-fails, rest-starts, Trying, try-first, Written, written-holding, try-last, try-hit, try-spent, try-more, Testing, test-first, test-end, test-next, test-stop, test-on, inside-length, inside-holding, complement-tests, follow-fails, follow-spent, follow-none, follow-tests, follow-tries}
+use Rattle.search.proofs.Halves.{holding-here, level-from-by, level-whole}
+use Rattle.search.proofs.Levels.{rest-fails-by, rest-reports, rest-follows-by, rest-starts, Trying, try-first, Written, written-holding, try-last-by, try-hit-by, try-spent-by, try-more, rest-free, not-halting, Testing, test-first, test-end, test-next, test-stop, test-on, inside-length, inside-holding, complement-tests, follow-fails, follow-spent, follow-none, follow-tests, follow-tries}
 use borrow.Fn.Kinds.{In}
 use borrow.Fn.PlainCycle.{Measures, is, falls, and}
 use Rattle.search.proofs.complement.Reads as complement
@@ -56,6 +57,7 @@ use Rattle.search.proofs.is_failure.Reads as is-failure-reads
 use Rattle.search.proofs.is_found.Reads as is-found-reads
 use Rattle.search.proofs.opposite.Reads as opposite-reads
 use Rattle.search.proofs.packed.Reads as packed-reads
+use Rattle.search.proofs.report.Reads as report-reads
 use Rattle.search.proofs.walk.Reads as walk-reads
 use Rattle.search.proofs.wide.Reads as wide-reads
 use Rattle.term.proofs.Part.bound.Reads as bound-reads
@@ -76,13 +78,13 @@ abbrev μ-lengths : Measures 8 lengths-kinds.ps ℕ
 μ-lengths κs a = 5 * levels (now (a .1 .1 .0)) (a .1 .1 .1 .1 .1 .1 .1 .1 .1 .1 .0 .at) + 1
 
 abbrev μ-level : Measures 8 level-kinds.ps ℕ
-μ-level κs a = 5 * levels (now (a .1 .1 .0)) (a .1 .1 .1 .1 .1 .1 .1 .1 .1 .1 .1 .1 .1 .0 .at) + 4
+μ-level κs a = 5 * levels (now (a .1 .1 .0)) (a .1 .1 .1 .1 .1 .1 .1 .1 .1 .1 .1 .1 .1 .1 .1 .1 .0 .at) + 4
 
 abbrev μ-rest : Measures 8 rest-kinds.ps ℕ
-μ-rest κs a = 5 * levels (now (a .1 .1 .0)) (a .1 .1 .1 .1 .1 .1 .1 .1 .1 .0 .at) + 3
+μ-rest κs a = 5 * levels (now (a .1 .1 .0)) (a .1 .1 .1 .1 .1 .1 .1 .1 .1 .1 .0 .at) + 3
 
 abbrev μ-start-level : Measures 8 start-level-kinds.ps ℕ
-μ-start-level κs a = 5 * levels (now (a .1 .1 .0)) 0 + 5
+μ-start-level κs a = 5 * levels (now (a .1 .1 .0)) (a .1 .1 .1 .1 .1 .1 .1 .1 .1 .0 .at) + 5
 
 abbrev complement-at : ℕ → In 8 complement-kinds.ps
 complement-at t =
@@ -140,6 +142,8 @@ complement-claims t = (
   opposite-reads.Learnt,
   inside-reads.Asked,
   inside-reads.Learnt,
+  start-reads.Asked,
+  start-reads.Learnt,
   start-level-below t,
   start-level.Post,
 )
@@ -191,13 +195,16 @@ complement-enum-told t c = search needs
 complement-inside-requires : (t : ℕ) → complement-lts.Need-inside-requires (complement-claims t) (complement-at t) complement.Post
 complement-inside-requires t c κs = search needs
 
+complement-start-requires : (t : ℕ) → complement-lts.Need-start-requires (complement-claims t) (complement-at t) complement.Post
+complement-start-requires t c κs = search needs
+
 complement-start-level-requires : (t : ℕ) → complement-lts.Need-start-level-requires (complement-claims t) (complement-at t) complement.Post
 complement-start-level-requires t c κs =
-    let entered = c .before .before .before .before .before .before .before .before .before .before .before .before .before .before in
+    let entered = c .before .before .before .before .before .before .before .before .before .before .before .before .before .before .before in
     let pre = entered .pre in
     let w = pre .1 .0 .within in
     let d = inside-length (entered .args .pattern .now) (putByIn (entered .args .c)) w in
-    rw (c .inside2 .ensures) (
+    rw (c .start .ensures, c .before .inside2 .ensures) (
       omega (arith, pre .0, w, d, pre .1 .1 .of-pattern),
       (inside-holding _ _ w (pre .1 .0), record { of-pattern = omega (arith, w, d, pre .1 .1 .of-pattern); of-record = pre .1 .1 .of-record }),
     )
@@ -207,8 +214,8 @@ complement-opposite-requires-2 t c κs = search needs
 
 complement-returns-2 : (t : ℕ) → complement-lts.Need-returns-2 (complement-claims t) (complement-at t) complement.Post
 complement-returns-2 t c =
-    let pre = c .before .before .before .before .before .before .before .before .before .before .before .before .before .before .before .before .pre in
-    complement-tests _ _ (pre .1 .0 .within) _ _ _ _ _ _ _ _ (pre .1 .1 .of-pattern) (c .before .before .inside2 .ensures) (c .before .start-level .ensures)
+    let pre = c .before .before .before .before .before .before .before .before .before .before .before .before .before .before .before .before .before .pre in
+    complement-tests _ _ (pre .1 .0 .within) _ _ _ _ _ _ _ _ (pre .1 .1 .of-pattern) (c .before .before .before .inside2 .ensures) (c .before .before .start .ensures) (c .before .start-level .ensures)
     (c .opposite2 .ensures)
 
 abbrev complements-claims : ℕ → complements-lts.Claims
@@ -370,10 +377,11 @@ lengths-level-requires t c κs =
     ) (
       omega (arith, pre .0, pre .1 .1 .at),
       (
-        record { state = past (pre .1 .0 .state); holds = past-holds (pre .1 .1 .at) (pre .1 .0 .holds) },
+        holding-here (record { state = past (pre .1 .0 .state); holds = past-holds (pre .1 .1 .at) (pre .1 .0 .holds) }),
         record { below = omega (arith, pre .1 .1 .variable); free = λ l. pre .1 .2 },
-        omega arith,
+        record { some = omega arith; enough = omega arith; behind = omega arith; within = omega (arith, pre .1 .0 .holds .node) },
         pre .1 .3,
+        not-halting,
       ),
     )
 
@@ -381,8 +389,8 @@ lengths-returns-2 : (t : ℕ) → lengths-lts.Need-returns-2 (lengths-claims t) 
 lengths-returns-2 t c =
     let passed = c .before .before .before .before .before .before .before .before .before .before in
     follow-tries _ _ _ _ _ _ _ _ _ _ _ _ _ (c .before .before .before .before .before .wide .ensures) (passed .passed .ensures) (passed .before .if1 .left)
-    (passed .before .before .before .before .before .before .before .pre .1 .1 .at)
-    (level-from (rw (c .before .before .before .queue .ensures, c .before .before .before .before .nodes .ensures)) (rw (c .before .next .ensures, c .before .before .remaining .ensures))
+    (passed .before .before .before .before .before .before .before .pre .1 .1 .at) _ (omega arith)
+    (level-whole (rw (c .before .before .before .queue .ensures, c .before .before .before .before .nodes .ensures)) (rw (c .before .next .ensures, c .before .before .remaining .ensures)) refl
     (c .level .ensures))
 
 abbrev level-claims : ℕ → level-lts.Claims
@@ -406,16 +414,16 @@ level-claims t = (
 )
 
 abbrev level-Inv-loop : level-lts.InvT-loop
-level-Inv-loop table classes pattern «record» parts₀ stack₀ assigned₀ left₀ v most marks seen node place₀ n₀ parts stack assigned left place n =
-    Trying table classes pattern «record» assigned₀ left₀ parts₀ stack₀ v most marks place₀ left parts stack place n
+level-Inv-loop table classes pattern «record» parts₀ stack₀ assigned₀ left₀ v halts first most from marks seen place₀ n₀ parts stack assigned left place n =
+    Trying table classes pattern «record» assigned₀ left₀ parts₀ stack₀ v first (place₀ .node - from) most marks (runStart first from place₀) left parts stack place n
 
 abbrev level-μ-loop : level-lts.MeasureT-loop
-level-μ-loop table classes pattern «record» parts₀ stack₀ assigned₀ left₀ v most marks seen node place₀ n₀ parts stack assigned left place n =
+level-μ-loop table classes pattern «record» parts₀ stack₀ assigned₀ left₀ v halts first most from marks seen place₀ n₀ parts stack assigned left place n =
     most - n
 
 -- the variable's part is written
 level-written : (t : ℕ) (c : level-lts.After-packed (level-claims t) (level-at t) level.Post level-Inv-loop level-μ-loop)
-    → Written _ _ _ _ _ _ _ _ _ _ _ _ (c .before .before .before .loop .inv) (c .packed .result) (c .before .before .before .before .also .result)
+    → Written _ _ _ _ _ _ _ _ _ _ _ _ _ _ (c .before .before .before .loop .inv) (c .packed .result) (c .before .before .before .before .also .result)
 level-written t c = record {
   holding = rw (c .before .before .before .before .before .before .of2 .ensures, c .before .before .before .before .before .before .before .of .ensures) (c .before .before .before .before .before .before .before .before .before .before .before .before .pre .1 .0);
   free = c .before .before .before .before .before .before .before .before .before .before .before .before .pre .1 .1;
@@ -424,6 +432,14 @@ level-written t c = record {
   is-part = c .packed .ensures ∙ ap packed (c .before .bound .ensures);
   is-seen = c .before .before .before .before .also .ensures;
 }
+
+-- at its first length, if the level halts
+level-halting : (t : ℕ) (c : level-lts.After-packed (level-claims t) (level-at t) level.Post level-Inv-loop level-μ-loop)
+    → Halting (c .before .before .before .before .before .before .before .before .before .before .before .before .args .halts) (c .before .before .before .before .before .before .before .before .before .before .before .before .args .v) (c .before .before .before .before .before .before .before .before .before .before .before .before .args .first) (c .before .before .before .before .before .before .before .before .before .before .before .before .args .most)
+    (c .before .before .before .before .before .before .of2 .result .node - c .before .before .before .before .before .before .before .before .before .before .before .before .args .from)
+level-halting t c =
+    subst (λ (x : Place). Halting (c .before .before .before .before .before .before .before .before .before .before .before .before .args .halts) (c .before .before .before .before .before .before .before .before .before .before .before .before .args .v) (c .before .before .before .before .before .before .before .before .before .before .before .before .args .first) (c .before .before .before .before .before .before .before .before .before .before .before .before .args .most)
+    (x .node - c .before .before .before .before .before .before .before .before .before .before .before .before .args .from)) (sym (c .before .before .before .before .before .before .of2 .ensures)) (c .before .before .before .before .before .before .before .before .before .before .before .before .pre .1 .4)
 
 -- one element more stays within the record
 level-grows : (t : ℕ) (c : level-lts.After-extent (level-claims t) (level-at t) level.Post level-Inv-loop level-μ-loop)
@@ -448,7 +464,10 @@ level-also-requires t c κs = c .before .before .before .before .before .before 
 
 level-loop-holds : (t : ℕ) → level-lts.Need-loop-holds (level-claims t) (level-at t) level.Post level-Inv-loop level-μ-loop
 level-loop-holds t c =
-    try-first _ _ _ _ _ _ _ _ _ _ _ (c .before .before .of2 .result) (rw (c .before .before .of2 .ensures) (c .before .before .before .before .before .before .before .before .pre .1 .0 .holds .node))
+    let between = c .before .before .before .before .before .before .before .before .pre .1 .2 in
+    let is = c .before .before .of2 .ensures in
+    try-first _ _ _ _ _ _ _ _ _ _ _ _ _ _ (c .before .before .of2 .result) (between .some) refl (omega arith) refl
+    (rw is (between .behind)) (rw is (between .within)) refl
 
 level-sub-bound : (t : ℕ) → level-lts.Need-sub-bound (level-claims t) (level-at t) level.Post level-Inv-loop level-μ-loop
 level-sub-bound t c = c .before .loop .inv .further
@@ -470,7 +489,7 @@ level-rest-requires t c κs =
     let pre = c .before .before .before .before .before .before .before .before .before .before .before .before .before .before .before .before .pre in
     let inv = c .before .before .before .before .before .before .before .loop .inv in
     let at = ap (λ (x : Place). x .at) (c .before .before .before .before .before .before .before .before .before .before .of2 .ensures) in
-    (omega (arith, pre .0, inv .at, at), (written-holding _ _ _ _ _ _ _ _ _ _ _ _ inv (level-written t (c .before .before .before .before)), pre .1 .3))
+    (omega (arith, pre .0, inv .at, at), (written-holding _ _ _ _ _ _ _ _ _ _ _ _ _ _ inv (level-written t (c .before .before .before .before)), pre .1 .3))
 
 level-is-failed-requires : (t : ℕ) → level-lts.Need-is-failed-requires (level-claims t) (level-at t) level.Post level-Inv-loop level-μ-loop
 level-is-failed-requires t c κs = search needs
@@ -502,7 +521,7 @@ level-sub-place t c =
     let pre = c .before .before .before .before .before .before .before .before .before .before .before .before .before .before .before .before .before .before .before .before .before .before .before .before .before .pre in
     let inv = c .before .before .before .before .before .before .before .before .before .before .before .before .before .before .before .before .loop .inv in
     let elements = ap (λ (x : Place). x .elements) (c .before .before .before .before .before .before .before .before .before .before .before .before .before .before .before .before .before .before .before .of2 .ensures) in
-    omega (arith, inv .elements, c .before .before .before .before .before .if2 .left, pre .1 .2, elements)
+    omega (arith, inv .elements, c .before .before .before .before .before .if2 .left, pre .1 .2 .enough, elements)
 
 level-add-n : (t : ℕ) → level-lts.Need-add-n (level-claims t) (level-at t) level.Post level-Inv-loop level-μ-loop
 level-add-n t c =
@@ -514,36 +533,40 @@ level-loop-less t c = omega (arith, c .before .before .before .before .before .i
 
 level-loop-again : (t : ℕ) → level-lts.Need-loop-again (level-claims t) (level-at t) level.Post level-Inv-loop level-μ-loop
 level-loop-again t c =
-    try-more _ _ _ _ _ _ _ _ _ _ _ _
+    try-more _ _ _ _ _ _ _ _ _ _ _ _ _ _
     (c .before .before .before .before .before .before .before .before .before .before .before .before .before .before .before .before .loop .inv)
     (level-written t (c .before .before .before .before .before .before .before .before .before .before .before .before .before))
-    (c .before .before .before .before .before .before .before .before .rest .ensures)
+    (rest-free _ _ _ _ _ _ _ _ _ _ _ _ _ _
+    (c .before .before .before .before .before .before .before .before .before .before .before .before .before .before .before .before .loop .inv)
+    (level-written t (c .before .before .before .before .before .before .before .before .before .before .before .before .before))
+    (level-halting t (c .before .before .before .before .before .before .before .before .before .before .before .before .before))
+    (c .before .before .before .before .before .before .before .before .rest .ensures) (omega (arith, c .before .before .before .before .before .if2 .left)))
     (sym (c .before .before .before .before .before .before .before .is-failed .ensures) ∙ not-false _ (c .before .before .before .before .before .before .if1 .left)) (omega (arith, c .before .before .before .before .before .if2 .left)) (c .before .before .before .if3 .left) _ (c .before .extent .result)
     (c .before .extent .ensures .0) refl refl refl refl (level-grows t (c .before))
 
 level-returns : (t : ℕ) → level-lts.Need-returns (level-claims t) (level-at t) level.Post level-Inv-loop level-μ-loop
 level-returns t c =
-    level-from (c .before .before .before .before .before .before .before .before .before .before .before .before .before .before .of .ensures)
+    level-from-by (c .before .before .before .before .before .before .before .before .before .before .before .before .before .before .of .ensures)
     (c .before .before .before .before .before .before .before .before .before .before .before .before .before .of2 .ensures)
-    (try-hit _ _ _ _ _ _ _ _ _ _ _ _ (c .before .before .before .before .before .before .before .before .before .before .loop .inv)
-    (level-written t (c .before .before .before .before .before .before .before)) (c .before .before .rest .ensures)
+    (try-hit-by _ _ _ _ _ _ _ _ _ _ _ _ _ _ (c .before .before .before .before .before .before .before .before .before .before .loop .inv)
+    (level-written t (c .before .before .before .before .before .before .before)) (level-halting t (c .before .before .before .before .before .before .before)) (c .before .before .rest .ensures)
     (sym (c .before .is-failed .ensures) ∙ not-true _ (c .if1 .taken)))
 
 level-returns-2 : (t : ℕ) → level-lts.Need-returns-2 (level-claims t) (level-at t) level.Post level-Inv-loop level-μ-loop
 level-returns-2 t c =
-    level-from (c .before .before .before .before .before .before .before .before .before .before .before .before .before .before .before .of .ensures)
+    level-from-by (c .before .before .before .before .before .before .before .before .before .before .before .before .before .before .before .of .ensures)
     (c .before .before .before .before .before .before .before .before .before .before .before .before .before .before .of2 .ensures)
-    (try-last _ _ _ _ _ _ _ _ _ _ _ _ (c .before .before .before .before .before .before .before .before .before .before .before .loop .inv)
-    (level-written t (c .before .before .before .before .before .before .before .before)) (c .before .before .before .rest .ensures)
+    (try-last-by _ _ _ _ _ _ _ _ _ _ _ _ _ _ (c .before .before .before .before .before .before .before .before .before .before .before .loop .inv)
+    (level-written t (c .before .before .before .before .before .before .before .before)) (level-halting t (c .before .before .before .before .before .before .before .before)) (c .before .before .before .rest .ensures)
     (c .if2 .taken))
 
 level-returns-3 : (t : ℕ) → level-lts.Need-returns-3 (level-claims t) (level-at t) level.Post level-Inv-loop level-μ-loop
 level-returns-3 t c =
-    level-from (c .before .before .before .before .before .before .before .before .before .before .before .before .before .before .before .before .before .of .ensures)
+    level-from-by (c .before .before .before .before .before .before .before .before .before .before .before .before .before .before .before .before .before .of .ensures)
     (c .before .before .before .before .before .before .before .before .before .before .before .before .before .before .before .before .of2 .ensures)
-    (try-spent _ _ _ _ _ _ _ _ _ _ _ _
+    (try-spent-by _ _ _ _ _ _ _ _ _ _ _ _ _ _
     (c .before .before .before .before .before .before .before .before .before .before .before .before .before .loop .inv)
-    (level-written t (c .before .before .before .before .before .before .before .before .before .before))
+    (level-written t (c .before .before .before .before .before .before .before .before .before .before)) (level-halting t (c .before .before .before .before .before .before .before .before .before .before))
     (c .before .before .before .before .before .rest .ensures)
     (sym (c .before .before .before .before .is-failed .ensures) ∙ not-false _ (c .before .before .before .if1 .left)) (omega (arith, c .before .before .if2 .left)) (c .if3 .taken))
 
@@ -553,6 +576,8 @@ rest-claims t = (
   walk-reads.Learnt,
   is-failure-reads.Asked,
   is-failure-reads.Learnt,
+  report-reads.Asked,
+  report-reads.Learnt,
   follow-below t,
   follow.Post,
 )
@@ -565,25 +590,28 @@ rest-is-failure-requires t c κs = search needs
 
 rest-returns : (t : ℕ) → rest-lts.Need-returns (rest-claims t) (rest-at t) rest.Post
 rest-returns t c =
-    rest-fails (c .before .before .before .before .before .before .before .before .before .before .before .before .before .pre .1 .0)
-    (c .before .before .before .before .walk .ensures) (sym (c .before .is-failure .ensures) ∙ c .if1 .taken)
+    rest-fails-by _ (c .before .before .before .before .walk .ensures) (c .before .before .before .before .before .before .before .before .before .before .before .before .before .pre .1 .0)
+    (sym (c .before .is-failure .ensures) ∙ c .if1 .taken)
 
-rest-follow-requires : (t : ℕ) → rest-lts.Need-follow-requires (rest-claims t) (rest-at t) rest.Post
-rest-follow-requires t c κs =
-    let pre = c .before .before .before .before .before .before .before .before .before .before .before .before .before .before .before .before .before .pre in
-    let w = c .before .before .before .before .before .before .before .before .walk .ensures (pre .1 .0 .state) (pre .1 .0 .holds) in
-    (omega (arith, pre .0, w .further), (record { state = w .end; holds = w .holds }, w .stops, w .unassigned, pre .1 .1))
+rest-report-requires : (t : ℕ) → rest-lts.Need-report-requires (rest-claims t) (rest-at t) rest.Post
+rest-report-requires t c κs = search needs
 
 rest-returns-2 : (t : ℕ) → rest-lts.Need-returns-2 (rest-claims t) (rest-at t) rest.Post
 rest-returns-2 t c =
-    rest-follows
-    (c .before .before .before .before .before .before .before .before .before .before .before .before .before .before .before .before .before .before .pre .1 .0)
-    (c .before .before .before .before .before .before .before .before .before .walk .ensures) (c .follow .ensures)
+    rest-reports _ (c .before .before .before .before .before .before .before .walk .ensures) (c .before .before .if2 .taken) (sym (c .before .before .before .before .is-failure .ensures) ∙ c .before .before .before .if1 .left) (c .report .ensures)
+
+rest-follow-requires : (t : ℕ) → rest-lts.Need-follow-requires (rest-claims t) (rest-at t) rest.Post
+rest-follow-requires t c κs =
+    let pre = c .before .before .before .before .before .before .before .before .before .before .before .before .before .before .before .before .before .before .pre in
+    let w = c .before .before .before .before .before .before .before .before .before .walk .ensures (pre .1 .0 .state) (pre .1 .0 .holds) in
+    (omega (arith, pre .0, w .further), (record { state = w .end; holds = w .holds }, w .stops, w .unassigned, pre .1 .1))
+
+rest-returns-3 : (t : ℕ) → rest-lts.Need-returns-3 (rest-claims t) (rest-at t) rest.Post
+rest-returns-3 t c =
+    rest-follows-by _ (c .before .before .before .before .before .before .before .before .before .before .walk .ensures) (c .before .before .before .before .before .if2 .left) (c .before .before .before .before .before .before .before .before .before .before .before .before .before .before .before .before .before .before .before .pre .1 .0) (c .follow .ensures)
 
 abbrev start-level-claims : ℕ → start-level-lts.Claims
 start-level-claims t = (
-  start-reads.Asked,
-  start-reads.Learnt,
   nodes-reads.Asked,
   nodes-reads.Learnt,
   queue-reads.Asked,
@@ -595,9 +623,6 @@ start-level-claims t = (
   level-below t,
   level.Post,
 )
-
-start-level-start-requires : (t : ℕ) → start-level-lts.Need-start-requires (start-level-claims t) (start-level-at t) start-level.Post
-start-level-start-requires t c κs = search needs
 
 start-level-nodes-requires : (t : ℕ) → start-level-lts.Need-nodes-requires (start-level-claims t) (start-level-at t) start-level.Post
 start-level-nodes-requires t c κs = search needs
@@ -613,22 +638,28 @@ start-level-next-requires t c κs = search needs
 
 start-level-level-requires : (t : ℕ) → start-level-lts.Need-level-requires (start-level-claims t) (start-level-at t) start-level.Post
 start-level-level-requires t c κs =
-    let started = c .before .before .before .before .before .before .before .before in
-    let pre = started .before .before .before .before .before .pre in
+    let pre = c .before .before .before .before .before .before .before .before .before .before .before .before .pre in
     rw (
       c .next .ensures,
       c .before .remaining .ensures,
       c .before .before .queue .ensures,
       c .before .before .before .nodes .ensures,
-      started .start .ensures,
-    ) (omega (arith, pre .0), (pre .1 .0, none-free, omega arith, pre .1 .1))
+    ) (
+      omega (arith, pre .0),
+      (
+        holding-here (pre .1 .0),
+        none-free,
+        record { some = omega arith; enough = omega arith; behind = omega arith; within = pre .1 .0 .holds .node },
+        pre .1 .1,
+        not-halting,
+      ),
+    )
 
 start-level-returns : (t : ℕ) → start-level-lts.Need-returns (start-level-claims t) (start-level-at t) start-level.Post
 start-level-returns t c =
-    let started = c .before .before .before .before .before .before .before .before .before in
-    rest-starts
-    (level-from (rw (c .before .before .before .queue .ensures, c .before .before .before .before .nodes .ensures))
-    (rw (c .before .next .ensures, c .before .before .remaining .ensures) (started .start .ensures)) (c .level .ensures))
+    rest-starts _ (omega arith)
+    (level-whole (rw (c .before .before .before .queue .ensures, c .before .before .before .before .nodes .ensures))
+    (rw (c .before .next .ensures, c .before .before .remaining .ensures)) refl (c .level .ensures))
 
 pub +complement+complements+follow+lengths+level+rest+start-level-spec : {M : Type 1} → statement M
 +complement+complements+follow+lengths+level+rest+start-level-spec =
@@ -651,6 +682,7 @@ pub +complement+complements+follow+lengths+level+rest+start-level-spec : {M : Ty
     (complement-returns t)
     (complement-enum-told t)
     (complement-inside-requires t)
+    (complement-start-requires t)
     (complement-start-level-requires t)
     (complement-opposite-requires-2 t)
     (complement-returns-2 t))
@@ -736,13 +768,14 @@ pub +complement+complements+follow+lengths+level+rest+start-level-spec : {M : Ty
     (rest-walk-requires t)
     (rest-is-failure-requires t)
     (rest-returns t)
+    (rest-report-requires t)
+    (rest-returns-2 t)
     (rest-follow-requires t)
-    (rest-returns-2 t))
+    (rest-returns-3 t))
     λ t. start-level-lts.spec
     (start-level-claims t)
     (start-level-at t)
     start-level.Post
-    (start-level-start-requires t)
     (start-level-nodes-requires t)
     (start-level-queue-requires t)
     (start-level-remaining-requires t)

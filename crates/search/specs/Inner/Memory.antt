@@ -30,10 +30,10 @@ unpacked x = part (x % 65536) (x / 65536 % 65536) (x / 4294967296 % 256)
 abbrev pub partIn : ℕ → List ℕ → ℕ → Part
 partIn assigned parts v = cond (bit assigned v) (unpacked (getD parts v 0)) absent
 
--- The buffers: a part for each variable and one for none; a place in the stack for each byte of the longest pattern
+-- The buffers: a part for each variable and three for where a level halts; a place in the stack for each byte of the longest pattern
 
 abbrev pub partPlaces : ℕ
-partPlaces = variables + 1
+partPlaces = variables + 3
 
 abbrev pub stackPlaces : ℕ
 stackPlaces = longestPattern

@@ -10,7 +10,7 @@ use Rattle.term.specs.Extent.{extentOf}
 use Rattle.term.specs.Part.{boundPart}
 use Rattle.term.specs.declared.Part.{Part}
 use Rattle.search.specs.State.{PutBy, State, place, state}
-use Rattle.search.specs.Level.{Reply, reply, failedAt, spentAt, startOf, orElse, insideOf, complementsOf, stopBy, levelOf, levels, endOf}
+use Rattle.search.specs.Level.{Reply, reply, failedAt, spentAt, startOf, orElse, insideOf, complementsOf, stopBy, levelOf, levels}
 use Rattle.search.specs.Inner.Memory.{bit, partIn, Holds, Holding, Kept}
 use Rattle.search.specs.declared.Place.{Place}
 use Rattle.search.specs.declared.Marks.{Marks}
@@ -42,11 +42,15 @@ unfoldable pub partsIn : ℕ → List ℕ → ℕ → ℕ → List Part
 partsIn assigned parts v zero = []
 partsIn assigned parts v (suc k) = partIn assigned parts v ∷ partsIn assigned parts (v + 1) k
 
--- the reply that outcome, allowance, mask and parts stand for
+-- the reply that outcome, allowance and parts shown stand for
+abbrev pub replyWith : Outcome → ℕ → List Part → Reply
+replyWith Found left shown = reply Found left shown
+replyWith Failed left shown = failedAt left
+replyWith Spent left shown = spentAt left
+
+-- the same by mask and parts
 abbrev pub replyOf : Outcome → ℕ → ℕ → List ℕ → Reply
-replyOf Found left assigned parts = reply Found left (partsIn assigned parts 0 variables)
-replyOf Failed left assigned parts = failedAt left
-replyOf Spent left assigned parts = spentAt left
+replyOf outcome left assigned parts = replyWith outcome left (partsIn assigned parts 0 variables)
 
 -- Lengths
 
@@ -71,6 +75,17 @@ pub record Free (assigned v : ℕ) : Type 0 where
   pub below : v ≤ variables
   pub free : v < variables → bit assigned v ≡ false
 
+-- the place at which a run starts, from the place behind its first n elements
+abbrev pub runStart : ℕ → ℕ → Place → Place
+runStart n from p = place (p .children) (p .elements + n) (p .at) from
+
+-- the lengths from the first one on, where the place is behind it
+pub record Between (first most from bytes : ℕ) (p : Place) : Type 0 where
+  pub some : first ≤ most
+  pub enough : most ≤ p .elements + first
+  pub behind : from ≤ p .node
+  pub within : p .node ≤ bytes
+
 -- the buffers hold a state at some place
 pub record Resting (codes bytes assigned : ℕ) (parts stack : List ℕ) (m : Marks) : Type 0 where
   pub place : Place
@@ -91,7 +106,7 @@ pub record Testable (codes bytes assigned : ℕ) (parts stack : List ℕ) (m : M
 pub record EndsAtOnce (table classes pattern bytes : List ℕ) (node left : ℕ) (outcome : Outcome) : Type 0 where
   pub some : 0 < left
   pub ends : (shown : List Part) (n : ℕ) → 0 < n
-      → endOf (levelOf n table classes bytes pattern (startOf shown node) left) ≡ record { outcome = outcome; left = left - 1 }
+      → levelOf n table classes bytes pattern (startOf shown node) left ≡ replyWith outcome (left - 1) shown
 
 -- what the first pair decides alone
 abbrev pub Decides : List ℕ → List ℕ → List ℕ → List ℕ → ℕ → ℕ → First → Type 0
@@ -100,10 +115,10 @@ Decides table classes pattern bytes node left Unsure = Unit {0}
 
 -- The replies: the definition's, with any number of levels that is enough, and what is left alone
 
-pub record LevelIs (table classes pattern bytes : List ℕ) (assigned left : ℕ) (parts stack : List ℕ) (v most : ℕ) (m : Marks) (p : Place)
+pub record LevelIs (table classes pattern bytes : List ℕ) (assigned left : ℕ) (parts stack : List ℕ) (v first size most : ℕ) (m : Marks) (p : Place)
     (outcome : Outcome) (assigned′ left′ : ℕ) (parts′ stack′ : List ℕ) : Type 0 where
   pub replies : (s : State) → Holds (length pattern) (length bytes) assigned parts stack m p s → (n : ℕ) → levels pattern (p .at) ≤ n
-      → replyOf outcome left′ assigned′ parts′ ≡ triesOf (levelOf n table classes bytes pattern) table bytes v s most 0 0 left
+      → replyOf outcome left′ assigned′ parts′ ≡ triesOf (levelOf n table classes bytes pattern) table bytes v s (most - first) first size left
   pub kept : Kept assigned m parts stack parts′ stack′
 
 pub record RestIs (table classes pattern bytes : List ℕ) (assigned left : ℕ) (parts stack : List ℕ) (m : Marks) (p : Place)

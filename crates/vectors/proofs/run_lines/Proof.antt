@@ -20,9 +20,6 @@ head-requires c κs = search needs
 run-line-requires : tie.Need-run-line-requires Inv-loop μ-loop
 run-line-requires c κs = search needs
 
-with-requires : tie.Need-with-requires Inv-loop μ-loop
-with-requires c κs = search needs
-
 through-requires : tie.Need-through-requires Inv-loop μ-loop
 through-requires c κs = search needs
 
@@ -53,7 +50,6 @@ run-lines-spec =
     loop-holds
     head-requires
     run-line-requires
-    with-requires
     through-requires
     sub-rest
     part-rest-start

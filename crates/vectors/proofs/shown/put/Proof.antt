@@ -1,34 +1,30 @@
--- The length of out stays; the measure is the number of bytes left of the text.
+-- The measure is the number of bytes left of the text; nothing has to hold from turn to turn.
 use borrow.Author.Needs.{needs}
 use Prim.Native.Nat.{_-_}
 use lib.ListN.{length}
-use mathlib.Core.Path.{_≡_}
 use Rattle.vectors.proofs.shown.put.Statement.{statement}
 use Rattle.vectors.proofs.shown.put.Tie as tie
 
 abbrev Inv-loop : tie.InvT-loop
-Inv-loop out₀ n text end₀ i₀ out end i = length out ≡ length out₀
+Inv-loop text more₀ i₀ more i = Unit {0}
 
 abbrev μ-loop : tie.MeasureT-loop
-μ-loop out₀ n text end₀ i₀ out end i = length text - i
+μ-loop text more₀ i₀ more i = length text - i
 
 loop-holds : tie.Need-loop-holds Inv-loop μ-loop
 loop-holds c = search needs
 
-same-length : tie.Need-same-length Inv-loop μ-loop
-same-length c = search needs
-
 returns : tie.Need-returns Inv-loop μ-loop
 returns c = search needs
 
-add-end : tie.Need-add-end Inv-loop μ-loop
-add-end c = search needs
+shared-slice-read-more : tie.Need-shared-slice-read-more Inv-loop μ-loop
+shared-slice-read-more c = search needs
 
-shared-slice-read-out : tie.Need-shared-slice-read-out Inv-loop μ-loop
-shared-slice-read-out c = search needs
+element-write-more : tie.Need-element-write-more Inv-loop μ-loop
+element-write-more c = search needs
 
-slice-write-out : tie.Need-slice-write-out Inv-loop μ-loop
-slice-write-out c = search needs
+add-more : tie.Need-add-more Inv-loop μ-loop
+add-more c = search needs
 
 add-i : tie.Need-add-i Inv-loop μ-loop
 add-i c = search needs
@@ -38,9 +34,6 @@ loop-less c = search needs
 
 loop-again : tie.Need-loop-again Inv-loop μ-loop
 loop-again c = search needs
-
-same-length-2 : tie.Need-same-length-2 Inv-loop μ-loop
-same-length-2 c = search needs
 
 returns-2 : tie.Need-returns-2 Inv-loop μ-loop
 returns-2 c = search needs
@@ -52,13 +45,11 @@ put-spec =
     Inv-loop
     μ-loop
     loop-holds
-    same-length
     returns
-    add-end
-    shared-slice-read-out
-    slice-write-out
+    shared-slice-read-more
+    element-write-more
+    add-more
     add-i
     loop-less
     loop-again
-    same-length-2
     returns-2)

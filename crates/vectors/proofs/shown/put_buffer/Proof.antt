@@ -1,16 +1,14 @@
--- The length of out stays; the measure is the number of places left in the buffer.
+-- The measure is the number of places left in the buffer; nothing has to hold from turn to turn.
 use borrow.Author.Needs.{needs}
 use Prim.Native.Nat.{_-_}
-use lib.ListN.{length}
-use mathlib.Core.Path.{_≡_}
 use Rattle.vectors.proofs.shown.put_buffer.Statement.{statement}
 use Rattle.vectors.proofs.shown.put_buffer.Tie as tie
 
 abbrev Inv-loop : tie.InvT-loop
-Inv-loop out₀ n bound buffer end₀ i₀ out end i = length out ≡ length out₀
+Inv-loop bound buffer more₀ i₀ more i = Unit {0}
 
 abbrev μ-loop : tie.MeasureT-loop
-μ-loop out₀ n bound buffer end₀ i₀ out end i = 128 - i
+μ-loop bound buffer more₀ i₀ more i = 128 - i
 
 loop-holds : tie.Need-loop-holds Inv-loop μ-loop
 loop-holds c = search needs
@@ -45,9 +43,6 @@ loop-less c = search needs
 loop-again : tie.Need-loop-again Inv-loop μ-loop
 loop-again c = search needs
 
-same-length : tie.Need-same-length Inv-loop μ-loop
-same-length c = search needs
-
 returns : tie.Need-returns Inv-loop μ-loop
 returns c = search needs
 
@@ -68,5 +63,4 @@ put-buffer-spec =
     add-i
     loop-less
     loop-again
-    same-length
     returns)

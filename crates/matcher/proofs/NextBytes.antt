@@ -1,0 +1,71 @@
+-- The next answer: on accepted input that on bytes is that on trees.
+use Prim.Native.Nat.{ℕ}
+use mathlib.Core.Path.{_≡_, refl, sym, _∙_, ap}
+use mathlib.Core.List.{List}
+use mathlib.Core.Option.{some}
+use mathlib.Core.Bool.{Bool, true, false, cond}
+use lib.ListN.{length, replicate}
+use lib.Dec.{eqb}
+use borrow.Author.Tests.{le-leb, eqb-true}
+use Rattle.term.specs.Limits.{longestPattern, longestRecord}
+use Rattle.term.specs.Code.{variables}
+use Rattle.term.specs.Class.{Alike}
+use Rattle.term.specs.Pattern.{Pattern}
+use Rattle.term.specs.Term.{Term}
+use Rattle.term.specs.declared.Part.{Part}
+use Rattle.anti_pattern.specs.Answer.{bound, parts}
+use Rattle.anti_pattern.specs.Demands.{OneForEach}
+use Rattle.anti_pattern.specs.Language.{language}
+use Rattle.anti_pattern.specs.Next.{follows, resumedAfter, next}
+use Rattle.anti_pattern.specs.Search.{Env, firstAnswer}
+use Rattle.anti_pattern.specs.Variables.{freeRuns}
+use Rattle.search.specs.Following.{nextPass}
+use Rattle.search.specs.Given.{passOf, unknown}
+use Rattle.search.specs.Spread.{freeIn, spreadTo}
+use Rattle.matcher.specs.Call.{Input}
+use Rattle.matcher.specs.Next.{repliedPass, followingOnBytes}
+use Rattle.matcher.proofs.Followed.{free-runs-are, apart}
+use Rattle.matcher.proofs.Givens.{next-linked, next-stands}
+use Rattle.matcher.proofs.Linked.{table-short, narrow, short}
+use Rattle.matcher.proofs.Represents.{Shown}
+use Rattle.matcher.proofs.Spreading.{free-in, spread-free}
+
+module _ (table classes pattern bytes : List ℕ) (alike : Alike table classes) (q : Pattern) (t : Term) (i : Input table pattern bytes q t)
+    (given : List ℕ) (allowance : ℕ) where
+  free-is : freeIn table pattern ≡ freeRuns q
+  free-is =
+      ap (freeIn table) (sym (i .pattern-bytes))
+      ∙ free-in table (table-short table (i .table-accepted)) q 32 false (i .pattern-accepted .fits)
+
+  pass-is : nextPass table classes pattern bytes given allowance
+      ≡ cond (eqb (length given) (length (freeRuns q)))
+      (passOf table classes pattern bytes (spreadTo (freeRuns q) given (replicate variables 0)) allowance) unknown
+  unfolding nextPass
+  pass-is =
+      rw (
+        le-leb (length pattern) longestPattern (narrow table classes pattern bytes alike q t i allowance),
+        le-leb (length bytes) longestRecord (short table classes pattern bytes alike q t i allowance),
+        free-is,
+      )
+
+  pub next-on-bytes : next (language table classes) q t given allowance ≡ followingOnBytes table classes pattern bytes given allowance
+  unfolding next followingOnBytes
+  next-on-bytes = go (eqb (length given) (length (freeRuns q))) refl ∙ sym (ap (repliedPass allowance) pass-is)
+    where
+      go : (m : Bool) → eqb (length given) (length (freeRuns q)) ≡ m
+          → next (language table classes) q t given allowance
+          ≡ repliedPass allowance (cond (eqb (length given) (length (freeRuns q)))
+          (passOf table classes pattern bytes (spreadTo (freeRuns q) given (replicate variables 0)) allowance) unknown)
+      go true e =
+          let each = eqb-true (length given) (length (freeRuns q)) e in
+          next-linked table classes pattern bytes alike q t i (apart table pattern bytes q t i) given (spreadTo (freeRuns q) given (replicate variables 0)) each
+          (spread-free q given each (λ u m. free-runs-are table pattern bytes q t i u m .1)) allowance
+          ∙ sym (ap (λ (c : Bool). repliedPass allowance (cond c (passOf table classes pattern bytes (spreadTo (freeRuns q) given (replicate variables 0)) allowance) unknown)) e)
+      go false e = rw e
+
+  -- a bound answer is the first of the search resumed after the given one, and what it shows stands in the record
+  pub bound-stands : OneForEach q given → (ps : List Part) (n : ℕ) → next (language table classes) q t given allowance ≡ follows (bound ps n)
+      → (e : Env) × (firstAnswer (resumedAfter (language table classes) q t given .out) ≡ some e) × (ps ≡ parts table e) × ((shown : List Part) × Shown table bytes shown e)
+  bound-stands each =
+      next-stands table classes pattern bytes alike q t i (apart table pattern bytes q t i) given (spreadTo (freeRuns q) given (replicate variables 0)) each
+      (spread-free q given each (λ u m. free-runs-are table pattern bytes q t i u m .1)) allowance

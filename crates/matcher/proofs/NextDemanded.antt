@@ -1,0 +1,286 @@
+-- The call for the next answer: answer and final buffer, by the search's reply on any bytes, and what is demanded of them.
+use Prim.Native.Nat.{ℕ, _≤_}
+use native.Mathlib.Omega.{arith}
+use mathlib.Core.Path.{_≡_, refl, sym, _∙_, ap, subst}
+use mathlib.Core.Logic.{_⊎_, inl, inr}
+use mathlib.Core.List.{List, []}
+use mathlib.Core.Bool.{true}
+use mathlib.Core.Option.{Option}
+use lib.ListN.{length, drop}
+use Rattle.term.specs.Class.{Alike}
+use Rattle.term.specs.Limits.{Octets}
+use Rattle.term.specs.Pattern.{Pattern}
+use Rattle.term.specs.Term.{Term}
+use Rattle.term.specs.Refusal.{numberOf}
+use Rattle.term.specs.declared.Part.{Part}
+use Rattle.term.specs.declared.Refusal.{Refusal}
+use Rattle.term.specs.declared.Refusal.the-variants.{Unknown}
+use Rattle.anti_pattern.specs.Language.{language}
+use Rattle.anti_pattern.specs.Next.{Following, follows, unknown, nextCount, next}
+use Rattle.anti_pattern.specs.Answer.{bound, nothing, spent, parts}
+use Rattle.anti_pattern.specs.Demands.{Given, NextAfter, UnknownLengths, NextExact}
+use Rattle.anti_pattern.specs.Meaning.{Assignment}
+use Rattle.anti_pattern.specs.Place.{partsAt}
+use Rattle.anti_pattern.proofs.Following.{one-for-each, resumed-next}
+use Rattle.anti_pattern.proofs.Within.{accepted-of}
+use Rattle.search.specs.Following.{nextPass, followedOf, shownPass}
+use Rattle.search.specs.Given.{Pass, ends}
+use Rattle.search.specs.Shown.{answerWidth}
+use Rattle.search.specs.declared.Followed.{Followed}
+use Rattle.search.specs.declared.Known.the-variants.{Ended as KnownEnds, Unknown as Strange}
+use Rattle.search.specs.declared.Outcome.{Outcome}
+use Rattle.search.proofs.Lefts.{following-left}
+use Rattle.matcher.specs.Call.{answerNumber, answerCount, classesOf, languageOf, broughtAccepted, Input, Checked, fault, trees, checked, checkOf, told, repliedBy}
+use Rattle.matcher.specs.Next.{toldNext, nextBy, nextOf, writtenNext, nextBufferBy, nextBufferOf, repliedPass, followingOnBytes}
+use Rattle.matcher.specs.Demands.{Shows, NextAnswered, NextDemanded}
+use Rattle.matcher.specs.declared.Answer.{Answer}
+use Rattle.matcher.specs.declared.Answer.the-variants.{Refused}
+use Rattle.matcher.specs.declared.Check.{Check}
+use Rattle.matcher.specs.declared.Check.the-variants.{Passed, Failed}
+use Rattle.matcher.proofs.Answered.{env-shown}
+use Rattle.matcher.proofs.Buffers.{written-untouched}
+use Rattle.matcher.proofs.Checks.{brought-alike, checked-input, input-checked}
+use Rattle.matcher.proofs.Demanded.{told-refused, refused-count, written-past, passes-by}
+use Rattle.matcher.proofs.Followed.{next-accepted, every-accepted}
+use Rattle.matcher.proofs.Matched.{told-parts, shown-by}
+use Rattle.matcher.proofs.NextBytes.{next-on-bytes, bound-stands}
+
+-- On any bytes
+
+pub next-left-within : (table classes pattern bytes given : List ℕ) (allowance : ℕ) (e : Followed)
+    → e ≡ followedOf allowance (nextPass table classes pattern bytes given allowance) → e .left ≤ allowance
+next-left-within table classes pattern bytes given allowance e s = rw s (following-left table classes bytes pattern given allowance)
+
+module _ (table classes pattern bytes given before : List ℕ) (allowance : ℕ) where
+  abbrev pass : Pass
+  pass = nextPass table classes pattern bytes given allowance
+
+  abbrev OnBytes : Answer → List ℕ → Type 0
+  OnBytes a after = (a ≡ toldNext (followingOnBytes table classes pattern bytes given allowance)) × (after ≡ shownPass pass before)
+
+  ended-told : (p : Pass) (o : Outcome) (e : Followed) → e .known ≡ KnownEnds o → e ≡ followedOf allowance p
+      → told (repliedBy o allowance (e .left) []) ≡ toldNext (repliedPass allowance p)
+  ended-told (ends r) o e h s =
+      let z : o ≡ r .outcome = cc in
+      let y : e .left ≡ r .left = ap (λ (x : Followed). x .left) s in told-parts o allowance (e .left) (r .parts) ∙ rw (z, y)
+  ended-told Pass.unknown o e h s = let z : _≡_ {A = ℕ} 0 1 = cc in absurd (omega arith)
+
+  unknown-told : (p : Pass) (e : Followed) → e .known ≡ Strange → e ≡ followedOf allowance p → Refused Unknown ≡ toldNext (repliedPass allowance p)
+  unknown-told (ends r) e h s = let z : _≡_ {A = ℕ} 0 1 = cc in absurd (omega arith)
+  unknown-told Pass.unknown e h s = refl
+
+  pub next-ended : (o : Outcome) (e : Followed) → e .known ≡ KnownEnds o → e ≡ followedOf allowance pass
+      → (a : Answer) → a ≡ told (repliedBy o allowance (e .left) []) → (after : List ℕ) → after ≡ shownPass pass before → OnBytes a after
+  unfolding followingOnBytes
+  next-ended o e h s a i after f = (i ∙ ended-told pass o e h s, f)
+
+  pub next-unknown : (e : Followed) → e .known ≡ Strange → e ≡ followedOf allowance pass
+      → (after : List ℕ) → after ≡ shownPass pass before → OnBytes (Refused Unknown) after
+  unfolding followingOnBytes
+  next-unknown e h s after f = (unknown-told pass e h s, f)
+
+  -- what the search shows is what its answer writes
+  shown-next : answerWidth ≤ length before → (p : Pass) → shownPass p before ≡ writtenNext (repliedPass allowance p) before
+  shown-next wide (ends r) = shown-by table classes pattern bytes before allowance wide (r .outcome) (r .left) (r .parts)
+  shown-next wide Pass.unknown = refl
+
+  -- on accepted input it is the next answer on trees
+  bytes-followed : answerWidth ≤ length before → Alike table classes → (q : Pattern) (t : Term) → Input table pattern bytes q t
+      → (toldNext (followingOnBytes table classes pattern bytes given allowance) ≡ toldNext (next (language table classes) q t given allowance))
+      × (shownPass pass before ≡ writtenNext (next (language table classes) q t given allowance) before)
+  unfolding followingOnBytes
+  bytes-followed wide k q t i =
+      let z = sym (next-on-bytes table classes pattern bytes k q t i given allowance) in
+      (ap toldNext z, shown-next wide pass ∙ ap (λ (x : Following). writtenNext x before) z)
+
+-- With every check
+
+is-unknown : (f : Following) → answerNumber (toldNext f) ≡ numberOf Unknown → f ≡ unknown
+is-unknown (follows (bound ps n)) e = absurd (omega (arith, e))
+is-unknown (follows (nothing n)) e = absurd (omega (arith, e))
+is-unknown (follows (spent n)) e = absurd (omega (arith, e))
+is-unknown unknown e = refl
+
+is-spent : (f : Following) → answerNumber (toldNext f) ≡ 11 → (n : ℕ) × (f ≡ follows (spent n))
+is-spent (follows (bound ps n)) e = absurd (omega (arith, e))
+is-spent (follows (nothing n)) e = absurd (omega (arith, e))
+is-spent (follows (spent n)) e = (n, refl)
+is-spent unknown e = absurd (omega (arith, e))
+
+is-none : (f : Following) → answerNumber (toldNext f) ≡ 10 → (n : ℕ) × (f ≡ follows (nothing n))
+is-none (follows (bound ps n)) e = absurd (omega (arith, e))
+is-none (follows (nothing n)) e = (n, refl)
+is-none (follows (spent n)) e = absurd (omega (arith, e))
+is-none unknown e = absurd (omega (arith, e))
+
+is-bound : (f : Following) → answerNumber (toldNext f) ≡ 0 → (ps : List Part) × (n : ℕ) × (f ≡ follows (bound ps n))
+is-bound (follows (bound ps n)) e = (ps, n, refl)
+is-bound (follows (nothing n)) e = absurd (omega (arith, e))
+is-bound (follows (spent n)) e = absurd (omega (arith, e))
+is-bound unknown e = absurd (omega (arith, e))
+
+-- a refusal is unknown
+refused-unknown : (f : Following) (r : Refusal) → answerNumber (toldNext f) ≡ numberOf r → answerNumber (toldNext f) ≡ numberOf Unknown
+refused-unknown (follows o) r e = absurd (told-refused o r e)
+refused-unknown unknown r e = refl
+
+next-past : (before : List ℕ) (f : Following) → length (writtenNext f before) ≡ length before → drop answerWidth (writtenNext f before) ≡ drop answerWidth before
+next-past before (follows o) same = written-past before o same
+next-past before unknown same = refl
+
+next-untouched : (before : List ℕ) (f : Following) → (answerNumber (toldNext f) ≡ 0 → ⊥) → writtenNext f before ≡ before
+next-untouched before (follows o) h = written-untouched o before h
+next-untouched before unknown h = refl
+
+module _ (table : List ℕ) (brought : Option (List ℕ)) (pattern bytes given before : List ℕ) (allowance : ℕ) (pattern-octets : Octets pattern)
+    (record-octets : Octets bytes) where
+  module _ (wide : answerWidth ≤ length before) (accepted : broughtAccepted table brought ≡ true) (q : Pattern) (t : Term)
+      (i : Input table pattern bytes q t) where
+    abbrev following : ℕ → Following
+    following n = next (languageOf table brought) q t given n
+
+    same-next : (more : ℕ) → following more ≡ following allowance
+        → (nextOf table brought pattern bytes given more (length before) ≡ toldNext (following allowance))
+        × (nextBufferOf table brought pattern bytes given more before ≡ writtenNext (following allowance) before)
+    unfolding nextOf nextBufferOf
+    same-next more z =
+        let c : checked table brought pattern bytes (length before) ≡ trees q t =
+        input-checked table brought pattern bytes (length before) pattern-octets record-octets q t wide accepted i in (
+          ap (λ (x : Checked). nextBy x table brought given more) c ∙ ap toldNext z,
+          ap (λ (x : Checked). nextBufferBy x table brought given more before) c ∙ ap (λ (x : Following). writtenNext x before) z,
+        )
+
+    alike : Alike table (classesOf brought)
+    alike = brought-alike table brought accepted
+
+    exact : NextExact (languageOf table brought) q t given allowance
+    exact = next-accepted table pattern bytes q t i (classesOf brought) alike given allowance
+
+    -- what is written shows the next
+    bound-next : (ps : List Part) (n : ℕ) → following allowance ≡ follows (bound ps n)
+        → (x : Assignment) × (y : Assignment) × Given (languageOf table brought) q t given x × NextAfter (languageOf table brought) q t x y
+        × Shows table bytes q t y (writtenNext (following allowance) before)
+    bound-next ps n h =
+        let b = exact .bound-exactly ps n .0 h in
+        let each = one-for-each (languageOf table brought) q t given (b .2 .0) (b .2 .2) in
+        let s = bound-stands table (classesOf brought) pattern bytes alike q t i given allowance each ps n h in
+        let of = accepted-of (languageOf table brought) t (i .record-accepted) in
+        let m = resumed-next (languageOf table brought) q t of given (s .0) (s .1) in
+        let z : following allowance ≡ follows (bound (parts table (s .0)) n) = h ∙ ap (λ (x : List Part). follows (bound x n)) (s .2) in (
+          m .0,
+          s .0 .value,
+          m .1,
+          m .2,
+          subst (Shows table bytes q t (s .0 .value)) (ap (λ (f : Following). writtenNext f before) (sym z))
+              (env-shown table brought pattern bytes alike q t i (s .0) (m .3) _ (s .3 .1) (drop answerWidth before)),
+        )
+
+    next-answered : NextAnswered table brought pattern bytes given before allowance q t (toldNext (following allowance)) (writtenNext (following allowance) before)
+    next-answered = record {
+      unknown-exactly = (λ h. exact .unknown-exactly .0 (is-unknown (following allowance) h), λ h. ap number (exact .unknown-exactly .1 h));
+      spent-exactly = (
+        λ h. let s = is-spent (following allowance) h in let b = exact .spent-exactly (s .0) .0 (s .1) in (b .1, b .2),
+        λ h. ap number (exact .spent-exactly allowance .1 (refl, h .0, h .1)),
+      );
+      spent-shows = λ h. let s = is-spent (following allowance) h in ap shows (s .1) ∙ exact .spent-exactly (s .0) .0 (s .1) .0;
+      none-exactly = (
+        λ h. let s = is-none (following allowance) h in let b = exact .none-exactly (s .0) .0 (s .1) in (b .1, b .2),
+        λ h. ap number (exact .none-exactly (nextCount (languageOf table brought) q t given) .1 (refl, h .0, h .1)),
+      );
+      shows-count = λ h. counted h;
+      bound-exactly = (
+        λ h.
+            let s = is-bound (following allowance) h in
+            let b = exact .bound-exactly (s .0) (s .1) .0 (s .2) in (b .1, (b .2 .0, b .2 .1, b .2 .2, b .2 .3)),
+        λ h.
+            ap number (exact .bound-exactly (partsAt table q t (h .1 .1)) (nextCount (languageOf table brought) q t given) .1
+            (refl, h .0, (h .1 .0, h .1 .1, h .1 .2, h .1 .3, refl))),
+      );
+      bound-shows = λ h. let s = is-bound (following allowance) h in bound-next (s .0) (s .1) (s .2);
+      larger-allowance = λ more h k. same-next more (exact .larger-allowance more h k);
+      every = every-accepted table pattern bytes q t i (classesOf brought) alike;
+    }
+      where
+        number : Following → ℕ
+        number f = answerNumber (toldNext f)
+
+        shows : Following → ℕ
+        shows f = answerCount (toldNext f)
+
+        counted : (number (following allowance) ≡ 10) ⊎ (number (following allowance) ≡ 0)
+            → shows (following allowance) ≡ nextCount (languageOf table brought) q t given
+        counted (inl h) = let s = is-none (following allowance) h in ap shows (s .1) ∙ exact .none-exactly (s .0) .0 (s .1) .0
+        counted (inr h) = let s = is-bound (following allowance) h in ap shows (s .2) ∙ exact .bound-exactly (s .0) (s .1) .0 (s .2) .0
+
+  past-of : (c : Checked) → length (nextBufferBy c table brought given allowance before) ≡ length before
+      → drop answerWidth (nextBufferBy c table brought given allowance before) ≡ drop answerWidth before
+  past-of (fault r) same = refl
+  past-of (trees q t) same = next-past before (next (languageOf table brought) q t given allowance) same
+
+  untouched-of : (c : Checked) → (answerNumber (nextBy c table brought given allowance) ≡ 0 → ⊥)
+      → nextBufferBy c table brought given allowance before ≡ before
+  untouched-of (fault r) h = refl
+  untouched-of (trees q t) h = next-untouched before (next (languageOf table brought) q t given allowance) h
+
+  refused-of : (c : Checked) → checked table brought pattern bytes (length before) ≡ c
+      → (answerWidth ≤ length before → broughtAccepted table brought ≡ true → (q : Pattern) (t : Term) → Input table pattern bytes q t
+      → UnknownLengths (languageOf table brought) q t given allowance)
+      → (r : Refusal) × (answerNumber (nextBy c table brought given allowance) ≡ numberOf r)
+  refused-of (fault r) e h = (r, refl)
+  refused-of (trees q t) e h =
+      let i = checked-input table brought pattern bytes (length before) pattern-octets record-octets q t e in
+      (Unknown, next-answered (i .0) (i .1) q t (i .2) .unknown-exactly .1 (h (i .0) (i .1) q t (i .2)))
+
+  demanded-of : length (nextBufferOf table brought pattern bytes given allowance before) ≡ length before
+      → NextDemanded table brought pattern bytes given before allowance (nextOf table brought pattern bytes given allowance (length before))
+      (nextBufferOf table brought pattern bytes given allowance before)
+  unfolding nextOf nextBufferOf
+  demanded-of same = record {
+    handled = record {
+      refused-exactly = (
+        λ e wide a q t i.
+            next-answered wide a q t i .unknown-exactly .0 (refused-unknown (next (languageOf table brought) q t given allowance) (e .0)
+            (sym (ap answerNumber (same-next wide a q t i allowance refl .0)) ∙ e .1)),
+        refused-of (checked table brought pattern bytes (length before)) refl,
+      );
+      refused-shows = refused-count (nextBy (checked table brought pattern bytes (length before)) table brought given allowance);
+      untouched = untouched-of (checked table brought pattern bytes (length before));
+      past-stays = past-of (checked table brought pattern bytes (length before)) same;
+    };
+    answered = λ wide a q t i. let z = same-next wide a q t i allowance refl in rw (z .0, z .1) (next-answered wide a q t i);
+  }
+
+  -- the whole contract
+  abbrev Called : Answer → List ℕ → Type 0
+  Called a after =
+      (a ≡ nextOf table brought pattern bytes given allowance (length before))
+      × ((after ≡ nextBufferOf table brought pattern bytes given allowance before)
+      × NextDemanded table brought pattern bytes given before allowance a after)
+
+  called : (a : Answer) (after : List ℕ) → a ≡ nextOf table brought pattern bytes given allowance (length before)
+      → after ≡ nextBufferOf table brought pattern bytes given allowance before → length after ≡ length before → Called a after
+  called a after e f same = (e, (f, rw (e, f) (demanded-of (rw f at same))))
+
+  fails-by : (c : Checked) (r : Refusal) → Failed r ≡ checkOf c
+      → (Refused r ≡ nextBy c table brought given allowance) × (before ≡ nextBufferBy c table brought given allowance before)
+  fails-by (fault x) r e = let z : r ≡ x = cc in (ap Refused z, refl)
+  fails-by (trees q t) r e = let z : _≡_ {A = ℕ} 0 1 = cc in absurd (omega arith)
+
+  -- where a check fails
+  pub next-fails : {k : Check} {r : Refusal} → k ≡ checkOf (checked table brought pattern bytes (length before)) → k ≡ Failed r → Called (Refused r) before
+  unfolding nextOf nextBufferOf
+  next-fails {k} {r} e f = let z = fails-by (checked table brought pattern bytes (length before)) r (sym f ∙ e) in called (Refused r) before (z .0) (z .1) refl
+
+  -- where all pass, and the search takes the class list that is brought, or an empty one
+  pub next-passes : {k : Check} → k ≡ checkOf (checked table brought pattern bytes (length before)) → k ≡ Passed
+      → (classes : List ℕ) → classes ≡ classesOf brought → (a : Answer) (after : List ℕ)
+      → (a ≡ toldNext (followingOnBytes table classes pattern bytes given allowance))
+      × (after ≡ shownPass (nextPass table classes pattern bytes given allowance) before)
+      → length after ≡ length before → Called a after
+  next-passes e f classes same a after m long =
+      let c = passes-by (checked table brought pattern bytes (length before)) (sym f ∙ e) in
+      let i = checked-input table brought pattern bytes (length before) pattern-octets record-octets (c .0) (c .1) (c .2) in
+      let z = same-next (i .0) (i .1) (c .0) (c .1) (i .2) allowance refl in
+      let g = bytes-followed table (classesOf brought) pattern bytes given before allowance (i .0) (brought-alike table brought (i .1)) (c .0) (c .1) (i .2) in
+      let n = rw same at m in
+      called a after (n .0 ∙ g .0 ∙ sym (z .0)) (n .1 ∙ g .1 ∙ sym (z .1)) long

@@ -1,0 +1,23 @@
+-- `qonveshir::qonveshir_next` meets its contract.
+use mathlib.Core.Path.{ap, _∙_}
+use borrow.Author.Needs.{needs}
+use Rattle.qonveshir.specs.Shown.{answerShown}
+use Rattle.qonveshir.proofs.qonveshir_next.Statement.{statement}
+use Rattle.qonveshir.proofs.qonveshir_next.Tie as tie
+
+next-requires : tie.Need-next-requires
+next-requires c κs = search needs
+
+answer-shown-requires : tie.Need-answer-shown-requires
+answer-shown-requires c κs = search needs
+
+same-length : tie.Need-same-length
+same-length c = search needs
+
+returns : tie.Need-returns
+returns c =
+    let called = c .before .before .before .next .ensures in
+    (c .answer-shown .ensures ∙ ap answerShown (called .0), (called .1 .0, rw (called .0) at (called .1 .1)))
+
+pub qonveshir-next-spec : {M : Type 1} → statement M
+qonveshir-next-spec = tie.close (tie.spec next-requires answer-shown-requires same-length returns)

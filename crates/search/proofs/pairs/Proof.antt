@@ -1,0 +1,62 @@
+-- `search::pairs` meets its contract. Assumes nothing.
+use native.Mathlib.Omega.{arith}
+use mathlib.Core.Path.{refl}
+use Rattle.search.proofs.Kept.{none-free}
+use Rattle.search.proofs.Halves.{holding-here, level-halts}
+use borrow.Author.Needs.{needs}
+use Rattle.search.proofs.pairs.Statement.{statement}
+use Rattle.search.proofs.pairs.Tie as tie
+
+nodes-requires : tie.Need-nodes-requires
+nodes-requires c κs = search needs
+
+queue-requires : tie.Need-queue-requires
+queue-requires c κs = search needs
+
+remaining-requires : tie.Need-remaining-requires
+remaining-requires c κs = search needs
+
+next-requires : tie.Need-next-requires
+next-requires c κs = search needs
+
+level-requires : tie.Need-level-requires
+level-requires c κs =
+    let pre = c .before .before .before .before .before .before .before .before .before .before .before .before .pre in
+    rw (
+      c .next .ensures,
+      c .before .remaining .ensures,
+      c .before .before .queue .ensures,
+      c .before .before .before .nodes .ensures,
+    ) (
+      holding-here (pre .0),
+      none-free,
+      record { some = omega arith; enough = omega arith; behind = omega arith; within = pre .0 .holds .node },
+      pre .1,
+      record { none = λ h. (refl, refl, refl, omega arith) },
+    )
+
+reported-requires : tie.Need-reported-requires
+reported-requires c κs = search needs
+
+returns : tie.Need-returns
+returns c = record {
+  outcome = c .before .before .level .result;
+  assigned₁ = _;
+  left₁ = _;
+  halts =
+      level-halts (rw (c .before .before .before .before .before .queue .ensures, c .before .before .before .before .before .before .nodes .ensures)) (rw (c .before .before .before .next .ensures, c .before .before .before .before .remaining .ensures)) refl
+      (c .before .before .level .ensures);
+  is = c .reported .ensures;
+}
+
+pub pairs-spec : {M : Type 1} → statement M
+pairs-spec =
+    tie.close
+    (tie.spec
+    nodes-requires
+    queue-requires
+    remaining-requires
+    next-requires
+    level-requires
+    reported-requires
+    returns)

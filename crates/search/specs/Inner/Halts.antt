@@ -1,0 +1,97 @@
+-- A level that halts where its pairs stop, and what it reports of that.
+use Prim.Native.Nat.{ℕ, _+_, _-_, _%_, _<_}
+use mathlib.Core.Path.{_≡_}
+use mathlib.Core.List.{List}
+use mathlib.Core.Bool.{Bool, true, false, cond}
+use lib.ListN.{getD, set}
+use lib.Dec.{ltb}
+use Rattle.term.specs.Code.{variables}
+use Rattle.term.specs.Part.{boundPart}
+use Rattle.search.specs.State.{place}
+use Rattle.search.specs.Inner.Memory.{marks, packed, unpacked}
+use Rattle.search.specs.Inner.Bounds.{reached, Walks}
+use Rattle.search.specs.Inner.Replies.{failure, LevelIs, RestIs}
+use Rattle.search.specs.declared.Place.{Place}
+use Rattle.search.specs.declared.Marks.{Marks}
+use Rattle.search.specs.declared.Reached.{Reached}
+use Rattle.search.specs.declared.Stop.{Stop}
+use Rattle.search.specs.declared.Stop.the-variants.{Failure, NoAllowance, NoPair, RunName}
+use Rattle.search.specs.declared.Outcome.{Outcome}
+use Rattle.search.specs.declared.Outcome.the-variants.{Found, Failed, Spent}
+
+abbrev pub haltedAs : Stop → Outcome
+haltedAs Failure = Failed
+haltedAs NoAllowance = Spent
+haltedAs NoPair = Found
+haltedAs (RunName v) = Found
+
+-- the run name, or the number after the last variable for none
+abbrev pub runOf : Stop → ℕ
+runOf Failure = variables
+runOf NoAllowance = variables
+runOf NoPair = variables
+runOf (RunName v) = v
+
+-- and back
+abbrev pub stopIn : Outcome → ℕ → Stop
+stopIn Failed run = Failure
+stopIn Spent run = NoAllowance
+stopIn Found run = cond (ltb run variables) (RunName (run % 256)) NoPair
+
+-- behind the variables' parts
+abbrev pub reportIn : List ℕ → Stop → Marks → Place → List ℕ
+reportIn parts stop m p =
+    set (set (set parts (variables + 2) (packed (boundPart (m .waiting) (runOf stop) 0)))
+    (variables + 1) (packed (boundPart (m .inner) (m .frames) (p .children))))
+    variables (packed (boundPart (p .node) (p .at) (p .elements)))
+
+pub record Reports (parts : List ℕ) (stop : Stop) (m : Marks) (p : Place) (outcome : Outcome) (parts′ : List ℕ) : Type 0 where
+  pub children : p .children < 256
+  pub elements : p .elements < 256
+  pub ended : outcome ≡ haltedAs stop
+  pub written : parts′ ≡ reportIn parts stop m p
+
+-- what is read there
+abbrev pub reportedBy : List ℕ → Outcome → ℕ → ℕ → ℕ → Reached
+reportedBy parts outcome left assigned first =
+    reached (stopIn outcome (unpacked (getD parts (variables + 2) 0) .length)) left assigned
+    (marks (unpacked (getD parts (variables + 1) 0) .offset) (unpacked (getD parts (variables + 1) 0) .length) first (unpacked (getD parts (variables + 2) 0) .offset))
+    (place (unpacked (getD parts (variables + 1) 0) .elements) (unpacked (getD parts variables 0) .elements)
+    (unpacked (getD parts variables 0) .length) (unpacked (getD parts variables 0) .offset))
+
+-- there is no report on a failure
+abbrev pub Told : Bool → Reached → List ℕ → Outcome → ℕ → List ℕ → Type 0
+Told true r parts outcome assigned′ parts′ = (outcome ≡ Failed) × (parts′ ≡ parts)
+Told false r parts outcome assigned′ parts′ = (assigned′ ≡ r .assigned) × Reports parts (r .stop) (r .marks) (r .place) outcome parts′
+
+-- what the walk reached, with these parts, and what is told of it
+pub record Halts (table classes pattern bytes : List ℕ) (assigned left : ℕ) (parts stack : List ℕ) (m : Marks) (p : Place)
+    (outcome : Outcome) (assigned′ left′ : ℕ) (parts′ stack′ : List ℕ) : Type 0 where
+  pub reached : Reached
+  pub parts₁ : List ℕ
+  pub walks : Walks table classes pattern bytes assigned left parts stack m p parts₁ stack′ reached
+  pub same-left : left′ ≡ reached .left
+  pub told : Told (failure (reached .stop)) reached parts₁ outcome assigned′ parts′
+
+-- one that halts gives no variable any element
+pub record Halting (halts : Bool) (v first most size : ℕ) : Type 0 where
+  pub none : halts ≡ true → (v ≡ variables) × (first ≡ 0) × (most ≡ 0) × (size ≡ 0)
+
+pub record RestBy (halts : Bool) (table classes pattern bytes : List ℕ) (assigned left : ℕ) (parts stack : List ℕ) (m : Marks) (p : Place)
+    (outcome : Outcome) (assigned′ left′ : ℕ) (parts′ stack′ : List ℕ) : Type 0 where
+  pub halted : halts ≡ true → Halts table classes pattern bytes assigned left parts stack m p outcome assigned′ left′ parts′ stack′
+  pub going : halts ≡ false → RestIs table classes pattern bytes assigned left parts stack m p outcome assigned′ left′ parts′ stack′
+
+pub record LevelBy (halts : Bool) (table classes pattern bytes : List ℕ) (assigned left : ℕ) (parts stack : List ℕ) (v first size most : ℕ) (m : Marks) (p : Place)
+    (outcome : Outcome) (assigned′ left′ : ℕ) (parts′ stack′ : List ℕ) : Type 0 where
+  pub halted : halts ≡ true → Halts table classes pattern bytes assigned left parts stack m p outcome assigned′ left′ parts′ stack′
+  pub going : halts ≡ false → LevelIs table classes pattern bytes assigned left parts stack v first size most m p outcome assigned′ left′ parts′ stack′
+
+-- what is read of a level that halts
+pub record PairsAre (table classes pattern bytes : List ℕ) (assigned left : ℕ) (parts stack : List ℕ) (m : Marks) (p : Place)
+    (parts′ stack′ : List ℕ) (r : Reached) : Type 0 where
+  pub outcome : Outcome
+  pub assigned₁ : ℕ
+  pub left₁ : ℕ
+  pub halts : Halts table classes pattern bytes assigned left parts stack m p outcome assigned₁ left₁ parts′ stack′
+  pub is : r ≡ reportedBy parts′ outcome left₁ assigned₁ (m .first)

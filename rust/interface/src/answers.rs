@@ -1,0 +1,161 @@
+//! Every answer of a pattern on a record, by the calls alone.
+
+use crate::*;
+
+/// The answers of a pattern on a record in their order, each with the count of its call, which has
+/// the whole allowance. A call that is spent or refused comes last, as an error.
+#[derive(Clone)]
+pub struct Answers<'a> {
+    library: &'a dyn Library,
+    table: &'a [u8],
+    classes: Option<&'a [u8]>,
+    pattern: &'a [u8],
+    record: &'a [u8],
+    allowance: u32,
+    after: After,
+    sum: u64,
+}
+
+/// What the next call is for.
+#[derive(Clone)]
+enum After {
+    /// The first answer.
+    Nothing,
+    /// The answer after the one with these run lengths.
+    Lengths(Vec<u16>),
+    /// Nothing more.
+    Last,
+}
+
+impl<'a> Answers<'a> {
+    /// The answers by a library, up to class if a class list is brought.
+    pub fn new(
+        library: &'a dyn Library,
+        table: &'a [u8],
+        classes: Option<&'a [u8]>,
+        pattern: &'a [u8],
+        record: &'a [u8],
+        allowance: u32,
+    ) -> Self {
+        Answers {
+            library,
+            table,
+            classes,
+            pattern,
+            record,
+            allowance,
+            after: After::Nothing,
+            sum: 0,
+        }
+    }
+
+    /// The sum of the counts of the calls so far.
+    pub fn counted(&self) -> u64 {
+        self.sum
+    }
+
+    /// The run lengths of the latest answer, as the next call is given them.
+    pub fn lengths(&self) -> Option<&[u16]> {
+        match &self.after {
+            After::Lengths(lengths) => Some(lengths),
+            _ => None,
+        }
+    }
+
+    /// The next call, in a buffer of its own.
+    fn call(&self) -> Option<(Outcome, Answer)> {
+        let Answers { library, table, pattern, record, allowance, .. } = *self;
+        let mut answer = Answer([ABSENT; ANSWER]);
+        let room = &mut answer.0;
+        let outcome = match (&self.after, self.classes) {
+            (After::Nothing, None) => library.match_one(table, pattern, record, allowance, room),
+            (After::Nothing, Some(classes)) => {
+                library.match_one_with_classes(table, classes, pattern, record, allowance, room)
+            }
+            (After::Lengths(given), None) => {
+                library.next(table, pattern, record, given, allowance, room)
+            }
+            (After::Lengths(given), Some(classes)) => {
+                library.next_with_classes(table, classes, pattern, record, given, allowance, room)
+            }
+            (After::Last, _) => return None,
+        };
+        Some((outcome, answer))
+    }
+}
+
+impl Iterator for Answers<'_> {
+    type Item = Result<(Answer, u64), Outcome>;
+
+    fn next(&mut self) -> Option<Self::Item> {
+        let (outcome, answer) = self.call()?;
+        self.sum += outcome.count;
+        self.after = After::Last;
+        match outcome.word() {
+            Some(Word::Bound) => {
+                let given = lengths(self.table, self.pattern, self.record, &answer);
+                self.after = After::Lengths(given);
+                Some(Ok((answer, outcome.count)))
+            }
+            Some(Word::None) => None,
+            _ => Some(Err(outcome)),
+        }
+    }
+}
+
+/// The run lengths of an answer, in elements, in the order in which a call takes them.
+fn lengths(table: &[u8], pattern: &[u8], record: &[u8], answer: &Answer) -> Vec<u16> {
+    let part = |run| answer.run(run).map_or(&[][..], |part| &record[part]);
+    free_runs(table, pattern).into_iter().map(|run| elements(table, part(run))).collect()
+}
+
+/// The free run names of an accepted pattern, in order of their first places outside complements.
+fn free_runs(table: &[u8], pattern: &[u8]) -> Vec<usize> {
+    let (mut runs, mut at) = (Vec::new(), 0);
+    while at < pattern.len() {
+        match pattern[at] {
+            COMPLEMENT => at = end(table, pattern, at),
+            code => {
+                let run = usize::from(code.saturating_sub(FIRST_RUN));
+                if code >= FIRST_RUN && !runs.contains(&run) {
+                    runs.push(run);
+                }
+                at += own(table, code).0;
+            }
+        }
+    }
+    runs
+}
+
+/// How many terms the bytes of a run hold.
+fn elements(table: &[u8], run: &[u8]) -> u16 {
+    let (mut number, mut at) = (0, 0);
+    while at < run.len() {
+        at = end(table, run, at);
+        number += 1;
+    }
+    number
+}
+
+/// Where the node that starts at an offset ends, with all below it.
+fn end(table: &[u8], bytes: &[u8], mut at: usize) -> usize {
+    let mut left = 1;
+    while left > 0 {
+        let (size, children) = own(table, bytes[at]);
+        left = left - 1 + children.unwrap_or_else(|| bytes[at + 1].into());
+        at += size;
+    }
+    at
+}
+
+/// A node's own bytes and its number of children, or none for a list, which tells its own.
+fn own(table: &[u8], code: u8) -> (usize, Option<usize>) {
+    match code {
+        COMPLEMENT => (1, Some(1)),
+        FIRST_NAME.. => (1, Some(0)),
+        _ => match table[usize::from(code)] {
+            LIST => (2, None),
+            children => (1, Some(children.into())),
+        },
+    }
+}
