@@ -1,5 +1,5 @@
-/* Matches one rule against one state from C, another up to class, and lists every answer of a
-   third.
+/* Matches one rule against one state from C, another up to class, lists every answer of a third, and
+   shows what two of them can cost at most.
 
    cc -Iinclude examples/match.c target/staticlib/libqonveshir.a -o target/match && target/match */
 
@@ -85,5 +85,13 @@ int main(void) {
 
   static const uint8_t two[] = {5, 2, 3, 2, 1};  /* gates(gate(held), shut) */
   show_every(two, sizeof two);
+
+  qonveshir_outcome cost =
+      qonveshir_cost(table, sizeof table, row_rule, sizeof row_rule);
+  printf("row costs at most: number %u, count %llu\n", cost.number,
+         (unsigned long long)cost.count);
+  cost = qonveshir_cost(table, sizeof table, gates_rule, sizeof gates_rule);
+  printf("gates has no bound: number %u, count %llu\n", cost.number,
+         (unsigned long long)cost.count);
   return 0;
 }

@@ -23,7 +23,7 @@ extern "C" {
 
 /* The numbers. 13, unread, belongs to the report program. */
 enum {
-  QONVESHIR_DONE = 0,       /* bound, written or accepted */
+  QONVESHIR_DONE = 0,       /* bound, written, accepted or bounded */
   QONVESHIR_TABLE = 1,      /* over 200 bytes, or a byte neither 0 to 8 nor 255 */
   QONVESHIR_SHORT = 2,      /* pattern or record ends before its last node */
   QONVESHIR_SPARE = 3,      /* bytes after the last node */
@@ -33,7 +33,8 @@ enum {
   QONVESHIR_STRAY = 7,      /* run name elsewhere than as a list's child */
   QONVESHIR_NARROW = 8,     /* answer buffer under 96 numbers */
   QONVESHIR_DIRECTORY = 9,  /* a sheet breaks its rules, or no such entry */
-  QONVESHIR_NONE = 10,      /* no assignment satisfies the pattern, or none after the given answer */
+  QONVESHIR_NONE = 10,      /* no assignment satisfies the pattern, or none after the given answer;
+                               of a cost, no bound */
   QONVESHIR_SPENT = 11,     /* the count is over the allowance */
   QONVESHIR_FULL = 12,      /* output too short for the sheet */
   QONVESHIR_CLASS = 14,     /* a class list breaks its rules, see below */
@@ -56,9 +57,13 @@ enum {
 /* Offset of a name that is not free in the pattern; its length is 0. */
 #define QONVESHIR_ABSENT 65535
 
-/* number: 0 bound, written or accepted; else another of the numbers above.
+/* An allowance that is never spent on a pattern without run names. */
+#define QONVESHIR_AMPLE 256
+
+/* number: 0 bound, written, accepted or bounded; else another of the numbers above.
    index: the rule shown or the entry at fault, else 0.
-   count: bound, none, spent: the count or sum; written: the sheet's length; else 0. */
+   count: bound, none, spent: the count or sum; written: the sheet's length;
+   bounded: the bound; else 0. */
 typedef struct { uint32_t number; uint32_t index; uint64_t count; } qonveshir_outcome;
 
 /* number: 0, or 6 or 9; offset and length are in the sheet's bytes, and both 0
@@ -188,6 +193,16 @@ qonveshir_outcome qonveshir_check_rules(const uint8_t *table, size_t table_lengt
    index is shown). */
 qonveshir_outcome qonveshir_check_states(const uint8_t *table, size_t table_length,
                                          const uint8_t *sheet, size_t sheet_length);
+
+/* Shows how much a pattern can cost at most. Bounded (0), with the number of the
+   pattern's nodes as the count, if it has no run names: no match of it, with
+   classes or without, on any record, counts more, nor does the next answer; so
+   this number is an allowance that is never spent on it, and so is
+   QONVESHIR_AMPLE. A node is a name, a symbol or a complement, within
+   complements too. None (10), with count 0, if it has run names, also if these
+   stand within complements: then there is no such bound. Checks: 1, the pattern. */
+qonveshir_outcome qonveshir_cost(const uint8_t *table, size_t table_length,
+                                 const uint8_t *pattern, size_t pattern_length);
 
 #ifdef __cplusplus
 }

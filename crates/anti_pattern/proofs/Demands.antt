@@ -12,7 +12,7 @@ use Rattle.term.specs.Term.{Term, Terms, size}
 use Rattle.term.proofs.SameParts.{term-equal, terms-equal}
 use Rattle.anti_pattern.specs.Answer.{answer}
 use Rattle.anti_pattern.specs.AntiTerm.{Anti}
-use Rattle.anti_pattern.specs.Demands.{SearchDecides, PartsShown, AnswerExact, PublishedAgrees, OverTable, NextExact, EveryAnswer, ChoicesAgree, ChoiceMatters, SingleClasses}
+use Rattle.anti_pattern.specs.Demands.{SearchDecides, PartsShown, AnswerExact, PublishedAgrees, OverTable, NextExact, EveryAnswer, CostBound, ChoicesAgree, ChoiceMatters, SingleClasses}
 use Rattle.anti_pattern.specs.Language.{Language, language, Classed, TermOf, TermsOf}
 use Rattle.anti_pattern.specs.Meaning.{Assignment, OneAt}
 use Rattle.anti_pattern.specs.Next.{check, resumedAfter, next}
@@ -22,6 +22,7 @@ use Rattle.anti_pattern.specs.Search.{finish, behind, search}
 use Rattle.anti_pattern.specs.Variables.{among, NoName, freeRuns}
 use Rattle.anti_pattern.proofs.Alike.{term-eq, one-refl}
 use Rattle.anti_pattern.proofs.Answers.{spent-exactly, none-exactly, bound-exactly, larger-allowance}
+use Rattle.anti_pattern.proofs.Cost.{cost-bound as cost-told}
 use Rattle.anti_pattern.proofs.Crossed.{rideLanguage, crossed, sides, left-first, right-first, left-in, right-out}
 use Rattle.anti_pattern.proofs.First.{found-first, failed-none, equal-lengths}
 use Rattle.anti_pattern.proofs.OverTable.{satisfies-over}
@@ -69,6 +70,10 @@ over-table l c q t g a = (
   satisfies-over l c (λ w. Unit {0}) (TermsOf l) (λ w h. tt) (λ w h. h) q t a g,
   satisfies-over l c (TermsOf l) (λ w. Unit {0}) (λ w h. h) (λ w h. tt) q t a g,
 )
+
+-- in any language, of any term
+pub cost-bound : (l : Language) (q : Pattern) → NoRuns q → (t : Term) → CostBound l q t
+cost-bound = cost-told
 
 pub choices-agree : (l : Language) (q : Anti ℕ) (t : Term) → TermOf l t → ChoicesAgree l q t
 choices-agree l q t g = record {

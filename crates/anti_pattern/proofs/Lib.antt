@@ -19,6 +19,7 @@ pub mod Passing
 pub mod Taken
 pub mod Renamed
 pub mod Published
+pub mod Cost
 pub mod Crossed
 pub mod Within
 pub mod OverTable

@@ -204,7 +204,7 @@ first-of (some nil) = none
 first-of (some (t :: ts)) = some t
 
 mutual
-  no-runs : (q : Pattern) → NoRuns q → (vs : List ℕ) → runs q vs ≡ vs
+  pub no-runs : (q : Pattern) → NoRuns q → (vs : List ℕ) → runs q vs ≡ vs
   no-runs (name v) n vs = refl
   no-runs (symbol s qs) n vs = no-runs-all qs n vs
   no-runs (complement q) n vs = refl

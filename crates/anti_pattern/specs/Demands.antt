@@ -10,12 +10,13 @@ use Rattle.term.specs.Part.{part, absent}
 use Rattle.term.specs.Pattern.{Pattern}
 use Rattle.term.specs.Term.{Term, Terms}
 use Rattle.term.specs.declared.Part.{Part}
-use Rattle.anti_pattern.specs.Answer.{bound, nothing, spent, parts, countOf, answer}
+use Rattle.anti_pattern.specs.Answer.{Answer, bound, nothing, spent, parts, countOf, answer}
 use Rattle.anti_pattern.specs.AntiTerm.{Anti, Free, Substitution}
+use Rattle.anti_pattern.specs.Cost.{nodes}
 use Rattle.anti_pattern.specs.Ground.{Way, Semantics}
 use Rattle.anti_pattern.specs.Language.{Language, language, _⊢_≈_}
 use Rattle.anti_pattern.specs.Meaning.{Assignment, SatisfiesOver, Satisfies, CountAsOne}
-use Rattle.anti_pattern.specs.Next.{follows, unknown, checkCount, nextCount, next}
+use Rattle.anti_pattern.specs.Next.{Following, follows, unknown, checkCount, nextCount, next}
 use Rattle.anti_pattern.specs.Order.{All, Member, Ascending, runLengths, Smaller}
 use Rattle.anti_pattern.specs.Place.{place, partAt, partsAt}
 use Rattle.anti_pattern.specs.Published.{_⊢_∈⟦_⟧, Solution, NoRuns, anti, assignment}
@@ -30,6 +31,18 @@ OneForEach q given = length given ≡ length (freeRuns q)
 -- the lengths that an answer shows for the free run names, in elements
 abbrev pub lengthsShown : Pattern → List Part → List ℕ
 lengthsShown q ps = map (λ v. getD ps v (part 0 0 0) .elements) (freeRuns q)
+
+-- an answer that is not spent; and a next answer that is neither spent nor bound
+abbrev pub BoundOrNone : Answer → Type 0
+BoundOrNone (bound ps n) = Unit {0}
+BoundOrNone (nothing n) = Unit {0}
+BoundOrNone (spent n) = ⊥
+
+abbrev pub NoneOrUnknown : Following → Type 0
+NoneOrUnknown (follows (bound ps n)) = ⊥
+NoneOrUnknown (follows (nothing n)) = Unit {0}
+NoneOrUnknown (follows (spent n)) = ⊥
+NoneOrUnknown unknown = Unit {0}
 
 module _ (l : Language) where
   -- the first of the satisfying assignments: "the one with the smaller length where these lists first differ"
@@ -147,6 +160,15 @@ module _ (l : Language) where
       pub listed : Enumerates q t (assignments q t)
       pub shown : (pss : List (List Part)) → Calls pss → pss ≡ map (partsAt (l .table) q t) (assignments q t)
       pub callable : Calls (map (partsAt (l .table) q t) (assignments q t))
+
+    -- 7. What a rule can cost at most, document 02's L14, for a pattern without run names.
+    pub record CostBound : Type 0 where
+      -- "the full search's count is at most the number of the pattern's nodes"; such an allowance "is never spent"
+      pub count-at-most : countOf l q t ≤ nodes q
+      pub bound-or-none : (allowance : ℕ) → nodes q ≤ allowance → BoundOrNone (answer l q t allowance)
+      -- the next answer counts as much, since nothing is counted after its check: after the one answer there is none
+      pub next-counts : (given : List ℕ) → nextCount l q t given ≡ countOf l q t
+      pub none-follows : (given : List ℕ) (allowance : ℕ) → nodes q ≤ allowance → NoneOrUnknown (next l q t given allowance)
 
   -- What 001 leaves open makes no difference then: which complement is taken first and with which fresh variable; and, where the names are apart
   -- already, whether they are renamed.

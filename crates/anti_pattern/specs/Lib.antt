@@ -11,5 +11,6 @@ pub mod AntiTerm
 pub mod Ground
 pub mod Scope
 pub mod Published
+pub mod Cost
 pub mod Demands
 pub mod Rides

@@ -13,6 +13,8 @@ use Rattle.term.specs.Refusal.{numberOf}
 use Rattle.term.specs.declared.Refusal.{Refusal}
 use Rattle.term.proofs.Numbers.{word-or-refusal}
 use Rattle.anti_pattern.specs.Answer.{Answer as Outcome, bound, nothing, spent, answer}
+use Rattle.anti_pattern.proofs.Demands.{answer-exact}
+use Rattle.anti_pattern.proofs.Within.{accepted-of}
 use Rattle.matcher.specs.Call.{answerNumber, answerCount, classesOf, languageOf, broughtAccepted, Input, Checked, fault, trees, checked, checkOf, told, answerBy, answerOf, written, bufferBy, bufferOf, answerOnBytes, bufferOnBytes}
 use Rattle.matcher.specs.Demands.{Demanded}
 use Rattle.matcher.specs.declared.Answer.{Answer}
@@ -22,6 +24,7 @@ use Rattle.matcher.specs.declared.Check.the-variants.{Passed, Failed}
 use Rattle.matcher.proofs.Answered.{same-call, answered, published}
 use Rattle.matcher.proofs.Buffers.{past-written, written-untouched}
 use Rattle.matcher.proofs.Checks.{brought-alike, checked-input}
+use Rattle.matcher.proofs.Cost.{bounded}
 use Rattle.matcher.proofs.Matched.{bytes-answered}
 use Rattle.search.specs.Shown.{answerWidth}
 
@@ -76,6 +79,11 @@ module _ (table : List ℕ) (brought : Option (List ℕ)) (pattern bytes before 
     published = λ wide a q t i n.
         let z = same-call table brought pattern bytes (brought-alike table brought a) q t i allowance before pattern-octets record-octets wide a allowance refl in
         rw (z .0, z .1) (published table brought pattern bytes (brought-alike table brought a) q t i allowance before pattern-octets record-octets wide a n);
+    bounded = λ wide a q t i n.
+        let k = brought-alike table brought a in
+        let z = same-call table brought pattern bytes k q t i allowance before pattern-octets record-octets wide a allowance refl in
+        let l = languageOf table brought in
+        rw (z .0) (bounded l table q (i .pattern-accepted) n t allowance (answer-exact l k q t (accepted-of l t (i .record-accepted)) allowance));
     handled = record {
       refused-exactly = (
         λ e wide a q t i.

@@ -13,6 +13,7 @@ pub mod NextBytes
 pub mod Buffers
 pub mod Checks
 pub mod Answered
+pub mod Cost
 pub mod Matched
 pub mod Demanded
 pub mod NextDemanded

@@ -40,6 +40,7 @@ use Rattle.matcher.specs.declared.Check.the-variants.{Passed, Failed}
 use Rattle.matcher.proofs.Answered.{env-shown}
 use Rattle.matcher.proofs.Buffers.{written-untouched}
 use Rattle.matcher.proofs.Checks.{brought-alike, checked-input, input-checked}
+use Rattle.matcher.proofs.Cost.{next-bounded}
 use Rattle.matcher.proofs.Demanded.{told-refused, refused-count, written-past, passes-by}
 use Rattle.matcher.proofs.Followed.{next-accepted, every-accepted}
 use Rattle.matcher.proofs.Matched.{told-parts, shown-by}
@@ -248,6 +249,10 @@ module _ (table : List ℕ) (brought : Option (List ℕ)) (pattern bytes given b
       past-stays = past-of (checked table brought pattern bytes (length before)) same;
     };
     answered = λ wide a q t i. let z = same-next wide a q t i allowance refl in rw (z .0, z .1) (next-answered wide a q t i);
+    bounded = λ wide a q t i n.
+        rw (same-next wide a q t i allowance refl .0)
+        (next-bounded (languageOf table brought) table q (i .pattern-accepted) n t allowance given
+        (next-accepted table pattern bytes q t i (classesOf brought) (brought-alike table brought a) given allowance));
   }
 
   -- the whole contract

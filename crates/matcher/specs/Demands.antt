@@ -22,6 +22,7 @@ use Rattle.anti_pattern.specs.Place.{place}
 use Rattle.anti_pattern.specs.Published.{Solution, NoRuns, anti, assignment}
 use Rattle.anti_pattern.specs.Variables.{free, among}
 use Rattle.matcher.specs.Call.{answerNumber, answerCount, languageOf, broughtAccepted, Input, answerOf, bufferOf}
+use Rattle.matcher.specs.Cost.{Bounded, NextBounded}
 use Rattle.matcher.specs.Next.{nextOf, nextBufferOf}
 use Rattle.matcher.specs.declared.Answer.{Answer}
 use Rattle.search.specs.Shown.{answerWidth}
@@ -103,16 +104,20 @@ pub record Handled (table : List ℕ) (brought : Option (List ℕ)) (pattern byt
   pub untouched : (answerNumber a ≡ 0 → ⊥) → after ≡ before
   pub past-stays : drop answerWidth after ≡ drop answerWidth before
 
--- All three; accepted input is always answered
+-- All three, and what a rule can cost at most; accepted input is always answered
 pub record Demanded (table : List ℕ) (brought : Option (List ℕ)) (pattern bytes before : List ℕ) (allowance : ℕ) (a : Answer) (after : List ℕ) : Type 0 where
   pub handled : Handled table brought pattern bytes (λ q t. ⊥) before a after
   pub published : answerWidth ≤ length before → broughtAccepted table brought ≡ true → (q : Pattern) (t : Term) → Input table pattern bytes q t → (n : NoRuns q)
       → Published table brought bytes allowance q n t a after
   pub answered : answerWidth ≤ length before → broughtAccepted table brought ≡ true → (q : Pattern) (t : Term) → Input table pattern bytes q t
       → Answered table brought pattern bytes before allowance q t a after
+  pub bounded : answerWidth ≤ length before → broughtAccepted table brought ≡ true → (q : Pattern) (t : Term) → Input table pattern bytes q t → NoRuns q
+      → Bounded allowance q a
 
 -- The next answer (document 02, L3): answer and final buffer after the answer with the given run lengths
 pub record NextDemanded (table : List ℕ) (brought : Option (List ℕ)) (pattern bytes given before : List ℕ) (allowance : ℕ) (a : Answer) (after : List ℕ) : Type 0 where
   pub handled : Handled table brought pattern bytes (λ q t. UnknownLengths (languageOf table brought) q t given allowance) before a after
   pub answered : answerWidth ≤ length before → broughtAccepted table brought ≡ true → (q : Pattern) (t : Term) → Input table pattern bytes q t
       → NextAnswered table brought pattern bytes given before allowance q t a after
+  pub bounded : answerWidth ≤ length before → broughtAccepted table brought ≡ true → (q : Pattern) (t : Term) → Input table pattern bytes q t → NoRuns q
+      → NextBounded allowance q a

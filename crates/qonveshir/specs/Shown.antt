@@ -1,5 +1,7 @@
 -- What the interface shows of each answer of the library: its number, its index, its count.
 use Prim.Native.Nat.{ℕ}
+use Rattle.cost.specs.Call.{costNumber, costCount}
+use Rattle.cost.specs.declared.Cost.{Cost}
 use Rattle.matcher.specs.Call.{answerNumber, answerCount}
 use Rattle.matcher.specs.declared.Answer.{Answer}
 use Rattle.rules.specs.Answer.{ruleNumber, ruleIndex, ruleCount}
@@ -38,3 +40,7 @@ checkShown c = outcome (checkedNumber c) (checkedIndex c) 0
 
 abbrev pub placeShown : Place → Part
 placeShown p = part (placeNumber p) (placeOffset p) (placeLength p)
+
+-- the count of a cost is the bound
+abbrev pub costShown : Cost → Outcome
+costShown c = outcome (costNumber c) 0 (costCount c)

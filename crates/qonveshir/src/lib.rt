@@ -1,4 +1,5 @@
 // The C interface, `include/qonveshir.h`: the library's calls, with their answers as numbers.
+use cost::Cost;
 use matcher::Answer;
 use rules::RuleAnswer;
 use sheet::Checked;
@@ -6,6 +7,8 @@ ghost use mathlib.Core.Path.{_≡_};
 ghost use mathlib.Core.Option.{none, some};
 ghost use Prim.Native.Nat.{_≤_};
 ghost use lib.ListN.{length};
+ghost use Rattle.cost.specs.Call.{costOf};
+ghost use Rattle.cost.specs.Demands.{Demanded as CostDemanded};
 ghost use Rattle.matcher.specs.Call.{answerOf, bufferOf};
 ghost use Rattle.matcher.specs.Demands.{Demanded, NextDemanded};
 ghost use Rattle.matcher.specs.Next.{nextOf, nextBufferOf};
@@ -17,7 +20,7 @@ ghost use Rattle.sheet.specs.Entry.{placeOf};
 ghost use Rattle.sheet.specs.Contents.{checkRules, checkStates};
 ghost use Rattle.sheet.specs.Writing.{writing, outputAfter};
 ghost use Rattle.sheet.specs.Demands.{Demanded as SheetDemanded};
-ghost use Rattle.qonveshir.specs.Shown.{largest, outcome, part, answerShown, rulesShown, writingShown, checkShown, placeShown};
+ghost use Rattle.qonveshir.specs.Shown.{largest, outcome, part, answerShown, rulesShown, writingShown, checkShown, placeShown, costShown};
 
 // Document 01's number, 0 where nothing is refused; the index of the rule shown or of the entry at fault, else 0; and the count.
 #[repr(C)]
@@ -74,6 +77,12 @@ fn check_shown(c: Checked) -> Outcome
     ensures { λ r. ⌜ r ≡ checkShown c ⌝ }
 {
     shown(c.number(), c.index(), 0)
+}
+
+fn cost_shown(c: Cost) -> Outcome
+    ensures { λ r. ⌜ r ≡ costShown c ⌝ }
+{
+    shown(c.number(), 0, c.count() as u64)
 }
 
 // One pattern against one record.
@@ -221,4 +230,14 @@ pub extern "C" fn qonveshir_check_states(table: &[u8], sheet: &[u8]) -> Outcome
     ensures { λ r. ⌜ r ≡ checkShown (checkStates (now (table .entry)) (now (sheet .entry))) ⌝ }
 {
     check_shown(sheet::check_states(table, sheet))
+}
+
+// What a pattern can cost at most.
+#[no_mangle]
+pub extern "C" fn qonveshir_cost(table: &[u8], pattern: &[u8]) -> Outcome
+    ensures shown { λ r. ⌜ r ≡ costShown (costOf (now (table .entry)) (now (pattern .entry))) ⌝ }
+    ensures demand { λ _. ⌜ CostDemanded (now (table .entry)) (now (pattern .entry)) (costOf (now (table .entry)) (now (pattern .entry))) ⌝ }
+{
+    let c = cost::cost_of(table, pattern);
+    cost_shown(c)
 }

@@ -2,8 +2,8 @@
 use Prim.Native.Nat.{ℕ, _+_, _<_, _≤_}
 use native.Mathlib.Omega.{arith}
 use mathlib.Core.Path.{_≡_, refl, sym, _∙_, ap, ap₂, subst}
-use mathlib.Core.Logic.{_↔_}
-use mathlib.Core.List.{List, [], _∷_}
+use mathlib.Core.Logic.{_⊎_, inl, inr, _↔_}
+use mathlib.Core.List.{List, [], _∷_, _++_}
 use mathlib.Core.Bool.{true}
 use mathlib.Core.Option.{Option}
 use lib.ListN.{length, getD, drop, length-append}
@@ -18,12 +18,14 @@ use Rattle.term.specs.declared.Refusal.{Refusal}
 use Rattle.term.proofs.Numbers.{word-or-refusal}
 use Rattle.anti_pattern.specs.AntiTerm.{Substitution}
 use Rattle.anti_pattern.specs.Answer.{Answer as Outcome, countOf}
+use Rattle.anti_pattern.specs.Cost.{Enough}
 use Rattle.anti_pattern.specs.Demands.{First, PublishedAgrees}
 use Rattle.anti_pattern.specs.Language.{Language, TermOf}
 use Rattle.anti_pattern.specs.Meaning.{Assignment, Satisfies}
 use Rattle.anti_pattern.specs.Place.{partsAt}
 use Rattle.anti_pattern.specs.Published.{Solution, NoRuns, anti, assignment}
-use Rattle.anti_pattern.proofs.Demands.{answer-exact, published-agrees}
+use Rattle.anti_pattern.proofs.Cost.{enough-nodes}
+use Rattle.anti_pattern.proofs.Demands.{answer-exact, published-agrees, cost-bound}
 use Rattle.anti_pattern.proofs.Within.{accepted-of}
 use Rattle.sheet.specs.declared.Checked.{Checked as SheetChecked}
 use Rattle.sheet.specs.declared.Checked.the-variants.{Accepted}
@@ -36,7 +38,7 @@ use Rattle.matcher.proofs.Checks.{brought-alike}
 use Rattle.rules.specs.Answer.{ruleNumber, ruleIndex, ruleCount, ShownAs}
 use Rattle.rules.specs.Trial.{Trial, boundAt, noneOf, spentAt, tryRules}
 use Rattle.rules.specs.Call.{Input, Checked, fault, trees, checked, checkOf, told, answerBy, answerOf, written, bufferBy, bufferOf, answerOnBytes, bufferOnBytes}
-use Rattle.rules.specs.Demands.{IsNone, EachNone, counts, Reached, Answered, Published, Demanded}
+use Rattle.rules.specs.Demands.{IsNone, EachNone, counts, Reached, EachEnough, Answered, Published, Bounded, Demanded}
 use Rattle.rules.specs.declared.RuleAnswer.{RuleAnswer}
 use Rattle.rules.specs.declared.RuleAnswer.the-variants.{Bound, None, Spent, Refused}
 use Rattle.rules.proofs.Rules.{ruleAt, rule-input, part-octets}
@@ -76,6 +78,11 @@ refused-count (Bound k n) r e = absurd (word-or-refusal 0 refl r e)
 refused-count (None n) r e = absurd (word-or-refusal 10 refl r e)
 refused-count (Spent k n) r e = absurd (word-or-refusal 11 refl r e)
 refused-count (Refused x i) r e = refl
+
+-- the allowance is enough for a rule of such a sheet
+each-at : (allowance : ℕ) (ps : List Pattern) (q : Pattern) (qs : List Pattern) → EachEnough allowance (ps ++ (q ∷ qs)) → NoRuns q × Enough q allowance
+each-at allowance [] q qs h = (h .0, h .1)
+each-at allowance (p ∷ ps) q qs h = each-at allowance ps q qs (h .2)
 
 -- Where trying ends, in the words of the demands
 
@@ -197,6 +204,26 @@ module _ (table : List ℕ) (brought : Option (List ℕ)) (sheet bytes before : 
       larger-allowance = λ more h k. same-call more (larger-trial l alike t of allowance more k qs h);
     }
 
+    -- what a rule can cost at most
+
+    never-spent : (q : Pattern) → NoRuns q → Enough q allowance → (k sum : ℕ) → Reached l qs t allowance k q sum
+        → ruleNumber (told trial) ≡ 11 → ruleIndex (told trial) ≡ k → ⊥
+    never-spent q n enough k sum r h j =
+        let s = answered .spent-exactly k (ruleCount (told trial)) .0 (h, j, refl) in
+        let over : allowance < countOf l q t = subst (λ (p : Pattern). allowance < countOf l p t) (sym (is-rule (s .2)) ∙ is-rule r) (s .3) in
+        omega (arith, over, cost-bound l q n t .count-at-most, enough-nodes table q allowance (part-of r .0 .pattern-accepted) enough)
+
+    bounded : Bounded table brought allowance qs t (told trial)
+    bounded = record { never-spent = never-spent; bound-or-none = λ h. words h trial refl }
+      where
+        words : EachEnough allowance qs → (x : Trial) → trial ≡ x → (ruleNumber (told x) ≡ 0) ⊎ (ruleNumber (told x) ≡ 10)
+        words h (boundAt k ps m) e = inl refl
+        words h (noneOf m) e = inr refl
+        words h (spentAt k m) e =
+            let s = answered .spent-exactly k m .0 (shows (ap told e)) in
+            let c = each-at allowance (s .2 .earlier) (s .0) (s .2 .later) (subst (EachEnough allowance) (s .2 .rules) h) in
+            absurd (never-spent (s .0) (c .0) (c .1) k (s .1) (s .2) (shows (ap told e) .0) (shows (ap told e) .1))
+
     -- the first assignment of a rule without run names is its solution
     module _ (q : Pattern) (n : NoRuns q) where
       agrees : PublishedAgrees l q t n allowance
@@ -262,6 +289,7 @@ module _ (table : List ℕ) (brought : Option (List ℕ)) (sheet bytes before : 
       record {
         answered = λ wide b qs t i. let z = same-call wide b qs t i allowance refl in rw (e ∙ z .0, f ∙ z .1) (answered wide b qs t i);
         published = λ wide b qs t i q n. let z = same-call wide b qs t i allowance refl in rw (e ∙ z .0, f ∙ z .1) (published wide b qs t i q n);
+        bounded = λ wide b qs t i. rw (e ∙ same-call wide b qs t i allowance refl .0) (bounded wide b qs t i);
         handled = record {
           refused-exactly = (
             λ r wide b qs t i. told-refused (tryRules l qs t allowance) (r .0) (sym (ap ruleNumber (e ∙ same-call wide b qs t i allowance refl .0)) ∙ r .1),

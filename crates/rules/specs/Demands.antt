@@ -1,7 +1,7 @@
 -- What is demanded of the call: its answer `a` and the final buffer `after`, where the buffer held `before`.
 use Prim.Native.Nat.{ℕ, _+_, _<_, _≤_}
 use mathlib.Core.Path.{_≡_}
-use mathlib.Core.Logic.{_↔_}
+use mathlib.Core.Logic.{_⊎_, _↔_}
 use mathlib.Core.List.{List, [], _∷_, _++_}
 use mathlib.Core.Bool.{true}
 use mathlib.Core.Option.{Option}
@@ -12,6 +12,7 @@ use Rattle.term.specs.Refusal.{numberOf}
 use Rattle.term.specs.declared.Refusal.{Refusal}
 use Rattle.anti_pattern.specs.AntiTerm.{Substitution}
 use Rattle.anti_pattern.specs.Answer.{countOf}
+use Rattle.anti_pattern.specs.Cost.{Enough}
 use Rattle.anti_pattern.specs.Demands.{First, Unsatisfied}
 use Rattle.anti_pattern.specs.Language.{Language}
 use Rattle.anti_pattern.specs.Meaning.{Assignment, CountAsOne}
@@ -45,6 +46,11 @@ module _ (l : Language) where
     pub index : k ≡ length earlier
     pub passed : EachNone t allowance earlier
     pub summed : sum ≡ counts t earlier
+
+-- each of these rules is without run names, and the allowance is as much as its nodes, or 256
+abbrev pub EachEnough : ℕ → List Pattern → Type 0
+EachEnough allowance [] = Unit {0}
+EachEnough allowance (q ∷ qs) = NoRuns q × Enough q allowance × EachEnough allowance qs
 
 module _ (table : List ℕ) (brought : Option (List ℕ)) where
   abbrev l : Language
@@ -82,6 +88,14 @@ module _ (table : List ℕ) (brought : Option (List ℕ)) where
     -- it is the only substitution there is
     pub only-one : (σ ρ : Substitution) → Solution l (anti q n) t σ → Solution l (anti q n) t ρ → CountAsOne l (assignment σ) (assignment ρ)
 
+  -- What a rule can cost at most (document 02, L14)
+  pub record Bounded (allowance : ℕ) (qs : List Pattern) (t : Term) (a : RuleAnswer) : Type 0 where
+    -- such an allowance "is never spent" on a rule without run names
+    pub never-spent : (q : Pattern) → NoRuns q → Enough q allowance → (k sum : ℕ) → Reached l qs t allowance k q sum
+        → ruleNumber a ≡ 11 → ruleIndex a ≡ k → ⊥
+    -- nor on a sheet of them
+    pub bound-or-none : EachEnough allowance qs → (ruleNumber a ≡ 0) ⊎ (ruleNumber a ≡ 10)
+
 -- Demand 1: any input gets an answer or a numbered refusal; the order of the checks is that of `checked` (Call)
 pub record Handled (table : List ℕ) (brought : Option (List ℕ)) (sheet bytes before : List ℕ) (a : RuleAnswer) (after : List ℕ) : Type 0 where
   -- refused exactly when the buffer is narrow, or the class list or the input is not accepted; a refusal shows count 0
@@ -92,7 +106,7 @@ pub record Handled (table : List ℕ) (brought : Option (List ℕ)) (sheet bytes
   pub untouched : (ruleNumber a ≡ 0 → ⊥) → after ≡ before
   pub past-stays : drop answerWidth after ≡ drop answerWidth before
 
--- All three
+-- All three, and what a rule can cost at most
 pub record Demanded (table : List ℕ) (brought : Option (List ℕ)) (sheet bytes before : List ℕ) (allowance : ℕ) (a : RuleAnswer)
     (after : List ℕ) : Type 0 where
   pub handled : Handled table brought sheet bytes before a after
@@ -100,3 +114,5 @@ pub record Demanded (table : List ℕ) (brought : Option (List ℕ)) (sheet byte
       → (q : Pattern) (n : NoRuns q) → Published table brought bytes allowance qs t a after q n
   pub answered : answerWidth ≤ length before → broughtAccepted table brought ≡ true → (qs : List Pattern) (t : Term) → Input table sheet bytes qs t
       → Answered table brought sheet bytes before allowance qs t a after
+  pub bounded : answerWidth ≤ length before → broughtAccepted table brought ≡ true → (qs : List Pattern) (t : Term) → Input table sheet bytes qs t
+      → Bounded table brought allowance qs t a

@@ -36,6 +36,7 @@ pub fn all() -> Vec<Workload> {
     all.extend(rules.map(|n| rule_sheet("rule sheet over 1,000 states", n, false)));
     all.extend(bytes.map(read_states));
     all.extend(rules.map(read_rules));
+    all.extend([18, 66, 254].map(cost));
     all.extend(bytes.map(read_entry));
     all.extend(bytes.map(write_sheet));
     all.extend(with_classes());
@@ -331,6 +332,20 @@ fn read_rules(n: usize) -> Workload {
     });
     let call = "qonveshir_check_rules";
     Workload { name: "rule sheet reader", n, call, unit: "byte", units, run }
+}
+
+/// The cost of a pattern of n bytes, a list of rows of four bytes each.
+fn cost(n: usize) -> Workload {
+    let symbols = symbols();
+    let rows = vec!["row(!?0, ?1)"; (n - 2) / 4].join(", ");
+    let pattern = symbols.pattern(&format!("gates({rows})")).expect("a rule");
+    assert_eq!(pattern.len(), n);
+    let (table, nodes) = (symbols.table().to_vec(), n as u64 - 1);
+    let run = Box::new(move |library: &dyn Library| {
+        assert_eq!(library.cost(&table, &pattern).count, nodes);
+    });
+    let call = "qonveshir_cost";
+    Workload { name: "cost of a pattern", n, call, unit: "byte", units: n as u64, run }
 }
 
 /// The place of the last entry, for which the whole directory is checked.

@@ -1,7 +1,7 @@
 //! One call with its inputs, run between margins of random bytes.
 
 use crate::rng::Rng;
-use interface::{Library, Outcome, Part};
+use interface::{Library, Outcome, Part, Word};
 use std::fmt;
 
 /// The calls.
@@ -17,10 +17,11 @@ pub enum Call {
     Entry,
     CheckRules,
     CheckStates,
+    Cost,
 }
 
 /// The calls in their order, with their names.
-pub const CALLS: [(Call, &str); 10] = [
+pub const CALLS: [(Call, &str); 11] = [
     (Call::Match, "match"),
     (Call::MatchWithClasses, "match_with_classes"),
     (Call::Next, "next"),
@@ -31,6 +32,7 @@ pub const CALLS: [(Call, &str); 10] = [
     (Call::Entry, "entry"),
     (Call::CheckRules, "check_rules"),
     (Call::CheckStates, "check_states"),
+    (Call::Cost, "cost"),
 ];
 
 impl Call {
@@ -125,6 +127,18 @@ impl Case {
         Shown { result, memory }
     }
 
+    /// What the call can count at most, where it is a match of a pattern that has such a bound.
+    pub fn bound(&self, library: &dyn Library) -> Option<u64> {
+        use Call::*;
+        let cost = match (self.call, &self.inputs[..]) {
+            (Match | MatchWithClasses | Next | NextWithClasses, [table, .., pattern, _]) => {
+                library.cost(table, pattern)
+            }
+            _ => return None,
+        };
+        (cost.word() == Some(Word::Bound)).then_some(cost.count)
+    }
+
     fn call(&self, library: &dyn Library, memory: &mut Memory) -> [u64; 3] {
         let Memory { margin, inputs, lengths, output, answer } = memory;
         let margin = *margin;
@@ -149,6 +163,7 @@ impl Case {
             (Call::Entry, [s]) => return part(library.entry(s, n)),
             (Call::CheckRules, [t, s]) => library.check_rules(t, s),
             (Call::CheckStates, [t, s]) => library.check_states(t, s),
+            (Call::Cost, [t, p]) => library.cost(t, p),
             _ => panic!("{self}: a wrong number of inputs"),
         })
     }

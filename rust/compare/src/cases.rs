@@ -10,7 +10,7 @@ use interface::{sheet_of, Library, Outcome, Word, ANSWER, SHEET_LIMIT};
 /// A case; `library` gives the count that allowances are taken around.
 pub fn case(rng: &mut Rng, library: &dyn Library) -> Case {
     let table = table(rng);
-    match rng.below(100) {
+    match rng.below(104) {
         0..=22 => match_case(rng, table, library),
         23..=38 => match_with_classes_case(rng, table, library),
         39..=49 => next_case(rng, table, library),
@@ -24,10 +24,14 @@ pub fn case(rng: &mut Rng, library: &dyn Library) -> Case {
             let sheet = perhaps_damaged(rng, sheet_of(&rules));
             Case::new(Call::CheckRules, vec![table, sheet])
         }
-        _ => {
+        97..=99 => {
             let records = records(rng, &table);
             let sheet = perhaps_damaged(rng, sheet_of(&records));
             Case::new(Call::CheckStates, vec![table, sheet])
+        }
+        _ => {
+            let (pattern, _) = pair(rng, &table, library);
+            Case::new(Call::Cost, vec![table, pattern])
         }
     }
 }

@@ -15,9 +15,9 @@ pub struct Histogram {
 /// The kinds in their order, the words with which they count, and the calls that must have them.
 const KINDS: [(&str, &[Word], &[Call]); 26] = [
     ("record over 1,000 bytes, not spent", &ENDED, &SEARCHES),
-    ("pattern over 100 bytes, not spent", &ENDED, &MATCHES),
+    ("pattern over 100 bytes, not spent", &ENDED, &PATTERNS),
     ("count over 1,000, not spent", &ENDED, &SEARCHES),
-    ("over 32 complements in a row, not spent", &ENDED, &SEARCHES),
+    ("over 32 complements in a row, not spent", &ENDED, &WITH_A_PATTERN),
     ("allowance one below the count", &SEARCHED, &SEARCHES),
     ("allowance at the count", &SEARCHED, &SEARCHES),
     ("allowance far above the count", &SEARCHED, &SEARCHES),
@@ -44,7 +44,9 @@ const KINDS: [(&str, &[Word], &[Call]); 26] = [
 const ENDED: [Word; 2] = [Word::Bound, Word::None];
 const ACCEPTED: [Word; 3] = [Word::Bound, Word::None, Word::Spent];
 const SEARCHED: [Word; 4] = [Word::Bound, Word::None, Word::Spent, Word::Unknown];
-const MATCHES: [Call; 2] = [Call::Match, Call::MatchWithClasses];
+const PATTERNS: [Call; 3] = [Call::Match, Call::MatchWithClasses, Call::Cost];
+const WITH_A_PATTERN: [Call; 5] =
+    [Call::Match, Call::MatchWithClasses, Call::Next, Call::NextWithClasses, Call::Cost];
 const NEXTS: [Call; 2] = [Call::Next, Call::NextWithClasses];
 const SEARCHES: [Call; 4] =
     [Call::Match, Call::MatchWithClasses, Call::Next, Call::NextWithClasses];
@@ -81,15 +83,16 @@ impl Histogram {
     }
 }
 
-/// The kinds that a search has by its sizes and its count.
+/// The kinds that a case of a search or of a cost has by its sizes and its count.
 fn sizes(case: &Case, count: u64) -> impl Iterator<Item = Kind> {
-    let sizes = match &case.inputs[..] {
-        [.., pattern, record] if SEARCHES.contains(&case.call) => {
-            let complements = pattern.split(|&code| code != COMPLEMENT).any(|row| row.len() > 32);
-            [record.len() > 1_000, pattern.len() > 100, count > 1_000, complements]
-        }
-        _ => [false; 4],
+    let (pattern, record): (&[u8], &[u8]) = match (case.call, &case.inputs[..]) {
+        (Call::Cost, [_, pattern]) => (pattern, &[]),
+        (call, [.., pattern, record]) if SEARCHES.contains(&call) => (pattern, record),
+        _ => (&[], &[]),
     };
+    let complements = pattern.split(|&code| code != COMPLEMENT).any(|row| row.len() > 32);
+    let long_search = !record.is_empty() && count > 1_000;
+    let sizes = [record.len() > 1_000, pattern.len() > 100, long_search, complements];
     let kinds = [Kind::LongRecord, Kind::LongPattern, Kind::LongSearch, Kind::ManyComplements];
     kinds.into_iter().zip(sizes).filter_map(|(kind, has)| has.then_some(kind))
 }
@@ -101,10 +104,11 @@ fn can_give(call: Call, word: Word) -> bool {
         Word::Bound | Word::Long => true,
         Word::Table | Word::Short | Word::Spare | Word::Code | Word::Deep => call != Entry,
         Word::Stray => !matches!(call, Write | Entry | CheckStates),
-        Word::Narrow | Word::None | Word::Spent => {
-            !matches!(call, Write | Entry | CheckRules | CheckStates)
+        Word::None => !matches!(call, Write | Entry | CheckRules | CheckStates),
+        Word::Narrow | Word::Spent => {
+            !matches!(call, Write | Entry | CheckRules | CheckStates | Cost)
         }
-        Word::Directory => !SEARCHES.contains(&call),
+        Word::Directory => !WITH_A_PATTERN.contains(&call),
         Word::Full => call == Write,
         Word::Unread => false,
         Word::Class => WITH_CLASSES.contains(&call),

@@ -25,7 +25,8 @@ pub struct Cases {
     pub margin: usize,
 }
 
-/// Compares two implementations; an error describes the first difference.
+/// Compares two implementations; an error describes the first difference, or the first match that
+/// counts more than its pattern can cost.
 pub fn compare(one: &dyn Library, other: &dyn Library, cases: Cases) -> Result<Histogram, String> {
     let Cases { seed, first, number, margin } = cases;
     let mut histogram = Histogram::default();
@@ -37,6 +38,10 @@ pub fn compare(one: &dyn Library, other: &dyn Library, cases: Cases) -> Result<H
         if shown != expected {
             let difference = shown.difference(&expected);
             return Err(format!("seed {seed}, case {number}: {case}\n{difference}"));
+        }
+        let count = expected.result[2];
+        if let Some(bound) = case.bound(one).filter(|&bound| count > bound) {
+            return Err(format!("seed {seed}, case {number}: {case}\ncount {count} over {bound}"));
         }
         histogram.add(&case, expected.result);
     }

@@ -17,6 +17,7 @@ struct Faulty {
     answer: fn(&Outcome, &mut [u16]),
     output: fn(&Outcome, &mut [u8]),
     part: fn(&mut Part),
+    cost: fn(&mut Outcome),
 }
 
 const SOUND: Faulty = Faulty {
@@ -26,6 +27,7 @@ const SOUND: Faulty = Faulty {
     answer: |_, _| (),
     output: |_, _| (),
     part: |_| (),
+    cost: |_| (),
 };
 
 impl Faulty {
@@ -128,6 +130,12 @@ impl Library for Faulty {
     fn check_states(&self, table: &[u8], sheet: &[u8]) -> Outcome {
         self.spoil(Reference.check_states(table, sheet))
     }
+
+    fn cost(&self, table: &[u8], pattern: &[u8]) -> Outcome {
+        let mut outcome = Reference.cost(table, pattern);
+        (self.cost)(&mut outcome);
+        self.spoil(outcome)
+    }
 }
 
 fn differs(library: Faulty) -> bool {
@@ -168,6 +176,20 @@ fn faults_are_found() {
     assert!(differs(Faulty { answer: past, ..SOUND }));
     assert!(differs(Faulty { output: full, ..SOUND }));
     assert!(differs(Faulty { part: refused, ..SOUND }));
+}
+
+#[test]
+fn faults_of_costs_are_found() {
+    let less = |outcome: &mut Outcome| outcome.count -= u64::from(outcome.number == 0);
+    let none = |outcome: &mut Outcome| outcome.number -= outcome.number & 10;
+    let shown = |outcome: &mut Outcome| outcome.count += u64::from(outcome.number == 10);
+    for (i, cost) in [less, none, shown].into_iter().enumerate() {
+        assert!(differs(Faulty { cost, ..SOUND }), "fault {i}");
+    }
+    let cases = compare::Cases { seed: 7, first: 0, number: 5_000, margin: 24 };
+    let both = Faulty { cost: less, ..SOUND };
+    let over = compare::compare(&both, &both, cases).err().expect("a count over the bound");
+    assert!(over.contains(" over "), "{over}");
 }
 
 #[test]

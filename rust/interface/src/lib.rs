@@ -33,12 +33,14 @@ pub const COMPLEMENT: u8 = 248;
 pub const NAMES: usize = 32;
 /// Number of run names, @0 to @15.
 pub const RUNS: usize = 16;
+/// An allowance that is never spent on a pattern without run names.
+pub const AMPLE: u32 = 256;
 /// Numbers that an answer holds, two for each name and run name.
 pub const ANSWER: usize = 2 * (NAMES + RUNS);
 /// Offset shown for a name that is not free.
 pub const ABSENT: u16 = u16::MAX;
 
-/// The numbers and words of documents 01 and 02; 0 is bound, written or accepted.
+/// The numbers and words of documents 01 and 02; 0 is bound, written, accepted or bounded.
 #[derive(Clone, Copy, Debug, PartialEq, Eq, PartialOrd, Ord)]
 #[repr(u8)]
 pub enum Word {
@@ -105,7 +107,7 @@ impl Word {
     /// When the word is given.
     pub fn meaning(self) -> &'static str {
         match self {
-            Word::Bound => "bound, written or accepted",
+            Word::Bound => "bound, written, accepted or bounded",
             Word::Table => "over 200 bytes, or a byte neither 0 to 8 nor 255",
             Word::Short => "pattern or record ends before its last node; empty too",
             Word::Spare => "bytes after the last node",
@@ -115,7 +117,10 @@ impl Word {
             Word::Stray => "run name elsewhere than as a list's child",
             Word::Narrow => "answer buffer under 96 numbers",
             Word::Directory => "a sheet breaks its rules, or no such entry",
-            Word::None => "no assignment satisfies the pattern, or none after the given answer",
+            Word::None => {
+                "no assignment satisfies the pattern, or none after the given answer; of a cost, no \
+                 bound"
+            }
             Word::Spent => "the count is over the allowance",
             Word::Full => "output too short for the sheet",
             Word::Unread => "the program can't open or read a file",
@@ -140,7 +145,7 @@ pub struct Outcome {
 }
 
 impl Outcome {
-    /// An outcome that shows a count: bound, none, spent or written.
+    /// An outcome that shows a count: bound, none, spent, written or bounded.
     pub fn counted(word: Word, index: usize, count: u64) -> Self {
         Outcome { number: word.number(), index: index as u32, count }
     }
@@ -297,6 +302,9 @@ pub trait Library {
 
     /// Checks a sheet of records.
     fn check_states(&self, table: &[u8], sheet: &[u8]) -> Outcome;
+
+    /// Shows how much a pattern can cost at most, or none if it has run names.
+    fn cost(&self, table: &[u8], pattern: &[u8]) -> Outcome;
 
     /// [`match_one`](Self::match_one) with a buffer of its own, in which every name is absent
     /// unless the outcome is bound.

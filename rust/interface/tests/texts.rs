@@ -10,7 +10,7 @@ fn read(file: &str) -> String {
 
 /// The code of the proved crates, without comments.
 fn rattle() -> String {
-    let crates = ["term", "search", "matcher", "sheet", "rules", "qonveshir"];
+    let crates = ["term", "search", "matcher", "cost", "sheet", "rules", "qonveshir"];
     let code = crates.map(|name| read(&format!("crates/{name}/src/lib.rt"))).concat();
     let lines = code.lines().filter(|line| !line.trim_start().starts_with("//"));
     lines.map(|line| format!("{line}\n")).collect()
@@ -93,6 +93,14 @@ fn limits() {
     }
 }
 
+/// The definition's own number, since the proved code needs none.
+#[test]
+fn ample() {
+    let defined = between(&read("include/qonveshir.h"), "#define QONVESHIR_AMPLE ", "\n").join("");
+    let stated = between(&read("crates/anti_pattern/specs/Cost.antt"), "\nample = ", "\n").join("");
+    assert_eq!([defined, stated], [AMPLE.to_string(), AMPLE.to_string()]);
+}
+
 #[test]
 fn codes() {
     let code = rattle();
@@ -140,7 +148,7 @@ type Call = (String, Vec<String>, String);
 #[test]
 fn calls() {
     let header = header_calls(&read("include/qonveshir.h"));
-    assert_eq!(header.len(), 10);
+    assert_eq!(header.len(), 11);
     assert_eq!(rattle_calls(&rattle()), header);
     assert_eq!(rust_calls(&read("rust/proved/src/link.rs")), header);
 }

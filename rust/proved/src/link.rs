@@ -28,6 +28,7 @@ macro_rules! library {
             entry = qonveshir_entry(sheet: u8; index; ) -> Part;
             check_rules = qonveshir_check_rules(table: u8, sheet: u8; ; ) -> Outcome;
             check_states = qonveshir_check_states(table: u8, sheet: u8; ; ) -> Outcome;
+            cost = qonveshir_cost(table: u8, pattern: u8; ; ) -> Outcome;
         }
     };
 }

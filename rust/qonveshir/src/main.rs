@@ -1,4 +1,4 @@
-//! The command line: `pack`, `unpack`, `match`, `explain`.
+//! The command line: `pack`, `unpack`, `match`, `cost`, `explain`.
 
 mod explain;
 mod matching;
@@ -23,6 +23,8 @@ usage:
                                             match a rule against a state, both given as text, and
                                             show the first answer, or all of them; N, 100,000 if
                                             not given, is the allowance of each answer
+  qonveshir cost SYMBOLS SHEET              print how much each rule of a sheet can cost at most, a
+                                            line for each: an allowance that is never spent on it
   qonveshir explain TABLE [--classes CLASSES] [--rules SHEET] [--states SHEET]
                     [--pattern FILE] [--record FILE]
                                             say why an input is refused
@@ -97,6 +99,7 @@ fn reply(arguments: &[&str]) -> Reply {
         ["unpack", "classes", symbols, list] => sheets::unpack_classes(symbols, list),
         ["unpack", "rules", symbols, sheet] => sheets::unpack_rules(symbols, sheet),
         ["unpack", "states", symbols, sheet] => sheets::unpack_states(symbols, sheet),
+        ["cost", symbols, sheet] => sheets::cost(symbols, sheet),
         ["match", rest @ ..] => matched(rest),
         ["explain", rest @ ..] if !rest.is_empty() => explain::explain(rest),
         _ => wrong_call(),

@@ -1,4 +1,4 @@
-//! `pack` and `unpack`.
+//! `pack`, `unpack` and `cost`.
 
 use crate::{read, read_symbols, read_text, trouble, write, Reply, Stop, ENGINE};
 use interface::{sheet_of, Outcome, Word, SHEET_LIMIT};
@@ -49,6 +49,20 @@ pub fn unpack_states(symbols: &str, path: &str) -> Reply {
     let (symbols, sheet) = (read_symbols(symbols)?, read(path)?);
     accepted(path, ENGINE.0.check_states(symbols.table(), &sheet))?;
     lines(path, &sheet, |entry| symbols.show_term(entry))
+}
+
+/// What each rule of a sheet can cost at most.
+pub fn cost(symbols: &str, path: &str) -> Reply {
+    let (symbols, sheet) = (read_symbols(symbols)?, read(path)?);
+    accepted(path, ENGINE.0.check_rules(symbols.table(), &sheet))?;
+    lines(path, &sheet, |rule| {
+        let cost = ENGINE.0.cost(symbols.table(), rule);
+        let text = symbols.show_pattern(rule)?;
+        Ok(match cost.word() {
+            Some(Word::Bound) => format!("at most {}: {text}", cost.count),
+            _ => format!("no bound: {text}"),
+        })
+    })
 }
 
 /// The entries that a text file's lines give; comments and empty lines give none.

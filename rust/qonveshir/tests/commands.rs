@@ -155,6 +155,23 @@ fn packs_and_unpacks() {
 }
 
 #[test]
+fn shows_what_rules_cost() {
+    let folder = folder("cost");
+    let rules = ["row(!?0, ?0)", "gates(@0, !open)", "!!gates(gates(), !gate(?1))", "!gates(@0)"];
+    fs::write(folder.join("rules"), rules.join("\n")).unwrap();
+    let command = |text: &str| run(&folder, &text.split(' ').collect::<Vec<_>>());
+    assert_eq!(command("pack rules symbols rules r"), (0, "r: 40 bytes\n".into()));
+    let costs = ["at most 4", "no bound", "at most 7", "no bound"];
+    let lines = costs.iter().zip(rules).map(|(cost, rule)| format!("{cost}: {rule}\n"));
+    assert_eq!(command("cost symbols r"), (0, lines.collect()));
+    fs::write(folder.join("r"), [1, 0, 6, 0, 1, 0, 232]).unwrap();
+    let (status, text) = command("cost symbols r");
+    assert_eq!(status, 1);
+    assert!(text.starts_with("r: refused 7 stray, entry 0"), "{text}");
+    fs::remove_dir_all(folder).unwrap();
+}
+
+#[test]
 fn packs_rows_of_complements() {
     let folder = folder("complements");
     let rules = ["!".repeat(255) + "?0", "!".repeat(40) + "row(gate(open), !shut)"].join("\n");

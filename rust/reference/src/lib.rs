@@ -144,6 +144,10 @@ impl Library for Reference {
     fn check_states(&self, table: &[u8], sheet: &[u8]) -> Outcome {
         shown(check_states(table, sheet).map(|()| Outcome::ACCEPTED))
     }
+
+    fn cost(&self, table: &[u8], pattern: &[u8]) -> Outcome {
+        shown(cost(table, pattern))
+    }
 }
 
 /// Why a call refuses: the fault and the index of the entry that it lies in, if any.
@@ -177,6 +181,16 @@ pub fn check_states(table: &[u8], sheet: &[u8]) -> Result<(), Refusal> {
         Record::check(table, bytes).map_err(|fault| fault.of_entry(index))?;
     }
     Ok(())
+}
+
+/// Counts the nodes of a pattern, each of which is set against one record node at most.
+fn cost(table: &[u8], pattern: &[u8]) -> Result<Outcome, Refusal> {
+    let mut steps = Steps::new();
+    steps.read(Table::read(table)?, pattern)?;
+    Ok(match steps.nodes() {
+        Some(nodes) => Outcome::counted(Word::Bound, 0, nodes as u64),
+        None => Outcome::counted(Word::None, 0, 0),
+    })
 }
 
 /// Matches one pattern, up to class if a class list is brought; inlined, as what it calls, so that

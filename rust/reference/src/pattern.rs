@@ -76,6 +76,13 @@ impl Steps {
         }
     }
 
+    /// The number of nodes of all patterns read so far, unless one has run names.
+    pub fn nodes(&self) -> Option<usize> {
+        let nodes = self.0.iter().filter(|step| !matches!(step, Step::Close { .. } | Step::Done));
+        let runs = self.0.iter().any(|step| matches!(step, Step::Run { .. }));
+        (!runs).then(|| nodes.count())
+    }
+
     /// Replaces each symbol by its class.
     pub fn merge(&mut self, classes: Classes) {
         for step in &mut self.0 {

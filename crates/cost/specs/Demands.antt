@@ -1,0 +1,45 @@
+-- What is demanded of the call, document 02's L14: of its answer `c`.
+use Prim.Native.Nat.{ℕ, _≤_}
+use mathlib.Core.Path.{_≡_}
+use mathlib.Core.Logic.{_↔_}
+use mathlib.Core.List.{List, []}
+use mathlib.Core.Bool.{true}
+use Rattle.term.specs.Limits.{PatternAccepted}
+use Rattle.term.specs.Pattern.{Pattern, patternBytes}
+use Rattle.term.specs.Refusal.{numberOf}
+use Rattle.term.specs.Table.{tableAccepted}
+use Rattle.term.specs.Term.{Term}
+use Rattle.term.specs.declared.Refusal.{Refusal}
+use Rattle.anti_pattern.specs.Answer.{countOf}
+use Rattle.anti_pattern.specs.Cost.{nodes, ample}
+use Rattle.anti_pattern.specs.Language.{language}
+use Rattle.anti_pattern.specs.Next.{nextCount}
+use Rattle.anti_pattern.specs.Published.{NoRuns}
+use Rattle.cost.specs.Call.{costNumber, costCount}
+use Rattle.cost.specs.declared.Cost.{Cost}
+
+-- Accepted input: a table, and the bytes of a pattern, that pass every check
+pub record Input (table pattern : List ℕ) (q : Pattern) : Type 0 where
+  pub table-accepted : tableAccepted table ≡ true
+  pub pattern-bytes : patternBytes table q [] ≡ pattern
+  pub pattern-accepted : PatternAccepted table q
+
+-- of an accepted pattern
+pub record Costs (table : List ℕ) (q : Pattern) (c : Cost) : Type 0 where
+  -- a bound exactly where there are no run names: the number of the pattern's nodes
+  pub bound-exactly : (costNumber c ≡ 0) ↔ NoRuns q
+  pub shows-nodes : NoRuns q → costCount c ≡ nodes q
+  -- "the full search's count is at most" that, with any class list and without, for every record; that of the next answer too
+  pub bounds-count : NoRuns q → (classes : List ℕ) (t : Term) → countOf (language table classes) q t ≤ costCount c
+  pub bounds-next : NoRuns q → (classes : List ℕ) (t : Term) (given : List ℕ) → nextCount (language table classes) q t given ≤ costCount c
+  -- "So an allowance of 256 is never spent on one."
+  pub is-ample : costCount c ≤ ample
+  -- with run names none
+  pub none-exactly : (costNumber c ≡ 10) ↔ (NoRuns q → ⊥)
+  pub none-shows : (NoRuns q → ⊥) → costCount c ≡ 0
+
+pub record Demanded (table pattern : List ℕ) (c : Cost) : Type 0 where
+  -- refused exactly when the table or the pattern is not accepted; a refusal shows 0
+  pub refused-exactly : ((r : Refusal) × (costNumber c ≡ numberOf r)) ↔ ((q : Pattern) → Input table pattern q → ⊥)
+  pub refused-shows : (r : Refusal) → costNumber c ≡ numberOf r → costCount c ≡ 0
+  pub costs : (q : Pattern) → Input table pattern q → Costs table q c
