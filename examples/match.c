@@ -15,28 +15,18 @@ static const uint8_t classes[] = {0, 1, 2, 3, 4, 5, 2};
 static void show(const char *what, qonveshir_outcome found, const uint16_t *answer) {
   printf("%s: number %u, count %llu\n", what, found.number, (unsigned long long)found.count);
   if (found.number != QONVESHIR_DONE) return;
-  /* The pairs of @0 to @15 follow those of ?0 to ?31. */
-  for (int i = 0; i < QONVESHIR_ANSWER / 2; i++) {
-    if (answer[2 * i] == QONVESHIR_ABSENT) continue;
-    printf("%c%d: offset %u, length %u\n", i < 32 ? '?' : '@', i < 32 ? i : i - 32,
-           answer[2 * i], answer[2 * i + 1]);
+  for (int i = 0; i < QONVESHIR_VARIABLES; i++) {
+    const uint16_t *entry = answer + QONVESHIR_ENTRY * i;
+    if (entry[0] == QONVESHIR_ABSENT) continue;
+    int is_name = i < QONVESHIR_NAMES;
+    printf("%c%d: offset %u, length %u, terms %u\n", is_name ? '?' : '@',
+           is_name ? i : i - QONVESHIR_NAMES, entry[0], entry[1], entry[2]);
   }
 }
 
-/* Where the term that starts at an offset ends. */
-static size_t term_end(const uint8_t *bytes, size_t at) {
-  for (size_t nodes = 1; nodes > 0; nodes--) {
-    uint8_t children = table[bytes[at++]];
-    nodes += children == 255 ? bytes[at++] : children; /* a list tells its own number */
-  }
-  return at;
-}
-
-/* How many elements a run has. */
-static uint16_t elements(const uint8_t *run, size_t length) {
-  uint16_t number = 0;
-  for (size_t at = 0; at < length; at = term_end(run, at)) number++;
-  return number;
+/* The number of terms of a run name. */
+static uint16_t terms(const uint16_t *answer, int run) {
+  return answer[QONVESHIR_ENTRY * (QONVESHIR_NAMES + run) + 2];
 }
 
 /* Shows the first answer of gates(@0, @1), then the next after each, until there is none. */
@@ -47,9 +37,9 @@ static void show_every(const uint8_t *state, size_t state_length) {
                                             state_length, 100000, answer, QONVESHIR_ANSWER);
   while (found.number == QONVESHIR_DONE) {
     show("an answer", found, answer);
-    /* The run lengths of this answer, of @0 and of @1; their pairs start at 64. */
-    given[0] = elements(state + answer[64], answer[65]);
-    given[1] = elements(state + answer[66], answer[67]);
+    /* The run lengths of this answer, in the order of the run names' places. */
+    given[0] = terms(answer, 0);
+    given[1] = terms(answer, 1);
     found = qonveshir_next(table, sizeof table, rule, sizeof rule, state, state_length, given, 2,
                            100000, answer, QONVESHIR_ANSWER);
   }

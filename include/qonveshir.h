@@ -31,7 +31,7 @@ enum {
   QONVESHIR_DEEP = 5,       /* nesting over 32 */
   QONVESHIR_LONG = 6,       /* pattern, record or sheet over its limit, over 64 rules */
   QONVESHIR_STRAY = 7,      /* run name elsewhere than as a list's child */
-  QONVESHIR_NARROW = 8,     /* answer buffer under 96 numbers */
+  QONVESHIR_NARROW = 8,     /* answer buffer under 144 numbers */
   QONVESHIR_DIRECTORY = 9,  /* a sheet breaks its rules, or no such entry */
   QONVESHIR_NONE = 10,      /* no assignment satisfies the pattern, or none after the given answer;
                                of a cost, no bound */
@@ -51,10 +51,16 @@ enum {
 #define QONVESHIR_RULES_LIMIT 64
 #define QONVESHIR_NESTING_LIMIT 32
 
-/* Numbers that an answer holds: offset and length of ?0 to ?31, then of @0 to
-   @15, in the record's bytes. */
-#define QONVESHIR_ANSWER 96
-/* Offset of a name that is not free in the pattern; its length is 0. */
+/* Numbers of names, ?0 to ?31, and of these and run names, @0 to @15. */
+#define QONVESHIR_NAMES 32
+#define QONVESHIR_VARIABLES 48
+/* Numbers of an entry: offset and length of a name or run name, in the record's
+   bytes, and the number of its terms. A name has one term. */
+#define QONVESHIR_ENTRY 3
+/* Numbers that an answer holds: the entries of ?0 to ?31, then of @0 to @15. */
+#define QONVESHIR_ANSWER (QONVESHIR_ENTRY * QONVESHIR_VARIABLES)
+/* Offset of a name or run name that is not free in the pattern; its length and
+   its number of terms are 0. */
 #define QONVESHIR_ABSENT 65535
 
 /* An allowance that is never spent on a pattern without run names. */
@@ -110,7 +116,7 @@ qonveshir_outcome qonveshir_match_with_classes(const uint8_t *table, size_t tabl
    name that is free in the pattern, in the order of the run names' first places
    outside complements, reading left to right, parents before children. Of two
    answers the first is the one with the smaller length where their lists first
-   differ. An answer shows runs in bytes; the caller counts the terms in them.
+   differ. An answer shows them: they are the third numbers of these run names.
    A pattern without free run names has one answer at most, whose list is empty.
 
    table, pattern, record: those for which the given answer was shown.

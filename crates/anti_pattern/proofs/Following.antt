@@ -306,6 +306,11 @@ map-join : (xs ys : List Env) → map (λ e. e .value) (xs ++ ys) ≡ map (λ e.
 map-join [] ys = refl
 map-join (x ∷ xs) ys = ap (x .value ∷_) (map-join xs ys)
 
+-- what is the same for each of some variables
+pub map-among : (f g : ℕ → ℕ) (vs : List ℕ) → ((v : ℕ) → among v vs ≡ true → f v ≡ g v) → map f vs ≡ map g vs
+map-among f g [] h = refl
+map-among f g (v ∷ vs) h = ap₂ _∷_ (h v (rw (eqb-same v))) (map-among f g vs (λ u m. h u (within-skip v vs vs (λ j k. k) u m)))
+
 length-map : (f : ℕ → ℕ) (vs : List ℕ) → length (map f vs) ≡ length vs
 length-map f [] = refl
 length-map f (v ∷ vs) = ap suc (length-map f vs)
@@ -524,12 +529,7 @@ module _ (l : Language) (k : Alike (l .table) (l .classes)) (q : Pattern) (t : T
       ∙ ap₂ (λ (x : Option ℕ) (y : Option Terms). orAbsent x (partOf (l .table) y) .elements) (p .2) (p .3) ∙ sym (ap lengthOf (p .3))
 
   lengths-shown : (a : Assignment) → Satisfies l q t a → lengthsShown q (partsAt (l .table) q t a) ≡ runLengths q a
-  lengths-shown a s = go (freeRuns q) (element-shown a s)
-    where
-      go : (vs : List ℕ) → ((v : ℕ) → among v vs ≡ true → getD (partsAt (l .table) q t a) v (part 0 0 0) .elements ≡ lengthOf (a v))
-          → map (λ v. getD (partsAt (l .table) q t a) v (part 0 0 0) .elements) vs ≡ map (λ v. lengthOf (a v)) vs
-      go [] h = refl
-      go (v ∷ vs) h = ap₂ _∷_ (h v (rw (eqb-same v))) (go vs (λ u m. h u (within-skip v vs vs (λ j k. k) u m)))
+  lengths-shown a s = map-among (λ v. getD (partsAt (l .table) q t a) v (part 0 0 0) .elements) (λ v. lengthOf (a v)) (freeRuns q) (element-shown a s)
 
   -- that the lengths of the next answer are given to the next call
   given-next : (b : Assignment) (ps : List Part) → Satisfies l q t b → ps ≡ partsAt (l .table) q t b → Given l q t (lengthsShown q ps) b

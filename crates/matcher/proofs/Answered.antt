@@ -1,10 +1,10 @@
 -- The answer on accepted input meets demands 2 and 3.
-use Prim.Native.Nat.{ℕ, _+_, _-_, _<_, _≤_}
+use Prim.Native.Nat.{ℕ, _+_, _-_, _<_, _≤_, _*_}
 use native.Mathlib.Omega.{arith}
 use mathlib.Core.Path.{_≡_, refl, sym, _∙_, ap, ap₂, subst}
 use mathlib.Core.List.{List, [], _∷_, _++_}
 use mathlib.Core.Bool.{Bool, true, false, cond}
-use mathlib.Core.Option.{Option, some}
+use mathlib.Core.Option.{Option, none, some}
 use lib.ListN.{length, getD, take, drop}
 use lib.Dec.{eqb}
 use borrow.Author.Tests.{eqb-true}
@@ -26,22 +26,25 @@ use Rattle.anti_pattern.proofs.Meter.{Metered, met}
 use Rattle.anti_pattern.specs.Place.{partOf, orAbsent, partAt, partsAt, eachVariable}
 use Rattle.anti_pattern.specs.Published.{NoRuns, assignment}
 use Rattle.anti_pattern.specs.Search.{Env, Outcome as Ended, found, failed, firstAnswer, whole}
-use Rattle.anti_pattern.specs.Variables.{vars, varsAll, free, among}
+use Rattle.anti_pattern.specs.Order.{lengthOf}
+use Rattle.anti_pattern.specs.Variables.{vars, varsAll, free, among, freeRuns}
 use Rattle.anti_pattern.proofs.Allowance.{answer-over, answer-within, bound-found}
 use Rattle.anti_pattern.proofs.Demands.{search-decides, parts-shown, answer-exact, published-agrees}
 use Rattle.anti_pattern.proofs.Within.{accepted-of}
 use Rattle.anti_pattern.proofs.First.{answer-satisfies}
+use Rattle.anti_pattern.proofs.Following.{map-among}
 use Rattle.anti_pattern.proofs.Metering.{meter-within, metered-first}
 use Rattle.anti_pattern.proofs.Placed.{Answers, first-answers}
 use Rattle.search.specs.Level.{Reply, searchOf}
 use Rattle.matcher.specs.Call.{answerNumber, answerCount, classesOf, languageOf, broughtAccepted, Input, Checked, trees, checked, told, answerBy, answerOf, numbers, written, bufferBy, bufferOf}
-use Rattle.matcher.specs.Demands.{offsetIn, lengthIn, Shows, Answered, Published}
+use Rattle.matcher.specs.Demands.{offsetIn, lengthIn, termsIn, Shows, Answered, Published}
 use Rattle.matcher.proofs.Represents.{Shown, Agrees, is-found}
-use Rattle.matcher.proofs.Buffers.{offset-shown, length-shown}
+use Rattle.matcher.proofs.Buffers.{shown-at}
 use Rattle.matcher.proofs.Checks.{input-checked}
+use Rattle.matcher.proofs.Followed.{free-runs-are}
 use Rattle.anti_pattern.proofs.Each.{each-at}
 use Rattle.matcher.proofs.Linked.{whole-agrees}
-use Rattle.search.specs.Shown.{answerWidth}
+use Rattle.search.specs.Shown.{entryWidth, answerWidth}
 
 -- the free variables of an accepted pattern are among the 48
 
@@ -85,41 +88,59 @@ module _ (table : List ℕ) (brought : Option (List ℕ)) (pattern bytes : List 
       vars-below table q 32 false (i .pattern-accepted .fits) v []
       (λ k. let z : _≡_ {A = ℕ} 0 1 = ap (λ (b : Bool). cond b 1 0) k in absurd (omega arith)) m
 
-  -- the pair of a variable, by what is assigned to it and by its first place
-  pair-is : (v : ℕ) → v < variables → (p : Part) → getD (parts table e) v (part 0 0 0) ≡ p
-      → (offsetIn (numbers (parts table e) ++ rest) v ≡ p .offset) × (lengthIn (numbers (parts table e) ++ rest) v ≡ p .length)
-  pair-is v low p z = (
-    offset-shown (parts table e) rest v low ∙ ap (λ (x : Part). x .offset) z,
-    length-shown (parts table e) rest v low ∙ ap (λ (x : Part). x .length) z,
-  )
+  -- the numbers of a variable, by what is assigned to it and by its first place
+  abbrev Entry : ℕ → Part → Type 0
+  Entry v p =
+      (offsetIn (numbers (parts table e) ++ rest) v ≡ p .offset) × (lengthIn (numbers (parts table e) ++ rest) v ≡ p .length)
+      × (termsIn (numbers (parts table e) ++ rest) v ≡ p .elements)
+
+  entry-is : (v : ℕ) → v < variables → (p : Part) → getD (parts table e) v (part 0 0 0) ≡ p → Entry v p
+  entry-is v low p z =
+      let start : entryWidth * v ≡ entryWidth * v + 0 = omega arith in (
+        ap (λ (i : ℕ). getD (numbers (parts table e) ++ rest) i 0) start ∙ shown-at (parts table e) rest v low 0 (omega arith) ∙ ap (λ (x : Part). x .offset) z,
+        shown-at (parts table e) rest v low 1 (omega arith) ∙ ap (λ (x : Part). x .length) z,
+        shown-at (parts table e) rest v low 2 (omega arith) ∙ ap (λ (x : Part). x .elements) z,
+      )
 
   each-is : (f : ℕ → Part) (v : ℕ) → v < variables → parts table e ≡ eachVariable f → getD (parts table e) v (part 0 0 0) ≡ f v
   each-is f v low z =
       let k : 0 + v ≡ v = omega arith in
       ap (λ (l : List Part). getD l v (part 0 0 0)) z ∙ each-at f 0 variables v low ∙ ap f k
 
-  value-pair : (v : ℕ) (w : Terms) → v < variables → e .value v ≡ some w
-      → (offsetIn (numbers (parts table e) ++ rest) v ≡ e .offset v) × (lengthIn (numbers (parts table e) ++ rest) v ≡ sizes table w)
-  value-pair v w low z =
-      pair-is v low (part (e .offset v) (sizes table w) (count w))
-      (each-is (λ u. partOf table (e .value u) (e .offset u)) v low refl ∙ ap (λ (x : Option Terms). partOf table x (e .offset v)) z)
+  part-entry : (v : ℕ) → v < variables → Entry v (partOf table (e .value v) (e .offset v))
+  part-entry v low = entry-is v low (partOf table (e .value v) (e .offset v)) (each-is (λ u. partOf table (e .value u) (e .offset u)) v low refl)
 
-  place-pair : (v : ℕ) → v < variables → (p : Part) → partAt table q t (e .value) v ≡ p
-      → (offsetIn (numbers (parts table e) ++ rest) v ≡ p .offset) × (lengthIn (numbers (parts table e) ++ rest) v ≡ p .length)
-  place-pair v low p z = pair-is v low p (each-is (partAt table q t (e .value)) v low (placed .shown-at-first-place e o) ∙ z)
+  value-entry : (v : ℕ) (w : Terms) → v < variables → e .value v ≡ some w → Entry v (part (e .offset v) (sizes table w) (count w))
+  value-entry v w low z = subst (λ (x : Option Terms). Entry v (partOf table x (e .offset v))) z (part-entry v low)
+
+  place-entry : (v : ℕ) → v < variables → (p : Part) → partAt table q t (e .value) v ≡ p → Entry v p
+  place-entry v low p z = entry-is v low p (each-is (partAt table q t (e .value)) v low (placed .shown-at-first-place e o) ∙ z)
+
+  length-shown : (v : ℕ) → v < variables → termsIn (numbers (parts table e) ++ rest) v ≡ lengthOf (e .value v)
+  length-shown v low = part-entry v low .2 ∙ go (e .value v)
+    where
+      go : (x : Option Terms) → partOf table x (e .offset v) .elements ≡ lengthOf x
+      go none = refl
+      go (some w) = refl
 
   pub env-shown : Shows table bytes q t (e .value) (numbers (parts table e) ++ rest)
   env-shown = record {
     first-place = λ v m.
         let f = placed .free-placed (e .value) satisfies v m in
-        f .2 ∙ ap some (sym (place-pair v (below v m) (part (f .0) (sizes table (f .1)) (count (f .1)))
+        f .2 ∙ ap some (sym (place-entry v (below v m) (part (f .0) (sizes table (f .1)) (count (f .1)))
         (ap₂ (λ (x : Option ℕ) (y : Option Terms). orAbsent x (partOf table y)) (f .2) (f .3)) .0));
-    value-length = λ v w m z. value-pair v w (below v m) z .1 ∙ sym (terms-sizes table w);
+    value-length = λ v w m z. value-entry v w (below v m) z .1 ∙ sym (terms-sizes table w);
     value-bytes = λ v w m z.
-        let p = value-pair v w (below v m) z in
+        let p = value-entry v w (below v m) z in
         let s = h .stands v w z in
         ap₂ (λ (n at : ℕ). take n (drop at bytes)) (p .1) (p .0) ∙ ap (take (sizes table w)) (s .stands) ∙ take-terms table w (s .after);
-    absent-mark = λ v low m. place-pair v low absent (placed .others-absent (e .value) satisfies v m);
+    value-terms = λ v w m z. value-entry v w (below v m) z .2;
+    name-term = λ v low m.
+        let f = placed .free-placed (e .value) satisfies v m in
+        value-entry v (f .1) (below v m) (f .3) .2 ∙ h .one v (f .1) low (f .3);
+    absent-mark = λ v low m. place-entry v low absent (placed .others-absent (e .value) satisfies v m);
+    run-lengths = map-among (termsIn (numbers (parts table e) ++ rest)) (λ v. lengthOf (e .value v)) (freeRuns q)
+        (λ v m. length-shown v (free-runs-are table pattern bytes q t i v m .1));
   }
 
 -- the number of what is told says which it is
@@ -129,12 +150,12 @@ spent-told (bound ps n) h = absurd (omega arith)
 spent-told (nothing n) h = absurd (omega arith)
 spent-told (spent n) h = (n, refl)
 
-none-told : (o : Outcome) → answerNumber (told o) ≡ 10 → (n : ℕ) × (o ≡ nothing n)
+pub none-told : (o : Outcome) → answerNumber (told o) ≡ 10 → (n : ℕ) × (o ≡ nothing n)
 none-told (bound ps n) h = absurd (omega arith)
 none-told (nothing n) h = (n, refl)
 none-told (spent n) h = absurd (omega arith)
 
-bound-told : (o : Outcome) → answerNumber (told o) ≡ 0 → (ps : List Part) × (n : ℕ) × (o ≡ bound ps n)
+pub bound-told : (o : Outcome) → answerNumber (told o) ≡ 0 → (ps : List Part) × (n : ℕ) × (o ≡ bound ps n)
 bound-told (bound ps n) h = (ps, n, refl)
 bound-told (nothing n) h = absurd (omega arith)
 bound-told (spent n) h = absurd (omega arith)

@@ -9,22 +9,18 @@ use Rattle.term.specs.Part.{part}
 use Rattle.term.specs.declared.Part.{Part}
 use Rattle.anti_pattern.specs.Answer.{Answer as Outcome, bound, nothing, spent}
 use Rattle.anti_pattern.proofs.Metering.{Split, enough, over, split}
-use Rattle.search.proofs.Shown.{numbers-length, numbers-offset, numbers-size}
+use Rattle.search.proofs.Shown.{numbers-length, numbers-at}
 use Rattle.matcher.specs.Call.{answerNumber, told, numbers, written}
-use Rattle.matcher.specs.Demands.{offsetIn, lengthIn}
-use Rattle.search.specs.Shown.{answerWidth}
+use Rattle.search.specs.Shown.{entry, entryWidth, answerWidth}
 
--- the pair that they have for a variable
+-- the k-th number that they have for a variable
 module _ (ps : List Part) (rest : List ℕ) (v : ℕ) (low : v < length ps) where
-  pub offset-shown : offsetIn (numbers ps ++ rest) v ≡ getD ps v (part 0 0 0) .offset
-  offset-shown = List·getD-append (numbers ps) rest 0 (2 * v) (omega (arith, numbers-length ps)) ∙ numbers-offset ps v low
-
-  pub length-shown : lengthIn (numbers ps ++ rest) v ≡ getD ps v (part 0 0 0) .length
-  length-shown = List·getD-append (numbers ps) rest 0 (2 * v + 1) (omega (arith, numbers-length ps)) ∙ numbers-size ps v low
+  pub shown-at : (k : ℕ) → k < entryWidth → getD (numbers ps ++ rest) (entryWidth * v + k) 0 ≡ getD (entry (getD ps v (part 0 0 0))) k 0
+  shown-at k h = List·getD-append (numbers ps) rest 0 (entryWidth * v + k) (omega (arith, numbers-length ps)) ∙ numbers-at k h ps v low
 
 -- what an answer leaves
 
--- numbers that leave a buffer's length as it is leave what lies past 96
+-- numbers that leave a buffer's length as it is leave what lies past 144
 pub past-written : (ps : List Part) (before after : List ℕ) → length after ≡ length before → after ≡ numbers ps ++ drop answerWidth before
     → drop answerWidth after ≡ drop answerWidth before
 past-written ps before after same e = go (split (length before) answerWidth)

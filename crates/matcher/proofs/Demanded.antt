@@ -41,7 +41,7 @@ refused-count (None n) r e = absurd (word-or-refusal 10 refl r e)
 refused-count (Spent n) r e = absurd (word-or-refusal 11 refl r e)
 refused-count (Refused x) r e = refl
 
--- a buffer of the same length keeps what lies past 96
+-- a buffer of the same length keeps what lies past 144
 pub written-past : (before : List ℕ) (o : Outcome) → length (written o before) ≡ length before → drop answerWidth (written o before) ≡ drop answerWidth before
 written-past before (bound ps n) same = past-written ps before (written (bound ps n) before) same refl
 written-past before (nothing n) same = refl

@@ -16,4 +16,6 @@ pub mod Answered
 pub mod Cost
 pub mod Matched
 pub mod Demanded
+pub mod Follows
+pub mod Calls
 pub mod NextDemanded

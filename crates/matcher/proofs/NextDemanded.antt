@@ -17,7 +17,7 @@ use Rattle.term.specs.declared.Refusal.{Refusal}
 use Rattle.term.specs.declared.Refusal.the-variants.{Unknown}
 use Rattle.anti_pattern.specs.Language.{language}
 use Rattle.anti_pattern.specs.Next.{Following, follows, unknown, nextCount, next}
-use Rattle.anti_pattern.specs.Answer.{bound, nothing, spent, parts}
+use Rattle.anti_pattern.specs.Answer.{bound, parts}
 use Rattle.anti_pattern.specs.Demands.{Given, NextAfter, UnknownLengths, NextExact}
 use Rattle.anti_pattern.specs.Meaning.{Assignment}
 use Rattle.anti_pattern.specs.Place.{partsAt}
@@ -39,10 +39,12 @@ use Rattle.matcher.specs.declared.Check.{Check}
 use Rattle.matcher.specs.declared.Check.the-variants.{Passed, Failed}
 use Rattle.matcher.proofs.Answered.{env-shown}
 use Rattle.matcher.proofs.Buffers.{written-untouched}
-use Rattle.matcher.proofs.Checks.{brought-alike, checked-input, input-checked}
+use Rattle.matcher.proofs.Calls.{every-call}
+use Rattle.matcher.proofs.Checks.{brought-alike, checked-input}
 use Rattle.matcher.proofs.Cost.{next-bounded}
 use Rattle.matcher.proofs.Demanded.{told-refused, refused-count, written-past, passes-by}
-use Rattle.matcher.proofs.Followed.{next-accepted, every-accepted}
+use Rattle.matcher.proofs.Followed.{next-accepted}
+use Rattle.matcher.proofs.Follows.{is-unknown, is-spent, is-none, is-bound, same-next}
 use Rattle.matcher.proofs.Matched.{told-parts, shown-by}
 use Rattle.matcher.proofs.NextBytes.{next-on-bytes, bound-stands}
 
@@ -96,30 +98,6 @@ module _ (table classes pattern bytes given before : List ℕ) (allowance : ℕ)
 
 -- With every check
 
-is-unknown : (f : Following) → answerNumber (toldNext f) ≡ numberOf Unknown → f ≡ unknown
-is-unknown (follows (bound ps n)) e = absurd (omega (arith, e))
-is-unknown (follows (nothing n)) e = absurd (omega (arith, e))
-is-unknown (follows (spent n)) e = absurd (omega (arith, e))
-is-unknown unknown e = refl
-
-is-spent : (f : Following) → answerNumber (toldNext f) ≡ 11 → (n : ℕ) × (f ≡ follows (spent n))
-is-spent (follows (bound ps n)) e = absurd (omega (arith, e))
-is-spent (follows (nothing n)) e = absurd (omega (arith, e))
-is-spent (follows (spent n)) e = (n, refl)
-is-spent unknown e = absurd (omega (arith, e))
-
-is-none : (f : Following) → answerNumber (toldNext f) ≡ 10 → (n : ℕ) × (f ≡ follows (nothing n))
-is-none (follows (bound ps n)) e = absurd (omega (arith, e))
-is-none (follows (nothing n)) e = (n, refl)
-is-none (follows (spent n)) e = absurd (omega (arith, e))
-is-none unknown e = absurd (omega (arith, e))
-
-is-bound : (f : Following) → answerNumber (toldNext f) ≡ 0 → (ps : List Part) × (n : ℕ) × (f ≡ follows (bound ps n))
-is-bound (follows (bound ps n)) e = (ps, n, refl)
-is-bound (follows (nothing n)) e = absurd (omega (arith, e))
-is-bound (follows (spent n)) e = absurd (omega (arith, e))
-is-bound unknown e = absurd (omega (arith, e))
-
 -- a refusal is unknown
 refused-unknown : (f : Following) (r : Refusal) → answerNumber (toldNext f) ≡ numberOf r → answerNumber (toldNext f) ≡ numberOf Unknown
 refused-unknown (follows o) r e = absurd (told-refused o r e)
@@ -139,17 +117,6 @@ module _ (table : List ℕ) (brought : Option (List ℕ)) (pattern bytes given b
       (i : Input table pattern bytes q t) where
     abbrev following : ℕ → Following
     following n = next (languageOf table brought) q t given n
-
-    same-next : (more : ℕ) → following more ≡ following allowance
-        → (nextOf table brought pattern bytes given more (length before) ≡ toldNext (following allowance))
-        × (nextBufferOf table brought pattern bytes given more before ≡ writtenNext (following allowance) before)
-    unfolding nextOf nextBufferOf
-    same-next more z =
-        let c : checked table brought pattern bytes (length before) ≡ trees q t =
-        input-checked table brought pattern bytes (length before) pattern-octets record-octets q t wide accepted i in (
-          ap (λ (x : Checked). nextBy x table brought given more) c ∙ ap toldNext z,
-          ap (λ (x : Checked). nextBufferBy x table brought given more before) c ∙ ap (λ (x : Following). writtenNext x before) z,
-        )
 
     alike : Alike table (classesOf brought)
     alike = brought-alike table brought accepted
@@ -198,8 +165,8 @@ module _ (table : List ℕ) (brought : Option (List ℕ)) (pattern bytes given b
             (refl, h .0, (h .1 .0, h .1 .1, h .1 .2, h .1 .3, refl))),
       );
       bound-shows = λ h. let s = is-bound (following allowance) h in bound-next (s .0) (s .1) (s .2);
-      larger-allowance = λ more h k. same-next more (exact .larger-allowance more h k);
-      every = every-accepted table pattern bytes q t i (classesOf brought) alike;
+      larger-allowance = λ more h k. same-next table brought pattern bytes given before allowance pattern-octets record-octets wide accepted q t i more (exact .larger-allowance more h k);
+      every = every-call table brought pattern bytes pattern-octets record-octets accepted q t i before wide;
     }
       where
         number : Following → ℕ
@@ -241,16 +208,16 @@ module _ (table : List ℕ) (brought : Option (List ℕ)) (pattern bytes given b
       refused-exactly = (
         λ e wide a q t i.
             next-answered wide a q t i .unknown-exactly .0 (refused-unknown (next (languageOf table brought) q t given allowance) (e .0)
-            (sym (ap answerNumber (same-next wide a q t i allowance refl .0)) ∙ e .1)),
+            (sym (ap answerNumber (same-next table brought pattern bytes given before allowance pattern-octets record-octets wide a q t i allowance refl .0)) ∙ e .1)),
         refused-of (checked table brought pattern bytes (length before)) refl,
       );
       refused-shows = refused-count (nextBy (checked table brought pattern bytes (length before)) table brought given allowance);
       untouched = untouched-of (checked table brought pattern bytes (length before));
       past-stays = past-of (checked table brought pattern bytes (length before)) same;
     };
-    answered = λ wide a q t i. let z = same-next wide a q t i allowance refl in rw (z .0, z .1) (next-answered wide a q t i);
+    answered = λ wide a q t i. let z = same-next table brought pattern bytes given before allowance pattern-octets record-octets wide a q t i allowance refl in rw (z .0, z .1) (next-answered wide a q t i);
     bounded = λ wide a q t i n.
-        rw (same-next wide a q t i allowance refl .0)
+        rw (same-next table brought pattern bytes given before allowance pattern-octets record-octets wide a q t i allowance refl .0)
         (next-bounded (languageOf table brought) table q (i .pattern-accepted) n t allowance given
         (next-accepted table pattern bytes q t i (classesOf brought) (brought-alike table brought a) given allowance));
   }
@@ -285,7 +252,7 @@ module _ (table : List ℕ) (brought : Option (List ℕ)) (pattern bytes given b
   next-passes e f classes same a after m long =
       let c = passes-by (checked table brought pattern bytes (length before)) (sym f ∙ e) in
       let i = checked-input table brought pattern bytes (length before) pattern-octets record-octets (c .0) (c .1) (c .2) in
-      let z = same-next (i .0) (i .1) (c .0) (c .1) (i .2) allowance refl in
+      let z = same-next table brought pattern bytes given before allowance pattern-octets record-octets (i .0) (i .1) (c .0) (c .1) (i .2) allowance refl in
       let g = bytes-followed table (classesOf brought) pattern bytes given before allowance (i .0) (brought-alike table brought (i .1)) (c .0) (c .1) (i .2) in
       let n = rw same at m in
       called a after (n .0 ∙ g .0 ∙ sym (z .0)) (n .1 ∙ g .1 ∙ sym (z .1)) long

@@ -103,7 +103,7 @@ answerOf table brought pattern bytes allowance width = answerBy (checked table b
 
 -- The answer buffer
 
--- "What lies past 96 stays."; "All but bound leave the answer buffer untouched."
+-- "what lies past 144 stays"; "All but bound leave the answer buffer untouched."
 abbrev pub written : Outcome → List ℕ → List ℕ
 written (bound parts count) before = numbers parts ++ drop answerWidth before
 written (nothing count) before = before

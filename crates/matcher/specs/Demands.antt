@@ -2,37 +2,41 @@
 use Prim.Native.Nat.{ℕ, zero, _+_, _*_, _<_, _≤_}
 use mathlib.Core.Path.{_≡_}
 use mathlib.Core.Logic.{_⊎_, _↔_}
-use mathlib.Core.List.{List, []}
+use mathlib.Core.List.{List, [], _∷_, map}
 use mathlib.Core.Bool.{true, false}
 use mathlib.Core.Option.{Option, none, some}
 use lib.ListN.{length, getD, take, drop}
-use Rattle.term.specs.Code.{variables}
-use Rattle.term.specs.Term.{Term, Terms, termsBytes}
+use Rattle.term.specs.Code.{names, variables}
+use Rattle.term.specs.Term.{Term, Terms, count, termsBytes}
 use Rattle.term.specs.Pattern.{Pattern}
 use Rattle.term.specs.Refusal.{numberOf}
 use Rattle.term.specs.declared.Refusal.{Refusal}
 use Rattle.term.specs.declared.Refusal.the-variants.{Unknown}
 use Rattle.anti_pattern.specs.AntiTerm.{Substitution}
 use Rattle.anti_pattern.specs.Answer.{countOf}
-use Rattle.anti_pattern.specs.Demands.{First, Unsatisfied, OneForEach, UnknownLengths, Given, NextAfter, Last, EveryAnswer}
+use Rattle.anti_pattern.specs.Demands.{First, Unsatisfied, OneForEach, UnknownLengths, Given, NextAfter, Last, Enumerates, assignments}
 use Rattle.anti_pattern.specs.Language.{Language}
 use Rattle.anti_pattern.specs.Meaning.{Assignment, CountAsOne}
 use Rattle.anti_pattern.specs.Next.{nextCount}
-use Rattle.anti_pattern.specs.Place.{place}
+use Rattle.anti_pattern.specs.Order.{runLengths}
+use Rattle.anti_pattern.specs.Place.{place, partsAt}
 use Rattle.anti_pattern.specs.Published.{Solution, NoRuns, anti, assignment}
-use Rattle.anti_pattern.specs.Variables.{free, among}
-use Rattle.matcher.specs.Call.{answerNumber, answerCount, languageOf, broughtAccepted, Input, answerOf, bufferOf}
+use Rattle.anti_pattern.specs.Variables.{free, among, freeRuns}
+use Rattle.matcher.specs.Call.{answerNumber, answerCount, languageOf, broughtAccepted, Input, numbers, answerOf, bufferOf}
 use Rattle.matcher.specs.Cost.{Bounded, NextBounded}
 use Rattle.matcher.specs.Next.{nextOf, nextBufferOf}
 use Rattle.matcher.specs.declared.Answer.{Answer}
-use Rattle.search.specs.Shown.{answerWidth}
+use Rattle.search.specs.Shown.{entryWidth, answerWidth}
 
--- the pair that a buffer has for a variable
+-- the numbers that a buffer has for a variable
 abbrev pub offsetIn : List ℕ → ℕ → ℕ
-offsetIn buffer v = getD buffer (2 * v) 0
+offsetIn buffer v = getD buffer (entryWidth * v) 0
 
 abbrev pub lengthIn : List ℕ → ℕ → ℕ
-lengthIn buffer v = getD buffer (2 * v + 1) 0
+lengthIn buffer v = getD buffer (entryWidth * v + 1) 0
+
+abbrev pub termsIn : List ℕ → ℕ → ℕ
+termsIn buffer v = getD buffer (entryWidth * v + 2) 0
 
 -- a buffer shows an assignment: of each free variable the part of the record that is its value, at its first place outside complements
 pub record Shows (table bytes : List ℕ) (q : Pattern) (t : Term) (x : Assignment) (buffer : List ℕ) : Type 0 where
@@ -40,8 +44,13 @@ pub record Shows (table bytes : List ℕ) (q : Pattern) (t : Term) (x : Assignme
   pub value-length : (v : ℕ) (w : Terms) → among v (free q) ≡ true → x v ≡ some w → lengthIn buffer v ≡ length (termsBytes table w [])
   pub value-bytes : (v : ℕ) (w : Terms) → among v (free q) ≡ true → x v ≡ some w
       → take (lengthIn buffer v) (drop (offsetIn buffer v) bytes) ≡ termsBytes table w []
-  -- "A name that is not free shows the absent mark, 65,535 and 0."
-  pub absent-mark : (v : ℕ) → v < variables → among v (free q) ≡ false → (offsetIn buffer v ≡ 65535) × (lengthIn buffer v ≡ 0)
+  pub value-terms : (v : ℕ) (w : Terms) → among v (free q) ≡ true → x v ≡ some w → termsIn buffer v ≡ count w
+  -- "A name has one term"
+  pub name-term : (v : ℕ) → v < names → among v (free q) ≡ true → termsIn buffer v ≡ 1
+  -- "an absent name or run name shows 65,535, 0, 0"
+  pub absent-mark : (v : ℕ) → v < variables → among v (free q) ≡ false → (offsetIn buffer v ≡ 65535) × (lengthIn buffer v ≡ 0) × (termsIn buffer v ≡ 0)
+  -- the lengths by which the next answer is asked for
+  pub run-lengths : map (termsIn buffer) (freeRuns q) ≡ runLengths q x
 
 module _ (table : List ℕ) (brought : Option (List ℕ)) where
   abbrev l : Language
@@ -71,6 +80,31 @@ module _ (table : List ℕ) (brought : Option (List ℕ)) where
     -- it is the only substitution there is
     pub only-one : (σ ρ : Substitution) → Solution l (anti q n) t σ → Solution l (anti q n) t ρ → CountAsOne l (assignment σ) (assignment ρ)
 
+  -- Every answer, for whoever only has the calls: what those after the one that showed these lengths show, each with the lengths shown before, until
+  -- there is none. Each call has an allowance and a buffer of its own.
+  pub data NextCalls (pattern bytes : List ℕ) (q : Pattern) : List ℕ → List (List ℕ) → Type 0 where
+    no-more : {given : List ℕ} (allowance : ℕ) (before : List ℕ) → answerWidth ≤ length before
+        → answerNumber (nextOf table brought pattern bytes given allowance (length before)) ≡ 10 → NextCalls pattern bytes q given []
+    one-more : {given : List ℕ} {shown : List (List ℕ)} (allowance : ℕ) (before : List ℕ) → answerWidth ≤ length before
+        → answerNumber (nextOf table brought pattern bytes given allowance (length before)) ≡ 0
+        → NextCalls pattern bytes q (map (termsIn (nextBufferOf table brought pattern bytes given allowance before)) (freeRuns q)) shown
+        → NextCalls pattern bytes q given (take answerWidth (nextBufferOf table brought pattern bytes given allowance before) ∷ shown)
+
+  -- and from the first on
+  pub data AllCalls (pattern bytes : List ℕ) (q : Pattern) : List (List ℕ) → Type 0 where
+    none-at-all : (allowance : ℕ) (before : List ℕ) → answerWidth ≤ length before
+        → answerNumber (answerOf table brought pattern bytes allowance (length before)) ≡ 10 → AllCalls pattern bytes q []
+    from-first : {shown : List (List ℕ)} (allowance : ℕ) (before : List ℕ) → answerWidth ≤ length before
+        → answerNumber (answerOf table brought pattern bytes allowance (length before)) ≡ 0
+        → NextCalls pattern bytes q (map (termsIn (bufferOf table brought pattern bytes allowance before)) (freeRuns q)) shown
+        → AllCalls pattern bytes q (take answerWidth (bufferOf table brought pattern bytes allowance before) ∷ shown)
+
+  -- "while no call is spent, the answers from the first on are all satisfying assignments, each once, in order"; and there are such calls
+  pub record EveryCall (pattern bytes : List ℕ) (q : Pattern) (t : Term) : Type 0 where
+    pub listed : Enumerates l q t (assignments l q t)
+    pub shown : (nss : List (List ℕ)) → AllCalls pattern bytes q nss → nss ≡ map (λ x. numbers (partsAt table q t x)) (assignments l q t)
+    pub callable : AllCalls pattern bytes q (map (λ x. numbers (partsAt table q t x)) (assignments l q t))
+
   -- The next answer (document 02, L3), for the trees of accepted input
   pub record NextAnswered (pattern bytes given before : List ℕ) (allowance : ℕ) (q : Pattern) (t : Term) (a : Answer) (after : List ℕ) : Type 0 where
     -- 15 exactly for unknown lengths
@@ -90,7 +124,7 @@ module _ (table : List ℕ) (brought : Option (List ℕ)) where
     pub larger-allowance : (more : ℕ) → nextCount l q t given ≤ allowance → allowance ≤ more
         → (nextOf table brought pattern bytes given more (length before) ≡ a) × (nextBufferOf table brought pattern bytes given more before ≡ after)
     -- the answers from the first on are all
-    pub every : EveryAnswer l q t
+    pub every : EveryCall pattern bytes q t
 
 -- Demand 1: any input gets an answer or a numbered refusal; the order of the checks is that of `checked` (Call)
 pub record Handled (table : List ℕ) (brought : Option (List ℕ)) (pattern bytes : List ℕ) (Unanswered : Pattern → Term → Type 0) (before : List ℕ)
@@ -100,7 +134,7 @@ pub record Handled (table : List ℕ) (brought : Option (List ℕ)) (pattern byt
   pub refused-exactly : ((r : Refusal) × (answerNumber a ≡ numberOf r))
       ↔ (answerWidth ≤ length before → broughtAccepted table brought ≡ true → (q : Pattern) (t : Term) → Input table pattern bytes q t → Unanswered q t)
   pub refused-shows : (r : Refusal) → answerNumber a ≡ numberOf r → answerCount a ≡ 0
-  -- "Unless a rule was bound the answer buffer is untouched"; "What lies past 96 stays."
+  -- "Unless a rule was bound the answer buffer is untouched"; "what lies past 144 stays"
   pub untouched : (answerNumber a ≡ 0 → ⊥) → after ≡ before
   pub past-stays : drop answerWidth after ≡ drop answerWidth before
 

@@ -29,7 +29,7 @@ use Rattle.sheet.proofs.Checks.{accepted-directed}
 use Rattle.sheet.proofs.Contents.{contents-passed}
 use Rattle.sheet.proofs.Entries.{entries-count}
 use Rattle.sheet.proofs.Lengths.{split-length}
-use Rattle.matcher.specs.Call.{languageOf, broughtAccepted}
+use Rattle.matcher.specs.Call.{answerWidth, languageOf, broughtAccepted}
 use Rattle.rules.specs.Answer.{ruleIndex}
 use Rattle.rules.specs.Call.{fault, rulesOf, checkedBy, checked, told, answerBy, answerOf}
 use Rattle.rules.proofs.Rules.{rules-few}
@@ -118,7 +118,7 @@ pub rules-index : (table : List ℕ) (brought : Option (List ℕ)) (sheet bytes 
     → ruleIndex (answerOf table brought sheet bytes allowance width) ≤ longestSheet
 unfolding answerOf checked
 rules-index table brought sheet bytes allowance width =
-    go (ltb width 96) (tableAccepted table) (broughtAccepted table brought) (checkRules table sheet) refl (readRecord table bytes)
+    go (ltb width answerWidth) (tableAccepted table) (broughtAccepted table brought) (checkRules table sheet) refl (readRecord table bytes)
   where
     go : (a p d : Bool) (x : Checked) → checkRules table sheet ≡ x → (y : Reading Term)
         → ruleIndex (answerBy (cond a (fault Narrow 0) (cond p (cond d (checkedBy x (rulesOf table (entries sheet)) y) (fault Class 0)) (fault Table 0)))

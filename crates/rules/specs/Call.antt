@@ -95,7 +95,7 @@ answerBy (trees qs t) table brought allowance = told (tryRules (languageOf table
 unfoldable pub answerOf : List ℕ → Option (List ℕ) → List ℕ → List ℕ → ℕ → ℕ → RuleAnswer
 answerOf table brought sheet bytes allowance width = answerBy (checked table brought sheet bytes width) table brought allowance
 
--- The answer buffer: the pairs of the rule that is bound. "What lies past 96 stays."; "All but bound leave the answer buffer untouched."
+-- The answer buffer: the entries of the rule that is bound. "what lies past 144 stays"; "All but bound leave the answer buffer untouched."
 
 abbrev pub written : Trial → List ℕ → List ℕ
 written (boundAt i parts sum) before = numbers parts ++ drop answerWidth before

@@ -102,7 +102,7 @@ pub record Handled (table : List ℕ) (brought : Option (List ℕ)) (sheet bytes
   pub refused-exactly : ((r : Refusal) × (ruleNumber a ≡ numberOf r))
       ↔ (answerWidth ≤ length before → broughtAccepted table brought ≡ true → (qs : List Pattern) (t : Term) → Input table sheet bytes qs t → ⊥)
   pub refused-shows : (r : Refusal) → ruleNumber a ≡ numberOf r → ruleCount a ≡ 0
-  -- "Unless a rule was bound the answer buffer is untouched"; "What lies past 96 stays."
+  -- "Unless a rule was bound the answer buffer is untouched"; "what lies past 144 stays"
   pub untouched : (ruleNumber a ≡ 0 → ⊥) → after ≡ before
   pub past-stays : drop answerWidth after ≡ drop answerWidth before
 

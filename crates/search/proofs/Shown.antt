@@ -2,12 +2,11 @@
 -- Assumes nothing.
 use Prim.Native.Nat.{ℕ, zero, suc, _+_, _-_, _*_, _/_, _%_, _^_, _<_, _≤_}
 use native.Mathlib.Omega.{arith}
-use native.Mathlib.Numerals.{add-one}
 use mathlib.Core.Path.{_≡_, refl, sym, _∙_, ap, ap₂}
 use mathlib.Core.List.{List, [], _∷_, _++_}
 use mathlib.Core.Bool.{Bool, true, false, _&&_, true≢false}
-use lib.ListN.{length, getD, drop, set, replicate, length-set, getD-replicate}
-use lib.Seq.{getD-set-same, getD-set-other, set-append-left, drop-at, paste, paste-zero, paste-suc}
+use lib.ListN.{length, getD, drop, set, replicate, length-set, getD-replicate, List·getD-append}
+use lib.Seq.{getD-set-same, getD-set-other, drop-at, paste, paste-zero, paste-suc}
 use lib.Dec.{leb, eqb}
 use borrow.Author.Tests.{lt-ltb, le-ltb, le-leb, eqb-true, eqb-false}
 use Rattle.term.specs.Limits.{longestRecord, longestPattern}
@@ -15,7 +14,7 @@ use Rattle.term.specs.Code.{variables}
 use Rattle.term.specs.Part.{nowhere, part, absent}
 use Rattle.term.specs.declared.Part.{Part}
 use Rattle.search.specs.Level.{Reply, levels, endOf, searchOf}
-use Rattle.search.specs.Shown.{answerWidth, numbers, shownBy, shownIn}
+use Rattle.search.specs.Shown.{entry, numbers, entryWidth, answerWidth, setEntry, shownBy, shownIn}
 use Rattle.search.specs.Inner.Memory.{partIn}
 use Rattle.search.specs.Inner.Replies.{found, partsIn, replyWith, replyOf, EndsAtOnce}
 use Rattle.search.specs.declared.Ended.{Ended}
@@ -27,39 +26,34 @@ use Rattle.search.proofs.Levels.{search-over}
 
 -- the numbers of parts
 
-pub numbers-length : (ps : List Part) → length (numbers ps) ≡ 2 * length ps
+entry-length : (p : Part) → length (entry p) ≡ entryWidth
+entry-length p = refl
+
+pub numbers-length : (ps : List Part) → length (numbers ps) ≡ entryWidth * length ps
 numbers-length [] = refl
 numbers-length (p ∷ ps) = omega (arith, numbers-length ps)
 
-pub numbers-offset : (ps : List Part) (v : ℕ) → v < length ps → getD (numbers ps) (2 * v) 0 ≡ getD ps v (part 0 0 0) .offset
-numbers-offset [] v h = absurd (omega arith)
-numbers-offset (p ∷ ps) zero h = refl
-numbers-offset (p ∷ ps) (suc v) h =
-    let z : 2 * suc v ≡ suc (suc (2 * v)) = omega arith in
-    ap (λ (i : ℕ). getD (numbers (p ∷ ps)) i 0) z ∙ numbers-offset ps v (omega arith)
+-- the k-th number of each entry
+pub numbers-at : (k : ℕ) → k < entryWidth → (ps : List Part) (v : ℕ) → v < length ps
+    → getD (numbers ps) (entryWidth * v + k) 0 ≡ getD (entry (getD ps v (part 0 0 0))) k 0
+numbers-at k low [] v h = absurd (omega arith)
+numbers-at k low (p ∷ ps) zero h =
+    let z : entryWidth * 0 + k ≡ k = omega arith in
+    ap (λ (i : ℕ). getD (numbers (p ∷ ps)) i 0) z ∙ List·getD-append (entry p) (numbers ps) 0 k low
+numbers-at k low (p ∷ ps) (suc v) h =
+    let z : entryWidth * suc v + k ≡ suc (suc (suc (entryWidth * v + k))) = omega arith in
+    ap (λ (i : ℕ). getD (numbers (p ∷ ps)) i 0) z ∙ numbers-at k low ps v (omega arith)
 
-pub numbers-size : (ps : List Part) (v : ℕ) → v < length ps → getD (numbers ps) (2 * v + 1) 0 ≡ getD ps v (part 0 0 0) .length
-numbers-size [] v h = absurd (omega arith)
-numbers-size (p ∷ ps) zero h = refl
-numbers-size (p ∷ ps) (suc v) h =
-    let z : 2 * suc v + 1 ≡ suc (suc (2 * v + 1)) = omega arith in
-    ap (λ (i : ℕ). getD (numbers (p ∷ ps)) i 0) z ∙ numbers-size ps v (omega arith)
+pub set-entry-length : (l : List ℕ) (v : ℕ) (p : Part) → length (setEntry l v p) ≡ length l
+set-entry-length l v p = simp length-set refl
 
-pair-set : (ps : List Part) (v : ℕ) (p : Part) → set (set (numbers ps) (2 * v) (p .offset)) (2 * v + 1) (p .length) ≡ numbers (set ps v p)
-pair-set [] v p = refl
-pair-set (q ∷ ps) zero p = refl
-pair-set (q ∷ ps) (suc v) p =
-    let z : 2 * suc v ≡ suc (suc (2 * v)) = omega arith in
-    let y : suc (suc (2 * v)) + 1 ≡ suc (suc (2 * v + 1)) = omega arith in
-    rw (z, y) (ap (λ (l : List ℕ). q .offset ∷ q .length ∷ l) (pair-set ps v p))
-
-pair-shown : (ps : List Part) (rest : List ℕ) (i : ℕ) (p : Part) → i < length ps
-    → set (set (numbers ps ++ rest) (2 * i) (p .offset)) (2 * i + 1) (p .length) ≡ numbers (set ps i p) ++ rest
-pair-shown ps rest i p h =
-    ap (λ (l : List ℕ). set l (2 * i + 1) (p .length)) (set-append-left (numbers ps) rest (2 * i) (p .offset) (omega (arith, numbers-length ps)))
-    ∙ set-append-left (set (numbers ps) (2 * i) (p .offset)) rest (2 * i + 1) (p .length)
-    (omega (arith, numbers-length ps, length-set (numbers ps) (2 * i) (p .offset)))
-    ∙ ap (λ (l : List ℕ). l ++ rest) (pair-set ps i p)
+entry-set : (ps : List Part) (rest : List ℕ) (v : ℕ) (p : Part) → v < length ps → setEntry (numbers ps ++ rest) v p ≡ numbers (set ps v p) ++ rest
+entry-set [] rest v p h = absurd (omega arith)
+entry-set (q ∷ ps) rest zero p h = refl
+entry-set (q ∷ ps) rest (suc v) p h =
+    let z : entryWidth * suc v ≡ suc (suc (suc (entryWidth * v))) = omega arith in
+    let y : (k : ℕ) → suc (suc (suc (entryWidth * v))) + k ≡ suc (suc (suc (entryWidth * v + k))) = λ k. omega arith in
+    rw (z, y 1, y 2) (ap (λ (l : List ℕ). entry q ++ l) (entry-set ps rest v p (omega arith)))
 
 -- the parts that mask and parts stand for
 
@@ -80,45 +74,45 @@ module _ (assigned : ℕ) (parts : List ℕ) where
 abbrev marks : List ℕ
 marks = numbers (replicate variables absent)
 
--- the first i pairs are absent marks
+-- the first i entries are absent marks
 pub record Clearing (before b : List ℕ) (i : ℕ) : Type 0 where
   pub few : i ≤ variables
   pub long : length b ≡ length before
-  pub pairs : b ≡ paste before 0 marks (2 * i)
+  pub entries : b ≡ paste before 0 marks (entryWidth * i)
 
 pub clear-first : (before : List ℕ) → Clearing before before 0
-clear-first before = record { few = omega arith; long = refl; pairs = paste-zero before 0 marks }
+clear-first before = record { few = omega arith; long = refl; entries = paste-zero before 0 marks }
 
-module _ (before : List ℕ) where
-  mark-written : answerWidth ≤ length before → (n m : ℕ) → n < answerWidth → m ≡ getD marks n 0 → set (paste before 0 marks n) n m ≡ paste before 0 marks (suc n)
-  mark-written wide n m h e =
-      let z : n ≡ 0 + n = omega arith in
-      ap₂ (λ (k x : ℕ). set (paste before 0 marks n) k x) z e ∙ paste-suc before 0 marks n 0 (omega arith) (omega arith)
+module _ (before : List ℕ) (wide : answerWidth ≤ length before) where
+  mark-written : (i k m : ℕ) → i < variables → k < entryWidth → m ≡ getD (entry absent) k 0
+      → set (paste before 0 marks (entryWidth * i + k)) (entryWidth * i + k) m ≡ paste before 0 marks (entryWidth * i + suc k)
+  mark-written i k m h low e =
+      let z : entryWidth * i + k ≡ 0 + (entryWidth * i + k) = omega arith in
+      let y : suc (entryWidth * i + k) ≡ entryWidth * i + suc k = omega arith in
+      let here = getD-replicate variables i absent (part 0 0 0) h in
+      ap₂ (λ (j x : ℕ). set (paste before 0 marks (entryWidth * i + k)) j x) z
+      (e ∙ ap (λ (q : Part). getD (entry q) k 0) (sym here) ∙ sym (numbers-at k low (replicate variables absent) i h))
+      ∙ paste-suc before 0 marks (entryWidth * i + k) 0 (omega arith) (omega arith) ∙ ap (paste before 0 marks) y
 
   module _ {b : List ℕ} {i : ℕ} (t : Clearing before b i) where
-    pub clear-next : answerWidth ≤ length before → i < variables → Clearing before (set (set b (2 * i) nowhere) (2 * i + 1) 0) (i + 1)
-    clear-next wide h = record {
+    pub clear-next : i < variables → Clearing before (setEntry b i absent) (i + 1)
+    clear-next h = record {
       few = omega arith;
-      long = length-set (set b (2 * i) nowhere) (2 * i + 1) 0 ∙ length-set b (2 * i) nowhere ∙ t .long;
-      pairs = ap (λ (l : List ℕ). set (set l (2 * i) nowhere) (2 * i + 1) 0) (t .pairs)
-          ∙ ap (λ (l : List ℕ). set l (2 * i + 1) 0) (first ∙ ap (paste before 0 marks) (sym (add-one (2 * i))))
-          ∙ second ∙ ap (paste before 0 marks) last;
+      long = set-entry-length b i absent ∙ t .long;
+      entries = ap (λ (l : List ℕ). setEntry l i absent) (t .entries ∙ ap (paste before 0 marks) first)
+          ∙ ap (λ (l : List ℕ). set (set l (entryWidth * i + 1) 0) (entryWidth * i + 2) 0) (ap (λ (j : ℕ). set (paste before 0 marks (entryWidth * i + 0)) j nowhere) first ∙ mark-written i 0 nowhere h (omega arith) refl)
+          ∙ ap (λ (l : List ℕ). set l (entryWidth * i + 2) 0) (mark-written i 1 0 h (omega arith) refl)
+          ∙ mark-written i 2 0 h (omega arith) refl ∙ ap (paste before 0 marks) last;
     }
       where
-        here : getD (replicate variables absent) i (part 0 0 0) ≡ absent
-        here = getD-replicate variables i absent (part 0 0 0) h
+        first : entryWidth * i ≡ entryWidth * i + 0
+        first = omega arith
 
-        first : set (paste before 0 marks (2 * i)) (2 * i) nowhere ≡ paste before 0 marks (suc (2 * i))
-        first = mark-written wide (2 * i) nowhere (omega arith) (ap (λ (q : Part). q .offset) (sym here) ∙ sym (numbers-offset (replicate variables absent) i h))
-
-        second : set (paste before 0 marks (2 * i + 1)) (2 * i + 1) 0 ≡ paste before 0 marks (suc (2 * i + 1))
-        second = mark-written wide (2 * i + 1) 0 (omega arith) (ap (λ (q : Part). q .length) (sym here) ∙ sym (numbers-size (replicate variables absent) i h))
-
-        last : suc (2 * i + 1) ≡ 2 * (i + 1)
+        last : entryWidth * i + entryWidth ≡ entryWidth * (i + 1)
         last = omega arith
 
     pub clear-end : variables ≤ i → b ≡ marks ++ drop answerWidth before
-    clear-end h = let z : 2 * i ≡ answerWidth = omega (arith, t .few) in t .pairs ∙ ap (paste before 0 marks) z
+    clear-end h = let z : entryWidth * i ≡ answerWidth = omega (arith, t .few) in t .entries ∙ ap (paste before 0 marks) z
 
 -- what a mask shows
 
@@ -156,21 +150,20 @@ module _ (parts : List ℕ) (a : ℕ) where
 pub record Showing (parts : List ℕ) (a : ℕ) (before b : List ℕ) (i : ℕ) : Type 0 where
   pub few : i ≤ variables
   pub long : length b ≡ length before
-  pub pairs : b ≡ numbers (partsIn (a % 2 ^ i) parts 0 variables) ++ drop answerWidth before
+  pub entries : b ≡ numbers (partsIn (a % 2 ^ i) parts 0 variables) ++ drop answerWidth before
 
 module _ (parts : List ℕ) (a : ℕ) (before : List ℕ) {b : List ℕ} {i : ℕ} (t : Showing parts a before b i) where
-  pub show-next : i < variables → (k x y : ℕ) → k ≡ i → x ≡ partIn a parts i .offset → y ≡ partIn a parts i .length
-      → Showing parts a before (set (set b (2 * k) x) (2 * k + 1) y) (i + 1)
-  show-next h k x y e f g = record {
+  pub show-next : i < variables → (k : ℕ) (p : Part) → k ≡ i → p ≡ partIn a parts i → Showing parts a before (setEntry b k p) (i + 1)
+  show-next h k p e f = record {
     few = omega arith;
-    long = length-set (set b (2 * k) x) (2 * k + 1) y ∙ length-set b (2 * k) x ∙ t .long;
-    pairs = rw (e, f, g, t .pairs)
-        (pair-shown (partsIn (a % 2 ^ i) parts 0 variables) (drop answerWidth before) i (partIn a parts i) (omega (arith, parts-length (a % 2 ^ i) parts 0 variables))
+    long = set-entry-length b k p ∙ t .long;
+    entries = rw (e, f, t .entries)
+        (entry-set (partsIn (a % 2 ^ i) parts 0 variables) (drop answerWidth before) i (partIn a parts i) (omega (arith, parts-length (a % 2 ^ i) parts 0 variables))
         ∙ ap (λ (l : List Part). numbers l ++ drop answerWidth before) (next-part parts a i h));
   }
 
   pub show-end : a / 2 ^ i ≡ 0 → b ≡ numbers (partsIn a parts 0 variables) ++ drop answerWidth before
-  show-end e = t .pairs ∙ ap (λ (m : ℕ). numbers (partsIn m parts 0 variables) ++ drop answerWidth before) (whole a i e)
+  show-end e = t .entries ∙ ap (λ (m : ℕ). numbers (partsIn m parts 0 variables) ++ drop answerWidth before) (whole a i e)
 
 -- a buffer that shows some parts shows the same parts, and the rest of it stays
 module _ (ps : List Part) (all : length ps ≡ variables) (before b : List ℕ) (e : b ≡ numbers ps ++ drop answerWidth before) where

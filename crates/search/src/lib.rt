@@ -30,12 +30,12 @@ ghost use Rattle.search.specs.Spread.{pastOf};
 ghost use Rattle.search.specs.Following.{nextPass, followedOf, shownPass, shownKnown};
 ghost use Rattle.search.specs.Inner.GivenReplies.{resuming, resumedAs, leftBy, FurtherIs, GivenFollows, GivenIs, SpreadIs};
 ghost use Rattle.search.specs.Inner.Bounds.{Short, Ready, Walks, StopsAt, Unassigned, reached};
-ghost use Rattle.search.specs.Shown.{answerWidth, numbers, shownBy, shownIn};
+ghost use Rattle.search.specs.Shown.{answerWidth, numbers, setEntry, shownBy, shownIn};
 ghost use Rattle.search.specs.Inner.Replies.{failure, found, turned, partsIn, inside, Free, Between, runStart, Resting, Testable, Decides, RestIs, FollowIs, ComplementIs, ComplementsAre};
 ghost use Rattle.search.specs.Inner.Halts.{haltedAs, runOf, stopIn, reportedBy, Reports, Halting, RestBy, LevelBy, PairsAre};
 
-// The numbers that a variable is shown with: offset and length.
-pub const ENTRY_WIDTH: usize = 2;
+// The numbers that a variable is shown with: offset, length and number of terms.
+pub const ENTRY_WIDTH: usize = 3;
 
 // The numbers of an answer.
 pub const ANSWER_WIDTH: usize = ENTRY_WIDTH * VARIABLES;
@@ -1543,6 +1543,18 @@ fn spread(table: &[u8], pattern: &[u8], given: &[u16], lengths: &mut [u16; VARIA
     n == given.len()
 }
 
+// The entry of a variable.
+fn put_entry(p: Part, v: usize, answer: &mut [u16])
+    requires { ⌜ v < variables ⌝ }
+    requires { ⌜ answerWidth ≤ length (now answer) ⌝ }
+    ensures { λ _. ⌜ now (answer .exit) ≡ setEntry (now (answer .entry)) v p ⌝ }
+{
+    let at = ENTRY_WIDTH * v;
+    answer[at] = p.offset;
+    answer[at + 1] = p.length;
+    answer[at + 2] = p.elements as u16;
+}
+
 // Absent marks for every name and run name.
 fn clear(answer: &mut [u16])
     requires { ⌜ answerWidth ≤ length (now answer) ⌝ }
@@ -1550,13 +1562,12 @@ fn clear(answer: &mut [u16])
 {
     let mut v: usize = 0;
     while v < VARIABLES {
-        answer[ENTRY_WIDTH * v] = Part::ABSENT.offset;
-        answer[ENTRY_WIDTH * v + 1] = Part::ABSENT.length;
+        put_entry(Part::ABSENT, v, answer);
         v = v + 1;
     }
 }
 
-// Offset and length of what the variables of this mask are assigned, where those below `first` are shown and the others have absent marks.
+// The entries of what the variables of this mask are assigned, where those below `first` are shown and the others have absent marks.
 fn show_from(parts: &[u64; PARTS], assigned: u64, first: u8, answer: &mut [u16])
     requires { ⌜ assigned < 2 ^ variables ⌝ }
     requires { ⌜ first ≤ variables ⌝ }
@@ -1566,15 +1577,12 @@ fn show_from(parts: &[u64; PARTS], assigned: u64, first: u8, answer: &mut [u16])
 {
     let mut i = first;
     while 0 < assigned >> i {
-        let j = wide(i);
-        let p = part_of(parts, assigned, i);
-        answer[ENTRY_WIDTH * j] = p.offset;
-        answer[ENTRY_WIDTH * j + 1] = p.length;
+        put_entry(part_of(parts, assigned, i), wide(i), answer);
         i = i + 1;
     }
 }
 
-// The same where nothing is assigned.
+// Absent marks for what is found where nothing is assigned.
 fn show_absent(end: Outcome, answer: &mut [u16])
     ensures { λ _. ⌜ now (answer .exit) ≡ shownBy end (replicate variables absent) (now (answer .entry)) ⌝ }
 {
@@ -1587,8 +1595,8 @@ fn show_absent(end: Outcome, answer: &mut [u16])
     clear(answer);
 }
 
-// What is found is shown in a buffer of `ANSWER_WIDTH` numbers or more: offset and length of what each name and run name is assigned, and absent marks for
-// those that are not. All else stays.
+// What is found is shown in a buffer of `ANSWER_WIDTH` numbers or more: an entry for each name and run name, absent marks for those that are
+// not assigned. All else stays.
 fn show(outcome: Outcome, parts: &[u64; PARTS], assigned: u64, answer: &mut [u16])
     ensures { λ _. ⌜ now (answer .exit) ≡ shownBy outcome (partsIn assigned (now (parts .entry)) 0 variables) (now (answer .entry)) ⌝ }
 {

@@ -1,20 +1,29 @@
 // Outcomes as text: each word and number with a blank before it. A text that has no more room is cut.
 use crate::text;
+use cost::Cost;
 use matcher::Answer;
 use rules::RuleAnswer;
 use sheet::Checked;
 use sheet::Place;
 use term::Read;
 
-// The numbers that an answer has, and those of the buffer around it.
-const ANSWER: usize = matcher::ANSWER_WIDTH;
+// The numbers of an entry, the entries of an answer, and those of the buffer around it.
+const ENTRY: usize = search::ENTRY_WIDTH;
 
-pub const BUFFER: usize = 128;
+const ANSWER: usize = term::VARIABLES;
+
+const ENTRIES: usize = 64;
+
+// The numbers of the buffer.
+pub const BUFFER: usize = ENTRY * ENTRIES;
 
 // The names of an answer come first, then its run names.
 const NAMES: usize = 32;
 
-// What stands everywhere in an answer buffer before a call; no offset or length is as large.
+// The offset of a name or run name that is not free.
+const ABSENT: u16 = 65535;
+
+// What stands everywhere in an answer buffer before a call; no part has a number as large.
 pub const UNTOUCHED: u16 = 43690;
 
 // What stands everywhere in an output before a call; no record has this code.
@@ -103,30 +112,31 @@ pub fn show_bytes(bytes: &[u8]) -> Shown {
     put_bytes(nothing(), bytes)
 }
 
-// A name or a run name and its part.
-fn put_named(out: Shown, sign: &[u8], k: usize, offset: u16, length: u16) -> Shown {
+// A name or a run name, its part and its number of terms.
+fn put_named(out: Shown, sign: &[u8], k: usize, offset: u16, length: u16, terms: u16) -> Shown {
     let named = put_number(out, sign, k as u64);
     let at = put_number(named, b"=", offset as u64);
-    put_number(at, b"+", length as u64)
+    let part = put_number(at, b"+", length as u64);
+    put_number(part, b":", terms as u64)
 }
 
 // An entry of the answer, where it is not the absent mark.
-fn put_part(out: Shown, k: usize, offset: u16, length: u16) -> Shown {
-    if offset == 65535 && length == 0 {
+fn put_part(out: Shown, k: usize, offset: u16, length: u16, terms: u16) -> Shown {
+    if offset == ABSENT && length == 0 && terms == 0 {
         return out;
     }
     if k < NAMES {
-        return put_named(out, b" ?", k, offset, length);
+        return put_named(out, b" ?", k, offset, length, terms);
     }
-    put_named(out, b" @", k - NAMES, offset, length)
+    put_named(out, b" @", k - NAMES, offset, length, terms)
 }
 
-// Two numbers of the buffer. Those of a bound answer are shown, all others must be as they were.
-fn put_pair(out: Shown, bound: bool, i: usize, first: u16, second: u16) -> Shown {
-    if bound && i < ANSWER {
-        return put_part(out, i / 2, first, second);
+// An entry of the buffer. Those of a bound answer are shown, all others must be as they were.
+fn put_entry(out: Shown, bound: bool, k: usize, offset: u16, length: u16, terms: u16) -> Shown {
+    if bound && k < ANSWER {
+        return put_part(out, k, offset, length, terms);
     }
-    if first == UNTOUCHED && second == UNTOUCHED {
+    if offset == UNTOUCHED && length == UNTOUCHED && terms == UNTOUCHED {
         return out;
     }
     put(out, b" changed")
@@ -134,10 +144,11 @@ fn put_pair(out: Shown, bound: bool, i: usize, first: u16, second: u16) -> Shown
 
 fn put_buffer(out: Shown, bound: bool, buffer: &[u16; BUFFER]) -> Shown {
     let mut more = out;
-    let mut i: usize = 0;
-    while i < BUFFER - 1 {
-        more = put_pair(more, bound, i, buffer[i], buffer[i + 1]);
-        i += 2;
+    let mut k: usize = 0;
+    while k < ENTRIES {
+        let at = ENTRY * k;
+        more = put_entry(more, bound, k, buffer[at], buffer[at + 1], buffer[at + 2]);
+        k += 1;
     }
     more
 }
@@ -176,6 +187,11 @@ fn show_rule_answer(answer: RuleAnswer, buffer: &[u16; BUFFER]) -> Shown {
     let index = put_number(show_word(number), b" ", answer.index() as u64);
     let counted = put_count(index, number, answer.count());
     put_buffer(counted, number == 0, buffer)
+}
+
+pub fn show_cost(cost: Cost) -> Shown {
+    let number = cost.number();
+    put_count(show_word(number), number, cost.count() as u64)
 }
 
 // The answer of a call that is known.

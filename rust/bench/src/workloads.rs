@@ -1,9 +1,9 @@
 //! The named workloads.
 
-use interface::{sheet_of, Library, Word, ANSWER, LIST, NAMES, RECORD_LIMIT};
+use interface::{sheet_of, Answers, Library, Word, ANSWER, LIST, RECORD_LIMIT};
 use notation::Symbols;
 use reference::Reference;
-use std::cell::RefCell;
+use std::{cell::RefCell, iter};
 
 /// One call, or a fixed number of calls, at one size. Buffers are not cleared between runs.
 pub struct Workload {
@@ -210,22 +210,32 @@ fn every_answer(n: usize) -> Workload {
     let record = format!("gates({})", vec!["open"; n].join(", "));
     let Match { name, table, pattern, record, .. } =
         Match::of("every answer", n, "gates(@0, @1, @2)", &record);
+    // Found out before, so that a library whose answers have another width is run alike.
+    let (lengths, steps) = run_lengths(&table, &pattern, &record);
+    let all = ((n + 1) * (n + 2) / 2, steps);
     let answer = RefCell::new([0; ANSWER]);
-    let listed = move |library: &dyn Library| {
+    let run = Box::new(move |library: &dyn Library| {
         let answer = &mut *answer.borrow_mut();
-        let mut found = library.match_one(&table, &pattern, &record, u32::MAX, answer);
-        let (mut answers, mut steps) = (0, found.count);
-        while found.word() == Some(Word::Bound) {
-            // Each element is one byte, so a run has as many elements as bytes.
-            let given = [0, 1, 2].map(|run| answer[2 * (NAMES + run) + 1]);
-            found = library.next(&table, &pattern, &record, &given, u32::MAX, answer);
-            (answers, steps) = (answers + 1, steps + found.count);
-        }
-        (answers, steps)
-    };
-    let all = ((n + 1) * (n + 2) / 2, listed(&Reference).1);
-    let run = Box::new(move |library: &dyn Library| assert_eq!(listed(library), all));
-    Workload { name, n, call: "qonveshir_next", unit: "step", units: all.1, run }
+        let first = library.match_one(&table, &pattern, &record, u32::MAX, answer);
+        let next =
+            |given: &Vec<u16>| library.next(&table, &pattern, &record, given, u32::MAX, answer);
+        let found = iter::once(first).chain(lengths.iter().map(next));
+        let listed = found.fold((0, 0), |(answers, steps), outcome| {
+            (answers + usize::from(outcome.word() == Some(Word::Bound)), steps + outcome.count)
+        });
+        assert_eq!(listed, all);
+    });
+    Workload { name, n, call: "qonveshir_next", unit: "step", units: steps, run }
+}
+
+/// The run lengths of every answer, and the steps of all calls.
+fn run_lengths(table: &[u8], pattern: &[u8], record: &[u8]) -> (Vec<Vec<u16>>, u64) {
+    let mut answers = Answers::new(&Reference, table, None, pattern, record, u32::MAX);
+    let mut lengths = Vec::new();
+    while answers.next().is_some() {
+        lengths.extend(answers.lengths().map(<[u16]>::to_vec));
+    }
+    (lengths, answers.counted())
 }
 
 /// A record of n bytes: lists of leaves and pairs within a list.

@@ -1,7 +1,7 @@
 //! One call with its inputs, run between margins of random bytes.
 
 use crate::rng::Rng;
-use interface::{Library, Outcome, Part, Word};
+use interface::{Library, Outcome, Part, Word, ENTRY, NAMES, RUNS};
 use std::fmt;
 
 /// The calls.
@@ -48,6 +48,7 @@ pub enum Kind {
     LongPattern,
     LongSearch,
     ManyComplements,
+    OtherBytesThanTerms,
     OneBelow,
     AtTheCount,
     FarAbove,
@@ -199,6 +200,12 @@ fn within_mut<T>(buffer: &mut [T], margin: usize) -> &mut [T] {
 }
 
 impl Shown {
+    /// Whether a bound answer shows a run with another number of bytes than of terms.
+    pub fn has_other_bytes_than_terms(&self) -> bool {
+        let entries = within(&self.memory.answer, self.memory.margin).chunks_exact(ENTRY);
+        entries.take(NAMES + RUNS).skip(NAMES).any(|entry| entry[1] != entry[2])
+    }
+
     /// Where two runs differ.
     pub fn difference(&self, other: &Shown) -> String {
         let mut text = format!("number, index, count: {:?} and {:?}\n", self.result, other.result);

@@ -1,6 +1,6 @@
 //! How often each call gave each word.
 
-use crate::case::{Call, Case, Kind, CALLS};
+use crate::case::{Call, Case, Kind, Shown, CALLS};
 use interface::{Word, COMPLEMENT};
 use std::fmt;
 
@@ -13,11 +13,12 @@ pub struct Histogram {
 }
 
 /// The kinds in their order, the words with which they count, and the calls that must have them.
-const KINDS: [(&str, &[Word], &[Call]); 26] = [
+const KINDS: [(&str, &[Word], &[Call]); 27] = [
     ("record over 1,000 bytes, not spent", &ENDED, &SEARCHES),
     ("pattern over 100 bytes, not spent", &ENDED, &PATTERNS),
     ("count over 1,000, not spent", &ENDED, &SEARCHES),
     ("over 32 complements in a row, not spent", &ENDED, &WITH_A_PATTERN),
+    ("a run of another number of bytes than of terms", &[Word::Bound], &WITH_AN_ANSWER),
     ("allowance one below the count", &SEARCHED, &SEARCHES),
     ("allowance at the count", &SEARCHED, &SEARCHES),
     ("allowance far above the count", &SEARCHED, &SEARCHES),
@@ -50,16 +51,26 @@ const WITH_A_PATTERN: [Call; 5] =
 const NEXTS: [Call; 2] = [Call::Next, Call::NextWithClasses];
 const SEARCHES: [Call; 4] =
     [Call::Match, Call::MatchWithClasses, Call::Next, Call::NextWithClasses];
+const WITH_AN_ANSWER: [Call; 6] = [
+    Call::Match,
+    Call::MatchWithClasses,
+    Call::Next,
+    Call::NextWithClasses,
+    Call::Rules,
+    Call::RulesWithClasses,
+];
 const WITH_CLASSES: [Call; 3] =
     [Call::MatchWithClasses, Call::NextWithClasses, Call::RulesWithClasses];
 
 impl Histogram {
-    pub(crate) fn add(&mut self, case: &Case, [number, _, count]: [u64; 3]) {
+    pub(crate) fn add(&mut self, case: &Case, shown: &Shown) {
+        let [number, _, count] = shown.result;
         let word = Word::of(number as u32).expect("a number that has a word");
         let call = case.call as usize;
         self.cases += 1;
         self.words[word as usize][call] += 1;
-        for kind in sizes(case, count).chain(case.kinds.iter().copied()) {
+        let terms = shown.has_other_bytes_than_terms().then_some(Kind::OtherBytesThanTerms);
+        for kind in sizes(case, count).chain(terms).chain(case.kinds.iter().copied()) {
             let counts = KINDS[kind as usize].1.contains(&word);
             self.kinds[kind as usize][call] += u64::from(counts);
         }

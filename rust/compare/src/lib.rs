@@ -43,7 +43,7 @@ pub fn compare(one: &dyn Library, other: &dyn Library, cases: Cases) -> Result<H
         if let Some(bound) = case.bound(one).filter(|&bound| count > bound) {
             return Err(format!("seed {seed}, case {number}: {case}\ncount {count} over {bound}"));
         }
-        histogram.add(&case, expected.result);
+        histogram.add(&case, &expected);
     }
     Ok(histogram)
 }

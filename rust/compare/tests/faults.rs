@@ -1,7 +1,8 @@
 //! The comparison finds no difference where there is none, and finds small faults.
 
-use interface::{Library, Outcome, Part};
+use interface::{Library, Outcome, Part, ABSENT, ANSWER, ENTRY, NAMES};
 use reference::Reference;
+use std::slice::ChunksExactMut;
 
 /// What becomes of a class list that is brought with a table.
 type Brought = fn(&[u8], &[u8]) -> Vec<u8>;
@@ -155,12 +156,12 @@ fn faults_are_found() {
     let deep = |outcome: &mut Outcome| outcome.number += 2 * u32::from(outcome.number == 5);
     let none = |outcome: &Outcome, answer: &mut [u16]| {
         if outcome.number == 10 {
-            answer[95] ^= 1;
+            answer[ANSWER - 1] ^= 1;
         }
     };
     let past = |outcome: &Outcome, answer: &mut [u16]| {
-        if outcome.number == 0 && answer.len() > 96 {
-            answer[96] ^= 1;
+        if outcome.number == 0 && answer.len() > ANSWER {
+            answer[ANSWER] ^= 1;
         }
     };
     let full = |outcome: &Outcome, output: &mut [u8]| {
@@ -176,6 +177,31 @@ fn faults_are_found() {
     assert!(differs(Faulty { answer: past, ..SOUND }));
     assert!(differs(Faulty { output: full, ..SOUND }));
     assert!(differs(Faulty { part: refused, ..SOUND }));
+}
+
+/// The entries of a bound answer.
+fn entries<'a>(outcome: &Outcome, answer: &'a mut [u16]) -> ChunksExactMut<'a, u16> {
+    let end = if outcome.number == 0 { ANSWER } else { 0 };
+    answer[..end].chunks_exact_mut(ENTRY)
+}
+
+#[test]
+fn faults_of_numbers_of_terms_are_found() {
+    let faults: [fn(&Outcome, &mut [u16]); 4] = [
+        |outcome, answer| entries(outcome, answer).for_each(|entry| entry[2] = entry[1]),
+        |outcome, answer| entries(outcome, answer).take(NAMES).for_each(|entry| entry[2] = 0),
+        |outcome, answer| {
+            let absent = entries(outcome, answer).filter(|entry| entry[0] == ABSENT);
+            absent.for_each(|entry| entry[2] = 1);
+        },
+        |outcome, answer| {
+            let shown = entries(outcome, answer).filter(|entry| entry[0] != ABSENT);
+            shown.for_each(|entry| entry[2] = entry[2].max(1));
+        },
+    ];
+    for (i, answer) in faults.into_iter().enumerate() {
+        assert!(differs(Faulty { answer, ..SOUND }), "fault {i}");
+    }
 }
 
 #[test]

@@ -93,8 +93,7 @@ impl Iterator for Answers<'_> {
         self.after = After::Last;
         match outcome.word() {
             Some(Word::Bound) => {
-                let given = lengths(self.table, self.pattern, self.record, &answer);
-                self.after = After::Lengths(given);
+                self.after = After::Lengths(lengths(self.table, self.pattern, &answer));
                 Some(Ok((answer, outcome.count)))
             }
             Some(Word::None) => None,
@@ -103,10 +102,9 @@ impl Iterator for Answers<'_> {
     }
 }
 
-/// The run lengths of an answer, in elements, in the order in which a call takes them.
-fn lengths(table: &[u8], pattern: &[u8], record: &[u8], answer: &Answer) -> Vec<u16> {
-    let part = |run| answer.run(run).map_or(&[][..], |part| &record[part]);
-    free_runs(table, pattern).into_iter().map(|run| elements(table, part(run))).collect()
+/// The run lengths of an answer, in the order in which a call takes them.
+fn lengths(table: &[u8], pattern: &[u8], answer: &Answer) -> Vec<u16> {
+    free_runs(table, pattern).into_iter().filter_map(|run| answer.terms(run)).collect()
 }
 
 /// The free run names of an accepted pattern, in order of their first places outside complements.
@@ -127,22 +125,12 @@ fn free_runs(table: &[u8], pattern: &[u8]) -> Vec<usize> {
     runs
 }
 
-/// How many terms the bytes of a run hold.
-fn elements(table: &[u8], run: &[u8]) -> u16 {
-    let (mut number, mut at) = (0, 0);
-    while at < run.len() {
-        at = end(table, run, at);
-        number += 1;
-    }
-    number
-}
-
-/// Where the node that starts at an offset ends, with all below it.
-fn end(table: &[u8], bytes: &[u8], mut at: usize) -> usize {
+/// Where the node that starts at an offset of a pattern ends, with all below it.
+fn end(table: &[u8], pattern: &[u8], mut at: usize) -> usize {
     let mut left = 1;
     while left > 0 {
-        let (size, children) = own(table, bytes[at]);
-        left = left - 1 + children.unwrap_or_else(|| bytes[at + 1].into());
+        let (size, children) = own(table, pattern[at]);
+        left = left - 1 + children.unwrap_or_else(|| pattern[at + 1].into());
         at += size;
     }
     at

@@ -35,9 +35,11 @@ pub const NAMES: usize = 32;
 pub const RUNS: usize = 16;
 /// An allowance that is never spent on a pattern without run names.
 pub const AMPLE: u32 = 256;
-/// Numbers that an answer holds, two for each name and run name.
-pub const ANSWER: usize = 2 * (NAMES + RUNS);
-/// Offset shown for a name that is not free.
+/// Numbers of an answer's entry: offset, length and number of terms.
+pub const ENTRY: usize = 3;
+/// Numbers that an answer holds, an entry for each name and run name.
+pub const ANSWER: usize = ENTRY * (NAMES + RUNS);
+/// Offset shown for a name or run name that is not free, with length and number of terms 0.
 pub const ABSENT: u16 = u16::MAX;
 
 /// The numbers and words of documents 01 and 02; 0 is bound, written, accepted or bounded.
@@ -115,7 +117,7 @@ impl Word {
             Word::Deep => "nesting over 32",
             Word::Long => "pattern, record or sheet over its limit, over 64 rules",
             Word::Stray => "run name elsewhere than as a list's child",
-            Word::Narrow => "answer buffer under 96 numbers",
+            Word::Narrow => "answer buffer under 144 numbers",
             Word::Directory => "a sheet breaks its rules, or no such entry",
             Word::None => {
                 "no assignment satisfies the pattern, or none after the given answer; of a cost, no \
@@ -180,7 +182,8 @@ impl Part {
     }
 }
 
-/// Where a bound pattern's free names and run names lie in the record.
+/// Where a bound pattern's free names and run names lie in the record, and of how many terms they
+/// are.
 #[derive(Clone, Copy, Debug, PartialEq, Eq)]
 pub struct Answer(pub [u16; ANSWER]);
 
@@ -188,18 +191,29 @@ impl Answer {
     /// The part of `?i`, if it is free in the pattern.
     pub fn name(&self, i: usize) -> Option<Range<usize>> {
         assert!(i < NAMES, "names are ?0 to ?31");
-        self.pair(i)
+        self.part(i)
     }
 
     /// The part of `@j`, if it is free in the pattern.
     pub fn run(&self, j: usize) -> Option<Range<usize>> {
         assert!(j < RUNS, "run names are @0 to @15");
-        self.pair(NAMES + j)
+        self.part(NAMES + j)
     }
 
-    fn pair(&self, place: usize) -> Option<Range<usize>> {
-        let (offset, length) = (self.0[2 * place], self.0[2 * place + 1]);
-        (offset != ABSENT).then(|| offset as usize..offset as usize + length as usize)
+    /// The number of terms of `@j`, if it is free in the pattern; a name has one term.
+    pub fn terms(&self, j: usize) -> Option<u16> {
+        assert!(j < RUNS, "run names are @0 to @15");
+        self.entry(NAMES + j).map(|[_, _, terms]| terms)
+    }
+
+    fn part(&self, place: usize) -> Option<Range<usize>> {
+        let [offset, length, _] = self.entry(place)?.map(usize::from);
+        Some(offset..offset + length)
+    }
+
+    fn entry(&self, place: usize) -> Option<[u16; ENTRY]> {
+        let entry = *self.0[ENTRY * place..].first_chunk().expect("a place of the answer");
+        (entry[0] != ABSENT).then_some(entry)
     }
 }
 

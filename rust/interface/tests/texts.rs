@@ -74,6 +74,14 @@ fn value(code: &str, text: &str) -> u64 {
     name.parse().unwrap_or_else(|_| constant(code, name))
 }
 
+/// The value of a constant of the header: numbers and other constants, joined by `*`.
+fn defined(header: &str, name: &str) -> u64 {
+    let texts = between(header, &format!("#define {name} "), "\n");
+    let [text] = texts[..] else { panic!("{name} is defined {} times", texts.len()) };
+    let factors = text.trim_matches(['(', ')']).split(" * ");
+    factors.map(|factor| factor.parse().unwrap_or_else(|_| defined(header, factor))).product()
+}
+
 #[test]
 fn limits() {
     let (header, code) = (read("include/qonveshir.h"), rattle());
@@ -84,21 +92,25 @@ fn limits() {
         ("SHEET_LIMIT", SHEET_LIMIT, "LONGEST_SHEET"),
         ("RULES_LIMIT", RULES_LIMIT, "MOST_RULES"),
         ("NESTING_LIMIT", NESTING_LIMIT, "NESTING"),
+        ("NAMES", NAMES, "NAMES"),
+        ("VARIABLES", NAMES + RUNS, "VARIABLES"),
+        ("ENTRY", ENTRY, "ENTRY_WIDTH"),
         ("ANSWER", ANSWER, "ANSWER_WIDTH"),
         ("ABSENT", ABSENT.into(), "NOWHERE"),
     ] {
-        let defined = between(&header, &format!("#define QONVESHIR_{name} "), "\n");
-        assert_eq!(defined, [limit.to_string()], "{name}");
+        assert_eq!(defined(&header, &format!("QONVESHIR_{name}")), limit as u64, "{name}");
         assert_eq!(constant(&code, rattle), limit as u64, "{rattle}");
     }
+    let narrow = format!("answer buffer under {ANSWER} numbers");
+    assert!(header.contains(&narrow) && Word::Narrow.meaning() == narrow, "{narrow}");
 }
 
 /// The definition's own number, since the proved code needs none.
 #[test]
 fn ample() {
-    let defined = between(&read("include/qonveshir.h"), "#define QONVESHIR_AMPLE ", "\n").join("");
+    assert_eq!(defined(&read("include/qonveshir.h"), "QONVESHIR_AMPLE"), AMPLE.into());
     let stated = between(&read("crates/anti_pattern/specs/Cost.antt"), "\nample = ", "\n").join("");
-    assert_eq!([defined, stated], [AMPLE.to_string(), AMPLE.to_string()]);
+    assert_eq!(stated, AMPLE.to_string());
 }
 
 #[test]
@@ -106,8 +118,6 @@ fn codes() {
     let code = rattle();
     assert_eq!(constant(&code, "LIST"), LIST.into());
     assert_eq!(constant(&code, "MOST_CHILDREN"), CHILDREN_LIMIT.into());
-    assert_eq!(constant(&code, "NAMES"), NAMES as u64);
-    assert_eq!(constant(&code, "VARIABLES"), (NAMES + RUNS) as u64);
     let decode = between(&code, "pub fn decode(", "\n}\n")[0];
     let last_run = FIRST_RUN as usize + RUNS - 1;
     for arm in [

@@ -14,8 +14,8 @@ fn main() -> Result<(), notation::Error> {
     let (outcome, answer) = Proved.find(symbols.table(), &rule, &state, 100_000);
     println!("{} after {} steps", outcome.word().map_or("?", |word| word.text()), outcome.count);
     for j in 0..2 {
-        if let Some(part) = answer.run(j) {
-            println!("@{j} = [{}]", symbols.show_run(&state[part])?);
+        if let (Some(part), Some(terms)) = (answer.run(j), answer.terms(j)) {
+            println!("@{j} = [{}], terms {terms}", symbols.show_run(&state[part])?);
         }
     }
     Ok(())

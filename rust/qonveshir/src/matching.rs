@@ -58,18 +58,21 @@ impl Asked {
 
     /// The count, and a line for each free name and run name.
     fn bound(&self, answer: &Answer, count: u64) -> Reply {
-        let names = (0..NAMES).filter_map(|i| Some((format!("?{i}"), answer.name(i)?)));
-        let runs = (0..RUNS).filter_map(|j| Some((format!("@{j}"), answer.run(j)?)));
-        let lines: Result<String, Error> =
-            names.chain(runs).map(|(name, part)| self.shown(name, part)).collect();
+        let names = (0..NAMES).filter_map(|i| Some((format!("?{i}"), answer.name(i)?, None)));
+        let runs =
+            (0..RUNS).filter_map(|j| Some((format!("@{j}"), answer.run(j)?, answer.terms(j))));
+        let lines = names.chain(runs).map(|(name, part, terms)| self.shown(&name, part, terms));
+        let lines: Result<String, Error> = lines.collect();
         Ok(format!("bound {count}\n{}", lines.or_else(trouble)?))
     }
 
-    /// One line: the name, its part as text, and where that lies.
-    fn shown(&self, name: String, part: Range<usize>) -> Result<String, Error> {
+    /// One line: the name, its part as text, where that lies, and how many terms a run has.
+    fn shown(&self, name: &str, part: Range<usize>, terms: Option<u16>) -> Result<String, Error> {
         let place = format!("offset {}, length {}", part.start, part.len());
+        let terms = terms.map_or(String::new(), |terms| format!(", terms {terms}"));
         let text = self.symbols.show_run(&self.record[part])?;
-        Ok(format!("{name} = {}  ({place})\n", if text.is_empty() { "nothing" } else { &text }))
+        let text = if text.is_empty() { "nothing" } else { &text };
+        Ok(format!("{name} = {text}  ({place}{terms})\n"))
     }
 }
 

@@ -28,8 +28,11 @@ fn run(folder: &Path, arguments: &[&str]) -> (i32, String) {
 fn matches() {
     let folder = folder("match");
     let find = |rule, state| run(&folder, &["match", "symbols", rule, state]);
-    let bound = "bound 10\n@0 = open  (offset 2, length 1)\n@1 = nothing  (offset 4, length 0)\n";
+    let bound = "bound 10\n@0 = open  (offset 2, length 1, terms 1)\n\
+                 @1 = nothing  (offset 4, length 0, terms 0)\n";
     assert_eq!(find("gates(@0, !open, @1)", "gates(open, shut)"), (0, bound.into()));
+    let bound = "bound 4\n@0 = gate(shut), open  (offset 2, length 3, terms 2)\n";
+    assert_eq!(find("gates(@0)", "gates(gate(shut), open)").1, bound);
     assert_eq!(find("row(!?0, ?0)", "row(open, open)"), (1, "none 4\n".into()));
     let (status, text) = find("row(!?0)", "open");
     assert_eq!(
@@ -48,11 +51,12 @@ fn lists_every_answer() {
     let all = |options: &[&str], rule, state| {
         run(&folder, &[&["match", "--all"][..], options, &["symbols", rule, state]].concat())
     };
-    let first =
-        "bound 5\n@0 = nothing  (offset 2, length 0)\n@1 = open, shut  (offset 2, length 2)\n";
-    let second = "bound 6\n@0 = open  (offset 2, length 1)\n@1 = shut  (offset 3, length 1)\n";
-    let third =
-        "bound 5\n@0 = open, shut  (offset 2, length 2)\n@1 = nothing  (offset 4, length 0)\n";
+    let first = "bound 5\n@0 = nothing  (offset 2, length 0, terms 0)\n\
+                 @1 = open, shut  (offset 2, length 2, terms 2)\n";
+    let second = "bound 6\n@0 = open  (offset 2, length 1, terms 1)\n\
+                  @1 = shut  (offset 3, length 1, terms 1)\n";
+    let third = "bound 5\n@0 = open, shut  (offset 2, length 2, terms 2)\n\
+                 @1 = nothing  (offset 4, length 0, terms 0)\n";
     let (rule, state) = ("gates(@0, @1)", "gates(open, shut)");
     let listed = format!("{first}{second}{third}answers: 3, sum of counts: 19\n");
     assert_eq!(all(&[], rule, state), (0, listed));

@@ -324,7 +324,7 @@ fn read_rules(table: Table, sheet: &[u8], steps: &mut Steps) -> Result<Vec<usize
         .collect()
 }
 
-/// The first 96 numbers of an answer buffer.
+/// The numbers of an answer, if the buffer is wide enough.
 fn wide(answer: &mut [u16]) -> Result<&mut [u16; ANSWER], Fault> {
     answer.first_chunk_mut().ok_or(Fault::new(Word::Narrow, 0))
 }

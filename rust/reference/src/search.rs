@@ -2,7 +2,7 @@
 
 use crate::pattern::{Step, Steps, NO_LIST};
 use crate::record::Record;
-use interface::{Word, ABSENT, ANSWER, NAMES, RUNS};
+use interface::{Word, ABSENT, ANSWER, ENTRY, NAMES, RUNS};
 
 /// How a search ends.
 #[derive(Clone, Copy, Debug, PartialEq, Eq)]
@@ -36,6 +36,14 @@ struct PutBy {
     at: u16,
 }
 
+/// What a name or run name is assigned: start, end and number of terms.
+#[derive(Clone, Copy, Default)]
+struct Part {
+    start: u16,
+    end: u16,
+    terms: u16,
+}
+
 /// A search of a record by any of several patterns. With `GIVEN` a level is that of a whole pattern,
 /// which starts with the lengths of a given answer; every other tries all lengths.
 pub struct Search<'a> {
@@ -47,8 +55,8 @@ pub struct Search<'a> {
     lists: [u16; 256],
     /// Which names and run names are assigned, a bit for each place of the answer.
     assigned: u64,
-    /// Start and end of what each place is assigned.
-    parts: [(u16, u16); NAMES + RUNS],
+    /// What each place is assigned.
+    parts: [Part; NAMES + RUNS],
     put_by: Vec<PutBy>,
     /// Whether the lengths of a given answer are being checked.
     checks: bool,
@@ -66,7 +74,7 @@ impl<'a> Search<'a> {
             left: 0,
             lists,
             assigned: 0,
-            parts: [(0, 0); NAMES + RUNS],
+            parts: [Part::default(); NAMES + RUNS],
             put_by: Vec::new(),
             checks: false,
             given: [0; NAMES + RUNS],
@@ -108,12 +116,13 @@ impl<'a> Search<'a> {
 
     /// Writes the assignment found.
     pub fn answer(&self, answer: &mut [u16; ANSWER]) {
-        answer.chunks_exact_mut(2).for_each(|pair| pair.copy_from_slice(&[ABSENT, 0]));
+        let entries = answer.chunks_exact_mut(ENTRY);
+        entries.for_each(|entry| entry.copy_from_slice(&[ABSENT, 0, 0]));
         let mut free = self.assigned;
         while free != 0 {
             let place = free.trailing_zeros() as usize;
-            let (start, end) = self.parts[place];
-            answer[2 * place..2 * place + 2].copy_from_slice(&[start, end - start]);
+            let Part { start, end, terms } = self.parts[place];
+            answer[ENTRY * place..][..ENTRY].copy_from_slice(&[start, end - start, terms]);
             free &= free - 1;
         }
     }
@@ -167,10 +176,11 @@ impl<'a> Search<'a> {
         first: usize,
     ) -> Result<bool, Spent> {
         let (assigned, put_by) = (self.assigned | 1 << place, self.put_by.len());
-        let (mut end, last) = (at, self.list_end(within));
+        let (mut terms, mut end, last) = (0, at, self.list_end(within));
         let checks = GIVEN && self.checks;
         if checks {
-            let Some(given) = self.elements_on(at, last, self.given[usize::from(place)]) else {
+            terms = self.given[usize::from(place)];
+            let Some(given) = self.elements_on(at, last, terms) else {
                 self.count()?;
                 return Ok(false);
             };
@@ -180,7 +190,7 @@ impl<'a> Search<'a> {
             self.count()?;
             self.assigned = assigned;
             self.put_by.truncate(put_by);
-            self.parts[usize::from(place)] = (at as u16, end as u16);
+            self.parts[usize::from(place)] = Part { start: at as u16, end: end as u16, terms };
             if self.rest::<GIVEN>(step + 1, end, first)? {
                 return Ok(true);
             }
@@ -188,6 +198,7 @@ impl<'a> Search<'a> {
                 return Ok(false);
             }
             end = self.record.ends[end].into();
+            terms += 1;
         }
     }
 
@@ -251,7 +262,7 @@ impl<'a> Search<'a> {
         let end = self.record.ends[at];
         if self.assigned >> place & 1 == 0 {
             self.assigned |= 1 << place;
-            self.parts[usize::from(place)] = (at as u16, end);
+            self.parts[usize::from(place)] = Part { start: at as u16, end, terms: 1 };
         } else if !self.stands_at(place, at, end.into()) {
             return Ok(None);
         }
@@ -262,8 +273,8 @@ impl<'a> Search<'a> {
     #[inline(always)]
     fn assigned_run(&mut self, within: u8, place: u8, at: usize) -> Next {
         self.count()?;
-        let (from, to) = self.parts[usize::from(place)];
-        let end = at + usize::from(to - from);
+        let part = self.parts[usize::from(place)];
+        let end = at + usize::from(part.end - part.start);
         Ok((end <= self.list_end(within) && self.stands_at(place, at, end)).then_some(end))
     }
 
@@ -280,8 +291,8 @@ impl<'a> Search<'a> {
     /// Whether what a place is assigned also stands at another part of the record.
     #[inline(always)]
     fn stands_at(&self, place: u8, start: usize, end: usize) -> bool {
-        let (from, to) = self.parts[usize::from(place)];
-        self.record.bytes[start..end] == self.record.bytes[from.into()..to.into()]
+        let part = self.parts[usize::from(place)];
+        self.record.bytes[start..end] == self.record.bytes[part.start.into()..part.end.into()]
     }
 
     #[inline(always)]

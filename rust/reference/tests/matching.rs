@@ -10,11 +10,11 @@ fn matched(pattern: &str, record: &str, allowance: u32) -> String {
     let pattern = symbols.pattern(pattern).unwrap();
     let record = symbols.term(record).unwrap();
     let (outcome, answer) = Reference.find(symbols.table(), &pattern, &record, allowance);
-    let names = (0..NAMES).filter_map(|i| Some((format!("?{i}"), answer.name(i)?)));
-    let runs = (0..RUNS).filter_map(|j| Some((format!("@{j}"), answer.run(j)?)));
+    let names = (0..NAMES).filter_map(|i| Some((format!("?{i}"), answer.name(i)?, 1)));
+    let runs = (0..RUNS).filter_map(|j| Some((format!("@{j}"), answer.run(j)?, answer.terms(j)?)));
     let mut text = format!("{} {}", outcome.word().unwrap().text(), outcome.count);
-    for (name, part) in names.chain(runs) {
-        text += &format!(" {name}={}+{}", part.start, part.len());
+    for (name, part, terms) in names.chain(runs) {
+        text += &format!(" {name}={}+{}:{terms}", part.start, part.len());
     }
     text
 }
@@ -30,12 +30,12 @@ fn rides() {
     all(&[
         ("row(open, !shut)", "row(open, open)", "bound 4"),
         ("!gate(?0)", "gate(open)", "none 3"),
-        ("row(?0, !?0)", "row(open, shut)", "bound 4 ?0=1+1"),
+        ("row(?0, !?0)", "row(open, shut)", "bound 4 ?0=1+1:1"),
         ("row(!?0, ?0)", "row(open, open)", "none 4"),
         ("!row(?0, !gate(?0))", "row(open, gate(shut))", "none 6"),
         ("row(!gate(?0), !!gate(?0))", "row(gate(open), gate(shut))", "none 5"),
-        ("gates(@0, !open, @1)", "gates(open, shut)", "bound 10 @0=2+1 @1=4+0"),
-        ("gates(@0, @1)", "gates(open)", "bound 4 @0=2+0 @1=2+1"),
+        ("gates(@0, !open, @1)", "gates(open, shut)", "bound 10 @0=2+1:1 @1=4+0:0"),
+        ("gates(@0, @1)", "gates(open)", "bound 4 @0=2+0:0 @1=2+1:1"),
         ("gates(@0, @0)", "gates(open)", "none 5"),
         ("!gates(@0, ?0, @1, !?0, @2)", "gates()", "bound 3"),
         ("gates(!open)", "gates()", "none 1"),
@@ -67,7 +67,7 @@ fn elements_left_over_are_seen_after_the_last_child() {
 fn an_assigned_run_name_fits_within_its_own_list() {
     let past = "row(gates(@0), row(gates(@0), open))";
     all(&[
-        ("row(gates(@0), gates(@0))", "row(gates(open), gates(open))", "bound 6 @0=3+1"),
+        ("row(gates(@0), gates(@0))", "row(gates(open), gates(open))", "bound 6 @0=3+1:1"),
         ("row(gates(@0), gates(@0))", "row(gates(open), gates())", "none 6"),
         ("row(gates(@0), gates(@0))", "row(gates(open), gates(shut))", "none 6"),
         (past, "row(gates(open, open), row(gates(open), open))", "none 8"),
@@ -77,7 +77,7 @@ fn an_assigned_run_name_fits_within_its_own_list() {
 #[test]
 fn going_back_drops_later_complements() {
     all(&[
-        ("gates(@0, !open, @1, shut)", "gates(open, shut, shut)", "bound 14 @0=2+1 @1=4+0"),
+        ("gates(@0, !open, @1, shut)", "gates(open, shut, shut)", "bound 14 @0=2+1:1 @1=4+0:0"),
         ("!gates(@0, @1, @2)", "gates(open, shut)", "none 7"),
         ("row(!open, !gates(@0, @1))", "row(open, gates(open))", "none 4"),
     ]);

@@ -1,6 +1,6 @@
 //! Rule sheets, state sheets, their reading and writing.
 
-use interface::{sheet_of, Library, Outcome, Part, Word};
+use interface::{sheet_of, Library, Outcome, Part, Word, ANSWER};
 use notation::Symbols;
 use reference::Reference;
 
@@ -11,8 +11,8 @@ fn rules(texts: &[&str]) -> Vec<u8> {
     sheet_of(&texts.iter().map(|text| symbols.pattern(text).unwrap()).collect::<Vec<_>>())
 }
 
-fn first(rules: &[u8], record: &[u8], allowance: u32) -> (Outcome, [u16; 97]) {
-    let mut answer = [7; 97];
+fn first(rules: &[u8], record: &[u8], allowance: u32) -> (Outcome, [u16; ANSWER + 1]) {
+    let mut answer = [7; ANSWER + 1];
     let outcome = Reference.match_rules(&TABLE, rules, record, allowance, &mut answer);
     (outcome, answer)
 }
@@ -28,8 +28,8 @@ fn the_report() {
     for (state, word, index, count) in states {
         let (outcome, answer) = first(&rules, state, 100_000);
         assert_eq!(outcome, Outcome::counted(word, index, count));
-        assert_eq!(answer[96], 7);
-        assert_eq!(answer[..96] == [7; 96], word == Word::None);
+        assert_eq!(answer[ANSWER], 7);
+        assert_eq!(answer[..ANSWER] == [7; ANSWER], word == Word::None);
     }
 }
 
@@ -37,7 +37,7 @@ fn the_report() {
 fn a_spent_rule_is_not_passed_over() {
     let rules = rules(&["open", "gates(@0, @1)", "?0"]);
     let spent = Outcome::counted(Word::Spent, 1, 4);
-    assert_eq!(first(&rules, &[5, 1, 0], 3), (spent, [7; 97]));
+    assert_eq!(first(&rules, &[5, 1, 0], 3), (spent, [7; ANSWER + 1]));
 }
 
 #[test]
@@ -61,7 +61,7 @@ fn refusals_of_a_rule_sheet() {
         (good, &[200], Word::Code, 0),
     ];
     for (rules, record, word, index) in cases {
-        assert_eq!(first(&rules, record, 9), (Outcome::refused(word, index), [7; 97]));
+        assert_eq!(first(&rules, record, 9), (Outcome::refused(word, index), [7; ANSWER + 1]));
     }
     assert_eq!(first(&[0, 0], &[0], 0).0, Outcome::counted(Word::None, 0, 0));
     assert_eq!(first(&[0, 0], &[], 0).0, Outcome::refused(Word::Short, 0));

@@ -1,12 +1,19 @@
 //! Runs the vectors of `crates/vectors` that are one of the library's calls, and compares what
 //! is answered with the outcome that the line states. `QONVESHIR_VECTORS` names another folder.
 
-use interface::{Library, Outcome, Word, ANSWER, NAMES, RUNS};
+use interface::{Library, Outcome, Word, ABSENT, ANSWER, ENTRY, NAMES, RUNS};
 use reference::Reference;
 use std::{collections::BTreeMap, env, fs, path::PathBuf};
 
-const FILES: [&str; 6] =
-    ["matches.txt", "classes.txt", "complements.txt", "nexts.txt", "rules.txt", "sheets.txt"];
+const FILES: [&str; 7] = [
+    "matches.txt",
+    "classes.txt",
+    "complements.txt",
+    "nexts.txt",
+    "costs.txt",
+    "rules.txt",
+    "sheets.txt",
+];
 
 #[test]
 fn every_vector_has_its_outcome() {
@@ -32,6 +39,7 @@ fn every_vector_has_its_outcome() {
     let calls = [
         "check_rules",
         "check_states",
+        "cost_of",
         "match_one",
         "match_one with classes",
         "match_rules",
@@ -54,6 +62,7 @@ fn outcome(call: &str, fields: &[&str], stated: &str) -> Option<String> {
         ("next", [inputs @ .., given, allowance, width]) => {
             found(call, inputs, &list(given), number(allowance), number(width))
         }
+        ("cost_of", [table, pattern]) => cost(Reference.cost(&bytes(table), &bytes(pattern))),
         ("check_rules", [table, sheet]) => {
             checked(&bytes(sheet), |sheet| Reference.check_rules(&bytes(table), sheet))
         }
@@ -109,11 +118,19 @@ fn matched(width: u32, rules: bool, find: impl Fn(&mut [u16]) -> Outcome) -> Str
     }
 }
 
-/// The free names and run names with offset and length.
+/// The outcome of a cost.
+fn cost(outcome: Outcome) -> String {
+    match outcome.word().unwrap() {
+        word @ (Word::Bound | Word::None) => format!("{} {}", word.text(), outcome.count),
+        word => format!("refused {}", word.number()),
+    }
+}
+
+/// The free names and run names with offset, length and number of terms.
 fn parts(answer: &[u16]) -> String {
     let marks = (0..NAMES).map(|i| format!("?{i}")).chain((0..RUNS).map(|j| format!("@{j}")));
-    let pairs = answer.chunks_exact(2).zip(marks).filter(|(pair, _)| pair != &[65_535, 0]);
-    pairs.map(|(pair, mark)| format!(" {mark}={}+{}", pair[0], pair[1])).collect()
+    let entries = answer.chunks_exact(ENTRY).zip(marks).filter(|(one, _)| one != &[ABSENT, 0, 0]);
+    entries.map(|(one, mark)| format!(" {mark}={}+{}:{}", one[0], one[1], one[2])).collect()
 }
 
 /// The outcome of a check. The number of entries, which the call doesn't show, is the sheet's own.

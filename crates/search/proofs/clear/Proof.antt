@@ -1,7 +1,6 @@
--- `search::clear` meets its contract. The invariant: the first v pairs are absent marks. Assumes nothing.
+-- `search::clear` meets its contract. The invariant: the first v entries are absent marks. Assumes nothing.
 use Prim.Native.Nat.{_-_}
 use native.Mathlib.Omega.{arith}
-use lib.ListN.{length-set}
 use Rattle.term.specs.Code.{variables}
 use Rattle.search.proofs.Shown.{Clearing, clear-first, clear-next, clear-end}
 use Rattle.search.proofs.clear.Statement.{statement}
@@ -16,26 +15,8 @@ abbrev μ-loop : tie.MeasureT-loop
 loop-holds : tie.Need-loop-holds Inv-loop μ-loop
 loop-holds c = clear-first _
 
-mul-answer : tie.Need-mul-answer Inv-loop μ-loop
-mul-answer c = omega arith
-
-mul-answer-2 : tie.Need-mul-answer-2 Inv-loop μ-loop
-mul-answer-2 c = omega arith
-
-slice-write-answer : tie.Need-slice-write-answer Inv-loop μ-loop
-slice-write-answer c = omega arith
-
-mul-answer-3 : tie.Need-mul-answer-3 Inv-loop μ-loop
-mul-answer-3 c = omega arith
-
-add-answer : tie.Need-add-answer Inv-loop μ-loop
-add-answer c = omega arith
-
-mul-answer-4 : tie.Need-mul-answer-4 Inv-loop μ-loop
-mul-answer-4 c = omega arith
-
-slice-write-answer-2 : tie.Need-slice-write-answer-2 Inv-loop μ-loop
-slice-write-answer-2 c = simp length-set (omega arith)
+put-entry-requires : tie.Need-put-entry-requires Inv-loop μ-loop
+put-entry-requires c κs = (omega arith, omega (arith, c .before .before .loop .inv .long))
 
 add-v : tie.Need-add-v Inv-loop μ-loop
 add-v c = omega arith
@@ -44,13 +25,14 @@ loop-less : tie.Need-loop-less Inv-loop μ-loop
 loop-less c = omega arith
 
 loop-again : tie.Need-loop-again Inv-loop μ-loop
-loop-again c = clear-next _ (c .before .loop .inv) (omega arith) (omega arith)
+loop-again c =
+    rw (c .before .before .put-entry .ensures) (clear-next _ (omega arith) (c .before .before .before .before .before .loop .inv) (omega arith))
 
 same-length : tie.Need-same-length Inv-loop μ-loop
 same-length c = c .before .loop .inv .long
 
 returns : tie.Need-returns Inv-loop μ-loop
-returns c = clear-end _ (c .before .loop .inv) (omega arith)
+returns c = clear-end _ (omega arith) (c .before .loop .inv) (omega arith)
 
 pub clear-spec : {M : Type 1} → statement M
 clear-spec =
@@ -59,13 +41,7 @@ clear-spec =
     Inv-loop
     μ-loop
     loop-holds
-    mul-answer
-    mul-answer-2
-    slice-write-answer
-    mul-answer-3
-    add-answer
-    mul-answer-4
-    slice-write-answer-2
+    put-entry-requires
     add-v
     loop-less
     loop-again

@@ -1,41 +1,50 @@
--- The measure is the number of places left in the buffer; nothing has to hold from turn to turn.
+-- The measure is the number of entries left in the buffer; nothing has to hold from turn to turn.
 use borrow.Author.Needs.{needs}
 use Prim.Native.Nat.{_-_}
 use Rattle.vectors.proofs.shown.put_buffer.Statement.{statement}
 use Rattle.vectors.proofs.shown.put_buffer.Tie as tie
 
 abbrev Inv-loop : tie.InvT-loop
-Inv-loop bound buffer more₀ i₀ more i = Unit {0}
+Inv-loop bound buffer more₀ k₀ more k = Unit {0}
 
 abbrev μ-loop : tie.MeasureT-loop
-μ-loop bound buffer more₀ i₀ more i = 128 - i
+μ-loop bound buffer more₀ k₀ more k = 64 - k
 
 loop-holds : tie.Need-loop-holds Inv-loop μ-loop
 loop-holds c = search needs
 
-sub-loop : tie.Need-sub-loop Inv-loop μ-loop
-sub-loop c = search needs
+mul-at : tie.Need-mul-at Inv-loop μ-loop
+mul-at c = search needs
 
-mul-put-pair : tie.Need-mul-put-pair Inv-loop μ-loop
-mul-put-pair c = search needs
+mul-put-entry : tie.Need-mul-put-entry Inv-loop μ-loop
+mul-put-entry c = search needs
 
-element-copy-out-put-pair : tie.Need-element-copy-out-put-pair Inv-loop μ-loop
-element-copy-out-put-pair c = search needs
+element-copy-out-put-entry : tie.Need-element-copy-out-put-entry Inv-loop μ-loop
+element-copy-out-put-entry c = search needs
 
-add-put-pair : tie.Need-add-put-pair Inv-loop μ-loop
-add-put-pair c = search needs
+add-put-entry : tie.Need-add-put-entry Inv-loop μ-loop
+add-put-entry c = search needs
 
-mul-put-pair-2 : tie.Need-mul-put-pair-2 Inv-loop μ-loop
-mul-put-pair-2 c = search needs
+mul-put-entry-2 : tie.Need-mul-put-entry-2 Inv-loop μ-loop
+mul-put-entry-2 c = search needs
 
-element-copy-out-put-pair-2 : tie.Need-element-copy-out-put-pair-2 Inv-loop μ-loop
-element-copy-out-put-pair-2 c = search needs
+element-copy-out-put-entry-2 : tie.Need-element-copy-out-put-entry-2 Inv-loop μ-loop
+element-copy-out-put-entry-2 c = search needs
 
-put-pair-requires : tie.Need-put-pair-requires Inv-loop μ-loop
-put-pair-requires c κs = search needs
+add-put-entry-2 : tie.Need-add-put-entry-2 Inv-loop μ-loop
+add-put-entry-2 c = search needs
 
-add-i : tie.Need-add-i Inv-loop μ-loop
-add-i c = search needs
+mul-put-entry-3 : tie.Need-mul-put-entry-3 Inv-loop μ-loop
+mul-put-entry-3 c = search needs
+
+element-copy-out-put-entry-3 : tie.Need-element-copy-out-put-entry-3 Inv-loop μ-loop
+element-copy-out-put-entry-3 c = search needs
+
+put-entry-requires : tie.Need-put-entry-requires Inv-loop μ-loop
+put-entry-requires c κs = search needs
+
+add-k : tie.Need-add-k Inv-loop μ-loop
+add-k c = search needs
 
 loop-less : tie.Need-loop-less Inv-loop μ-loop
 loop-less c = search needs
@@ -53,14 +62,17 @@ put-buffer-spec =
     Inv-loop
     μ-loop
     loop-holds
-    sub-loop
-    mul-put-pair
-    element-copy-out-put-pair
-    add-put-pair
-    mul-put-pair-2
-    element-copy-out-put-pair-2
-    put-pair-requires
-    add-i
+    mul-at
+    mul-put-entry
+    element-copy-out-put-entry
+    add-put-entry
+    mul-put-entry-2
+    element-copy-out-put-entry-2
+    add-put-entry-2
+    mul-put-entry-3
+    element-copy-out-put-entry-3
+    put-entry-requires
+    add-k
     loop-less
     loop-again
     returns)
