@@ -14,3 +14,4 @@ pub mod Steps
 pub mod Frames
 pub mod Shallow
 pub mod Joins
+pub mod Demands

@@ -33,6 +33,13 @@ and-assoc false b c = refl
 -- bytes
 
 module _ (classes : List ℕ) where
+  -- by what they are
+  pub byte-number : (counting : Bool) (x y : ℕ) → counting ≡ true → eqb x y ≡ sameByte classes counting x y
+  byte-number counting x y e = rw e
+
+  pub byte-symbol : (counting : Bool) (x y : ℕ) → counting ≡ false → sameByte classes false x y ≡ sameByte classes counting x y
+  byte-symbol counting x y e = rw e
+
   pub byte-equal : (counting : Bool) (x : ℕ) → sameByte classes counting x x ≡ true
   byte-equal true x = eq-eqb x x refl
   byte-equal false x = eq-eqb (classOf classes x) (classOf classes x) refl
@@ -44,13 +51,6 @@ module _ (classes : List ℕ) where
       go : (l : List ℕ) → length l ≡ 0 → false ≡ sameByte l false x y
       go [] h = sym (ne-eqb x y n)
       go (c ∷ l) h = absurd (omega arith)
-
-  -- by what they are
-  pub byte-number : (counting : Bool) (x y : ℕ) → counting ≡ true → eqb x y ≡ sameByte classes counting x y
-  byte-number counting x y e = rw e
-
-  pub byte-symbol : (counting : Bool) (x y : ℕ) → counting ≡ false → sameByte classes false x y ≡ sameByte classes counting x y
-  byte-symbol counting x y e = rw e
 
 pub next-none : (table : List ℕ) (counting : Bool) (x : ℕ) → length table ≤ x → false ≡ countNext table counting x
 next-none table true x h = refl
@@ -65,8 +65,7 @@ module _ (table classes : List ℕ) where
   pub same-refl : (counting : Bool) (xs : List ℕ) → samePart table classes counting xs xs ≡ true
   unfolding samePart
   same-refl counting [] = refl
-  same-refl true (x ∷ xs) = rw (eq-eqb x x refl) (same-refl false xs)
-  same-refl false (x ∷ xs) = rw (eq-eqb (classOf classes x) (classOf classes x) refl) (same-refl (isList table x) xs)
+  same-refl counting (x ∷ xs) = rw (byte-equal classes counting x) (same-refl (countNext table counting x) xs)
 
   -- what follows both may be the same too
   pub same-append : (counting : Bool) (xs ys zs : List ℕ) → samePart table classes counting xs ys ≡ true
@@ -75,20 +74,17 @@ module _ (table classes : List ℕ) where
   same-append counting [] [] zs h = same-refl counting zs
   same-append counting [] (y ∷ ys) zs h = let z : _≡_ {A = ℕ} 0 1 = ap (λ (x : Bool). cond x 1 0) h in absurd (omega arith)
   same-append counting (x ∷ xs) [] zs h = let z : _≡_ {A = ℕ} 0 1 = ap (λ (x : Bool). cond x 1 0) h in absurd (omega arith)
-  same-append true (x ∷ xs) (y ∷ ys) zs h =
-      let a = and-true (eqb x y) (samePart table classes false xs ys) h in rw (a .0) (same-append false xs ys zs (a .1))
-  same-append false (x ∷ xs) (y ∷ ys) zs h =
-      let a = and-true (eqb (classOf classes x) (classOf classes y)) (samePart table classes (isList table x) xs ys) h in
-      rw (a .0) (same-append (isList table x) xs ys zs (a .1))
+  same-append counting (x ∷ xs) (y ∷ ys) zs h =
+      let a = and-true (sameByte classes counting x y) (samePart table classes (countNext table counting x) xs ys) h in
+      rw (a .0) (same-append (countNext table counting x) xs ys zs (a .1))
 
   pub same-lengths : (counting : Bool) (x y : List ℕ) → (length x ≡ length y → ⊥) → samePart table classes counting x y ≡ false
   unfolding samePart
   same-lengths counting [] [] n = absurd (n refl)
   same-lengths counting [] (y ∷ ys) n = refl
   same-lengths counting (x ∷ xs) [] n = refl
-  same-lengths true (x ∷ xs) (y ∷ ys) n = rw (same-lengths false xs ys (λ e. n (ap suc e))) (and-false (eqb x y))
-  same-lengths false (x ∷ xs) (y ∷ ys) n =
-      rw (same-lengths (isList table x) xs ys (λ e. n (ap suc e))) (and-false (eqb (classOf classes x) (classOf classes y)))
+  same-lengths counting (x ∷ xs) (y ∷ ys) n =
+      rw (same-lengths (countNext table counting x) xs ys (λ e. n (ap suc e))) (and-false (sameByte classes counting x y))
 
   -- at a place of both
 

@@ -11,7 +11,7 @@ ghost use Rattle.term.specs.Refusal.{numberOf, readNumber, readLength};
 ghost use Rattle.term.specs.Node.{listNode, unlessDeep, codeNode, nodeAt};
 ghost use Rattle.term.specs.Extent.{kidsOf, entryOf, extentOf};
 ghost use Rattle.term.specs.Class.{classOf, entryClassed, classesAccepted};
-ghost use Rattle.term.specs.Same.{countNext, sameByte, samePart};
+ghost use Rattle.term.specs.Same.{countNext, sameByte, samePart, Compares};
 ghost use Rattle.term.specs.Part.{boundPart, isAbsent, partBytes};
 ghost use Rattle.term.specs.Frame.{frame};
 ghost use Rattle.term.specs.Reading.{shown, readTree, HandsOn, readWhole, Shallow, readRecord, readPattern};
@@ -558,12 +558,12 @@ fn same_bytes(x: &[u8], y: &[u8]) -> bool
     requires { ⌜ length (now x) ≡ length (now y) ⌝ }
     ensures { λ r. ⌜ r ≡ samePart [] [] true (now (x .entry)) (now (y .entry)) ⌝ }
 {
-    let mut i: usize = 0;
-    while i < x.len() {
-        if x[i] != y[i] {
+    let mut at: usize = 0;
+    while at < x.len() {
+        if x[at] != y[at] {
             return false;
         }
-        i = i + 1;
+        at = at + 1;
     }
     true
 }
@@ -594,7 +594,8 @@ fn count_next(table: &[u8], counting: bool, x: u8) -> bool
 
 // Whether two parts of records are the same up to class.
 pub fn same(table: &[u8], classes: &[u8], x: &[u8], y: &[u8]) -> bool
-    ensures { λ r. ⌜ r ≡ samePart (now (table .entry)) (now (classes .entry)) false (now (x .entry)) (now (y .entry)) ⌝ }
+    ensures is { λ r. ⌜ r ≡ samePart (now (table .entry)) (now (classes .entry)) false (now (x .entry)) (now (y .entry)) ⌝ }
+    ensures demand { λ r. ⌜ Compares (now (table .entry)) (now (classes .entry)) (now (x .entry)) (now (y .entry)) r ⌝ }
 {
     if x.len() != y.len() {
         return false;

@@ -30,7 +30,7 @@ returns-2 : tie.Need-returns-2
 unfolding standsOf
 returns-2 c = let args = c .before .before .before .before .before .before .before .before .before .args in
     rw (le-leb (args .part .length) (length (args .r .now)) (c .before .before .before .if1 .left), ← c .before .before .bytes-of .ensures)
-    (c .same .ensures)
+    (c .same .ensures .0)
 
 pub stands-spec : {M : Type 1} → statement M
 stands-spec =

@@ -8,6 +8,7 @@ use lib.ListN.{length, drop}
 use borrow.Author.Tests.{not-true, not-false}
 use Rattle.term.specs.Same.{samePart}
 use Rattle.term.proofs.SameParts.{same-next, same-differs, same-lengths, same-end, same-none}
+use Rattle.term.proofs.Demands.{compared}
 use Rattle.term.proofs.same.Statement.{statement}
 use Rattle.term.proofs.same.Tie as tie
 
@@ -19,7 +20,7 @@ abbrev μ-loop : tie.MeasureT-loop
 μ-loop table classes x y counting₀ i₀ counting i = length x - i
 
 returns : tie.Need-returns Inv-loop μ-loop
-returns c = sym (same-lengths _ _ false _ _ (c .if1 .taken))
+returns c = compared _ _ _ _ _ (sym (same-lengths _ _ false _ _ (c .if1 .taken)))
 
 same-bytes-requires : tie.Need-same-bytes-requires Inv-loop μ-loop
 same-bytes-requires c κs = omega arith
@@ -27,7 +28,8 @@ same-bytes-requires c κs = omega arith
 returns-2 : tie.Need-returns-2 Inv-loop μ-loop
 returns-2 c =
     let args = c .before .before .before .before .before .before .before .args in
-    c .same-bytes .ensures ∙ sym (same-none (args .table .now) (args .classes .now) (args .x .now) (args .y .now) (omega arith))
+    compared _ _ _ _ _
+    (c .same-bytes .ensures ∙ sym (same-none (args .table .now) (args .classes .now) (args .x .now) (args .y .now) (omega arith)))
 
 loop-holds : tie.Need-loop-holds Inv-loop μ-loop
 loop-holds c = (omega arith, refl)
@@ -45,8 +47,9 @@ returns-3 : tie.Need-returns-3 Inv-loop μ-loop
 returns-3 c =
     let args = c .before .before .before .before .before .before .before .before .before .before .before .before .args in
     let turn = c .before .before .before .before .before .loop in
-    sym (turn .inv .1 ∙ same-differs (args .table .now) (args .classes .now) (turn .counting) (args .x .now) (args .y .now) (turn .i) (omega arith) (omega arith)
-    (sym (c .before .same-byte .ensures) ∙ not-true _ (c .if3 .taken)))
+    compared _ _ _ _ _
+    (sym (turn .inv .1 ∙ same-differs (args .table .now) (args .classes .now) (turn .counting) (args .x .now) (args .y .now) (turn .i) (omega arith) (omega arith)
+    (sym (c .before .same-byte .ensures) ∙ not-true _ (c .if3 .taken))))
 
 shared-slice-read-count-next : tie.Need-shared-slice-read-count-next Inv-loop μ-loop
 shared-slice-read-count-next c = omega arith
@@ -73,7 +76,8 @@ returns-4 : tie.Need-returns-4 Inv-loop μ-loop
 returns-4 c =
     let args = c .before .before .before .before .before .before .before .before .args in
     let turn = c .before .loop in
-    sym (turn .inv .1 ∙ same-end (args .table .now) (args .classes .now) (turn .counting) (args .x .now) (args .y .now) (turn .i) (omega arith) (omega arith))
+    compared _ _ _ _ _
+    (sym (turn .inv .1 ∙ same-end (args .table .now) (args .classes .now) (turn .counting) (args .x .now) (args .y .now) (turn .i) (omega arith) (omega arith)))
 
 pub same-spec : {M : Type 1} → statement M
 same-spec =

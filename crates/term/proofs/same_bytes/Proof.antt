@@ -12,10 +12,10 @@ use Rattle.term.proofs.same_bytes.Statement.{statement}
 use Rattle.term.proofs.same_bytes.Tie as tie
 
 abbrev Inv-loop : tie.InvT-loop
-Inv-loop x y i₀ i = (i ≤ length x) × (samePart [] [] true x y ≡ samePart [] [] true (drop i x) (drop i y))
+Inv-loop x y at₀ at = (at ≤ length x) × (samePart [] [] true x y ≡ samePart [] [] true (drop at x) (drop at y))
 
 abbrev μ-loop : tie.MeasureT-loop
-μ-loop x y i₀ i = length x - i
+μ-loop x y at₀ at = length x - at
 
 loop-holds : tie.Need-loop-holds Inv-loop μ-loop
 loop-holds c = (omega arith, refl)
@@ -30,10 +30,10 @@ returns : tie.Need-returns Inv-loop μ-loop
 returns c =
     let args = c .before .before .before .before .before .args in
     let turn = c .before .before .before .before .loop in
-    sym (turn .inv .1 ∙ same-byte-step (args .x .now) (args .y .now) (turn .i) (omega arith) (omega arith) ∙ simp (ne-eqb _ _ (c .if1 .taken)))
+    sym (turn .inv .1 ∙ same-byte-step (args .x .now) (args .y .now) (turn .at) (omega arith) (omega arith) ∙ simp (ne-eqb _ _ (c .if1 .taken)))
 
-add-i : tie.Need-add-i Inv-loop μ-loop
-add-i c = omega arith
+add-at : tie.Need-add-at Inv-loop μ-loop
+add-at c = omega arith
 
 loop-less : tie.Need-loop-less Inv-loop μ-loop
 loop-less c = omega arith
@@ -42,13 +42,13 @@ loop-again : tie.Need-loop-again Inv-loop μ-loop
 loop-again c =
     let args = c .before .before .before .before .before .args in
     let turn = c .before .before .before .before .loop in
-    (omega arith, turn .inv .1 ∙ same-byte-step (args .x .now) (args .y .now) (turn .i) (omega arith) (omega arith) ∙ simp (eq-eqb _ _ (c .if1 .left)))
+    (omega arith, turn .inv .1 ∙ same-byte-step (args .x .now) (args .y .now) (turn .at) (omega arith) (omega arith) ∙ simp (eq-eqb _ _ (c .if1 .left)))
 
 returns-2 : tie.Need-returns-2 Inv-loop μ-loop
 returns-2 c =
     let args = c .before .before .args in
     let turn = c .before .loop in
-    sym (turn .inv .1 ∙ same-end [] [] true (args .x .now) (args .y .now) (turn .i) (omega arith) (omega arith))
+    sym (turn .inv .1 ∙ same-end [] [] true (args .x .now) (args .y .now) (turn .at) (omega arith) (omega arith))
 
 pub same-bytes-spec : {M : Type 1} → statement M
 same-bytes-spec =
@@ -60,7 +60,7 @@ same-bytes-spec =
     shared-slice-read-if1
     shared-slice-read-if1-2
     returns
-    add-i
+    add-at
     loop-less
     loop-again
     returns-2)
