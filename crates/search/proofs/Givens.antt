@@ -20,7 +20,7 @@ use Rattle.search.specs.Given.{Pass, ends, elementsOf, resumedBy, orFurt
 use Rattle.search.specs.Inner.GivenReplies.{resuming, resumedAs, passBy, FurtherIs, GivenFollows, GivenIs}
 use Rattle.search.specs.Inner.Memory.{bit, packed, Holds, Holding, Kept}
 use Rattle.search.specs.Inner.Bounds.{Ready, Walks}
-use Rattle.search.specs.Inner.Replies.{failure, replyOf, triesOf, runStart, LevelIs, RestIs}
+use Rattle.search.specs.Inner.Replies.{failure, replyOf, triesOf, LevelIs, RestIs}
 use Rattle.search.specs.Inner.Halts.{PairsAre}
 use Rattle.search.specs.declared.Place.{Place}
 use Rattle.search.specs.declared.Marks.{Marks}
@@ -35,7 +35,7 @@ use Rattle.search.proofs.Masks.{bit-still}
 use Rattle.search.proofs.Steps.{rest-drop}
 use Rattle.search.proofs.Held.{kept-part}
 use Rattle.search.proofs.Kept.{kept-all, kept-then, restored, past, past-holds, given-holds}
-use Rattle.search.proofs.Levels.{lengths-tries, given-past, place-is, level-stops, failure-is}
+use Rattle.search.proofs.Levels.{lengths-tries, given-past, level-stops, failure-is}
 use Rattle.search.proofs.Reporting.{met, met-fails, met-parts, walk-stays}
 
 -- The byte behind so many elements
@@ -94,16 +94,6 @@ further-tries lv table bytes v s (suc j) n size left h =
     ∙ ap (λ (x : ℕ). cond (eqb left 0) (spentAt left)
     (triesOf lv table bytes v (past s) x (n + 1) (size + extentOf table (drop (s .place .node + size) bytes)) (left - 1))) (sym z)
 
--- where the run starts of which one element more than n is taken
-run-start : (p : Place) (n size : ℕ) → n < p .elements → runStart (n + 1) (p .node) (passed p (n + 1) 1 size) ≡ passed p 0 1 0
-run-start p n size h = place-is (runStart (n + 1) (p .node) (passed p (n + 1) 1 size)) (passed p 0 1 0) refl (omega arith) refl (omega arith)
-
-pub further-holding : {codes bytes assigned : ℕ} {parts stack : List ℕ} {m : Marks} {p : Place} (n size : ℕ) → n < p .elements → p .at < codes
-    → Holding codes bytes assigned parts stack m p → Holding codes bytes assigned parts stack m (runStart (n + 1) (p .node) (passed p (n + 1) 1 size))
-further-holding {codes} {bytes} {assigned} {parts} {stack} {m} {p} n size l i h =
-    subst (λ (x : Place). Holding codes bytes assigned parts stack m x) (sym (run-start p n size l))
-    (record { state = past (h .state); holds = past-holds i (h .holds) })
-
 module _ (table classes pattern bytes : List ℕ) (assigned left : ℕ) (parts stack : List ℕ) (v n node : ℕ) (m : Marks) (p : Place) where
   pub further-none : p .elements ≤ n → FurtherIs table classes pattern bytes assigned left parts stack v n (node - p .node) m p Failed assigned left parts stack
   unfolding furtherOf
@@ -124,32 +114,24 @@ module _ (table classes pattern bytes : List ℕ) (assigned left : ℕ) (parts s
   }
 
   pub further-level : n < p .elements → (left ≡ 0 → ⊥) → p .at < length pattern → p .node ≤ node → (e : ℕ)
-      → e ≡ extentOf table (take (length bytes - node) (drop node bytes)) → (q : Place) → q ≡ passed p (n + 1) 1 (node + e - p .node)
+      → e ≡ extentOf table (take (length bytes - node) (drop node bytes))
       → {o : Outcome} {assigned′ left′ : ℕ} {parts′ stack′ : List ℕ}
-      → LevelIs table classes pattern bytes assigned (left - 1) parts stack v (n + 1) (q .node - p .node) (p .elements) m (runStart (n + 1) (p .node) q)
+      → LevelIs table classes pattern bytes assigned (left - 1) parts stack v (n + 1) (node + e - p .node) (p .elements) m (passed p 0 1 0)
       o assigned′ left′ parts′ stack′
       → FurtherIs table classes pattern bytes assigned left parts stack v n (node - p .node) m p o assigned′ left′ parts′ stack′
-  further-level h z i j e is-e q is-q {o} {assigned′} {left′} {parts′} {stack′} r = record {
+  further-level h z i j e is-e r = record {
     replies = λ s g k l.
         let x : s .place .node + (node - p .node) ≡ node = omega (arith, ap (λ (x : Place). x .node) (g .place)) in
         let y : e ≡ extentOf table (drop (s .place .node + (node - p .node)) bytes) =
         is-e ∙ ap (extentOf table) (rest-drop node bytes ∙ ap (λ (a : ℕ). drop a bytes) (sym x)) in
         let a : p .elements - (n + 1) ≡ p .elements - n - 1 = omega arith in
-        let b : p .node + (node + e - p .node) - p .node ≡ node - p .node + extentOf table (drop (s .place .node + (node - p .node)) bytes) = omega (arith, y) in
-        there .replies (past s) (past-holds i g) k (omega arith)
+        let b : node + e - p .node ≡ node - p .node + extentOf table (drop (s .place .node + (node - p .node)) bytes) = omega (arith, y) in
+        r .replies (past s) (past-holds i g) k (omega arith)
         ∙ ap₂ (λ (a b : ℕ). triesOf (levelOf k table classes bytes pattern) table bytes v (past s) a (n + 1) b (left - 1)) a b
         ∙ sym (further-tries (levelOf k table classes bytes pattern) table bytes v s (p .elements - n) n (node - p .node) left (omega arith)
         ∙ rw (ne-eqb left 0 z));
-    kept = there .kept;
+    kept = r .kept;
   }
-    where
-      there : LevelIs table classes pattern bytes assigned (left - 1) parts stack v (n + 1) (p .node + (node + e - p .node) - p .node) (p .elements) m
-          (passed p 0 1 0) o assigned′ left′ parts′ stack′
-      there =
-          subst (λ (x : Place). LevelIs table classes pattern bytes assigned (left - 1) parts stack v (n + 1) (p .node + (node + e - p .node) - p .node)
-          (p .elements) m x o assigned′ left′ parts′ stack′) (run-start p n (node + e - p .node) h)
-          (subst (λ (x : Place). LevelIs table classes pattern bytes assigned (left - 1) parts stack v (n + 1) (x .node - p .node)
-          (p .elements) m (runStart (n + 1) (p .node) x) o assigned′ left′ parts′ stack′) is-q r)
 
 -- The rest of a level, by the stop of its walk
 

@@ -3,12 +3,14 @@
 use Prim.Native.Nat.{ℕ, zero, suc, _+_, _-_, _%_, _^_, _<_, _≤_}
 use native.Mathlib.Omega.{arith}
 use native.Mathlib.Nat.{lt-of-lt-of-le, zero-div}
-use mathlib.Core.Path.{_≡_, refl, sym, ap, _∙_}
+use mathlib.Core.Path.{_≡_, refl, sym, ap, subst, _∙_}
 use mathlib.Core.List.{List, [], _∷_}
 use mathlib.Core.Bool.{Bool, true, false, cond, true≢false}
 use lib.Bits.{bitOr}
-use lib.ListN.{length, getD, set, replicate, length-replicate, getD-replicate}
+use lib.ListN.{length, getD, set, replicate, length-set, length-replicate, getD-replicate}
+use lib.Seq.{getD-set-same, getD-set-other}
 use lib.Dec.{eqb}
+use borrow.Author.Tests.{eqb-true, eqb-false}
 use Rattle.term.specs.Limits.{longestRecord, longestPattern}
 use Rattle.term.specs.Code.{variables}
 use Rattle.term.specs.Part.{part, absent, boundPart}
@@ -25,6 +27,22 @@ use Rattle.search.proofs.Held.{holds-moved, holds-assigned}
 -- nothing is changed
 pub kept-all : {assigned : ℕ} {m : Marks} {parts stack : List ℕ} → Kept assigned m parts stack parts stack
 kept-all = record { of-parts = λ v l b. refl; of-frames = λ i l. refl; of-waiting = λ i l. refl; sized = λ z. z }
+
+-- a variable has the number already that is written as its part
+pub kept-back : {assigned : ℕ} {m : Marks} {parts stack : List ℕ} (v x : ℕ) → v < length parts → (v < variables → getD parts v 0 ≡ x)
+    → Kept assigned m (set parts v x) stack parts stack
+kept-back {parts = parts} {stack = stack} v x l h = record {
+  of-parts = λ w low b. by w low (eqb v w) refl;
+  of-frames = λ i l. refl;
+  of-waiting = λ i l. refl;
+  sized = λ z. record { of-parts = sym (length-set parts v x) ∙ z .of-parts; of-stack = z .of-stack };
+}
+  where
+    by : (w : ℕ) → w < variables → (c : Bool) → eqb v w ≡ c → getD parts w 0 ≡ getD (set parts v x) w 0
+    by w low true e =
+        let i : v ≡ w = eqb-true v w e in
+        rw (← i) (h (subst (λ (u : ℕ). u < variables) (sym i) low) ∙ sym (getD-set-same parts v x 0 l))
+    by w low false e = let d = eqb-false v w e in sym (getD-set-other parts v w x 0 (λ i. d (sym i)))
 
 -- one call after another, that has at least as much to keep
 pub kept-then : {assigned assigned₁ : ℕ} {m m₁ : Marks} {parts stack parts₁ stack₁ parts₂ stack₂ : List ℕ}

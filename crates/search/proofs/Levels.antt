@@ -1,6 +1,6 @@
 -- The laws of the search of levels, one for each way that a turn of its loops goes.
 -- Assumes nothing.
-use Prim.Native.Nat.{ℕ, zero, suc, _+_, _-_, _^_, _<_, _≤_}
+use Prim.Native.Nat.{ℕ, zero, suc, _+_, _-_, _*_, _^_, _<_, _≤_}
 use native.Mathlib.Omega.{arith}
 use native.Mathlib.Nat.{sub-zero, le-refl}
 use mathlib.Core.Path.{_≡_, refl, sym, ap, subst, _∙_, ap₂}
@@ -8,7 +8,7 @@ use mathlib.Core.List.{List, [], _∷_}
 use mathlib.Core.Bool.{Bool, true, false, cond, _&&_, true≢false}
 use lib.Bits.{bitOr}
 use lib.ListN.{length, getD, take, drop, set, replicate, length-drop}
-use lib.Seq.{length-take-le, set-out}
+use lib.Seq.{length-take-le, set-out, getD-set-same}
 use lib.Dec.{leb, eqb}
 use borrow.Author.Tests.{le-leb, eq-eqb, ne-eqb}
 use Rattle.term.specs.Limits.{longestRecord, longestPattern}
@@ -18,10 +18,10 @@ use Rattle.term.specs.Part.{absent, boundPart}
 use Rattle.term.specs.declared.Part.{Part}
 use Rattle.search.specs.State.{turns, PutBy, State, place, passed, walked, walkOf}
 use Rattle.search.specs.Level.{Reply, reply, failedAt, spentAt, failed, refuted, startOf, tried, lengthsOf, insideOf, complementsOf, stopBy, afterWalk, levelOf, levels, searchOf}
-use Rattle.search.specs.Inner.Memory.{marks, packed, putByIn, Queued, Insides, Sized, Holds, Holding, Kept}
+use Rattle.search.specs.Inner.Memory.{marks, bit, packed, putByIn, Queued, Insides, Sized, Holds, Holding, Kept}
 use Rattle.search.specs.Inner.Bounds.{Walks}
-use Rattle.search.specs.Inner.Replies.{failure, found, turned, partsIn, replyOf, given, triesOf, inside, Free, Resting, Testable, LevelIs, RestIs, FollowIs, ComplementIs, ComplementsAre}
-use Rattle.search.specs.Inner.Halts.{Reports, Told, Halts, Halting, RestBy, LevelBy}
+use Rattle.search.specs.Inner.Replies.{failure, found, turned, partsIn, replyOf, given, triesOf, runStart, inside, Free, Resting, Testable, LevelIs, RestIs, FollowIs, ComplementIs, ComplementsAre}
+use Rattle.search.specs.Inner.Halts.{Reports, Told, Halts, Halting, RestBy, LevelBy, Begun, Levels}
 use Rattle.search.specs.declared.Place.{Place}
 use Rattle.search.specs.declared.Marks.{Marks}
 use Rattle.search.specs.declared.Stop.{Stop}
@@ -29,10 +29,11 @@ use Rattle.search.specs.declared.Stop.the-variants.{Failure, NoAllowance
 use Rattle.search.specs.declared.Reached.{Reached}
 use Rattle.search.specs.declared.Outcome.{Outcome}
 use Rattle.search.specs.declared.Outcome.the-variants.{Found, Failed, Spent}
-use Rattle.search.proofs.Masks.{bit-still}
+use Rattle.search.proofs.Masks.{bit-new, bit-still, packed-longer, packed-below}
 use Rattle.search.proofs.Steps.{rest-drop}
 use Rattle.search.proofs.Held.{kept-part}
-use Rattle.search.proofs.Kept.{kept-all, kept-then, restored, past, past-holds, given-holds, start-holds, first-holds, state-shown}
+use Rattle.search.proofs.Kept.{kept-all, kept-then, kept-back, restored, past, past-holds, given-holds, start-holds, first-holds, state-shown}
+use Rattle.search.proofs.Begins.{place-is, level-from, run-here, none-begun, run-start, kept-unassigned, run-begun}
 
 -- Replies
 
@@ -118,10 +119,6 @@ rest-follows {table} {classes} {pattern} {bytes} {left = left} {r = r} {o = o} {
       kept-then (w .still) (w .more-frames) (w .more-waiting) (w .kept) (follows .kept);
 }
 
-pub place-is : (p q : Place) → p .children ≡ q .children → p .elements ≡ q .elements → p .at ≡ q .at → p .node ≡ q .node → p ≡ q
-place-is p q a b c d =
-    let e : place (p .children) (p .elements) (p .at) (p .node) ≡ place (q .children) (q .elements) (q .at) (q .node) = rw (a, b, c, d) in e
-
 -- A level's start gives no variable any element
 
 given-none : (s : State) → length (s .parts) ≡ variables → given s variables 0 0 ≡ s
@@ -150,12 +147,14 @@ module _ (table classes pattern bytes : List ℕ) (assigned allowance : ℕ) (pa
     pub kept : Kept assigned m parts₀ stack₀ parts stack
     pub least : first ≤ n
     pub fresh : n ≡ first → (left ≡ allowance) × (p .node - start .node ≡ behind)
+    pub written : v < variables → getD parts v 0 ≡ packed (boundPart (start .node) (p .node - start .node) n)
     pub same : (s : State) → Starts s → (k : ℕ) → levels pattern (start .at) ≤ k
         → triesFrom k s (most - first) first behind allowance ≡ triesFrom k s (most - n) n (p .node - start .node) left
 
   pub try-first : (p : Place) → first ≤ most → p .children ≡ start .children → p .elements ≡ start .elements - first → p .at ≡ start .at
-      → start .node ≤ p .node → p .node ≤ length bytes → behind ≡ p .node - start .node → Trying allowance parts₀ stack₀ p first
-  try-first p few children elements at further within z = record {
+      → start .node ≤ p .node → p .node ≤ length bytes → behind ≡ p .node - start .node
+      → (v < variables → getD parts₀ v 0 ≡ packed (boundPart (start .node) (p .node - start .node) first)) → Trying allowance parts₀ stack₀ p first
+  try-first p few children elements at further within z written = record {
     few = few;
     children = children;
     elements = elements;
@@ -165,6 +164,7 @@ module _ (table classes pattern bytes : List ℕ) (assigned allowance : ℕ) (pa
     kept = kept-all;
     least = le-refl first;
     fresh = λ e. (refl, sym z);
+    written = written;
     same = λ s i k l. ap (λ (x : ℕ). triesFrom k s (most - first) first x allowance) z;
   }
 
@@ -173,54 +173,54 @@ module _ (table classes pattern bytes : List ℕ) (assigned allowance : ℕ) (pa
     abbrev size : ℕ
     size = p .node - start .node
 
-    -- the variable's part is written
-    pub record Written (part seen : ℕ) : Type 0 where
+    -- the variable is assigned
+    pub record Marked (seen : ℕ) : Type 0 where
       pub holding : Holding (length pattern) (length bytes) assigned parts₀ stack₀ m start
       pub free : Free assigned v
       pub short : length bytes ≤ longestRecord
       pub byte : n < 256
-      pub is-part : part ≡ packed (boundPart (start .node) size n)
       pub is-seen : seen ≡ bitOr assigned (2 ^ v)
 
-    module _ {part seen : ℕ} (q : Written part seen) where
+    module _ {seen : ℕ} (q : Marked seen) where
       given-place : (s : State) → Starts s → given s v n size .place ≡ p
       given-place s h =
           ap (λ (x : Place). place (x .children) (x .elements - n) (x .at) (x .node + size)) (h .place)
           ∙ place-is (place (start .children) (start .elements - n) (start .at) (start .node + size)) p
           (sym (t .children)) (sym (t .elements)) (sym (t .at)) (omega (arith, t .further))
 
-      written-holds : (s : State) → Starts s
-          → Holds (length pattern) (length bytes) seen (set parts v part) stack m p (given s v n size)
-      written-holds s h =
+      marked-holds : (s : State) → Starts s → Holds (length pattern) (length bytes) seen parts stack m p (given s v n size)
+      marked-holds s h =
+          let held : Holds (length pattern) (length bytes) assigned parts stack m start s = restored (t .kept) h in
           let i : Holds (length pattern) (length bytes) assigned parts stack m (s .place) s =
-          subst (λ (x : Place). Holds (length pattern) (length bytes) assigned parts stack m x s) (sym (h .place)) (restored (t .kept) h) in
-          rw (q .is-part, q .is-seen)
+          subst (λ (x : Place). Holds (length pattern) (length bytes) assigned parts stack m x s) (sym (h .place)) held in
+          rw (q .is-seen)
+          (restored (kept-back v (packed (boundPart (start .node) size n)) (omega (arith, q .free .below, held .sized .of-parts)) (t .written))
           (subst (λ (x : Place). Holds (length pattern) (length bytes) (bitOr assigned (2 ^ v))
           (set parts v (packed (boundPart (start .node) size n))) stack m x (given s v n size))
           (given-place s h)
           (given-holds assigned v (start .node) size n (omega (arith, t .further, t .within, q .short)) (q .free .below) (q .byte)
-          (ap (λ (x : Place). x .node) (h .place)) (omega (arith, t .further, t .within)) i))
+          (ap (λ (x : Place). x .node) (h .place)) (omega (arith, t .further, t .within)) i)))
 
-      pub written-holding : Holding (length pattern) (length bytes) seen (set parts v part) stack m p
-      written-holding = record {
+      pub marked-holding : Holding (length pattern) (length bytes) seen parts stack m p
+      marked-holding = record {
         state = given (q .holding .state) v n size;
-        holds = written-holds (q .holding .state) (q .holding .holds);
+        holds = marked-holds (q .holding .state) (q .holding .holds);
       }
 
       -- what the rest of the level makes of it
       module _ {o : Outcome} {assigned₂ left₂ : ℕ} {parts₂ stack₂ : List ℕ}
-          (rest : RestIs table classes pattern bytes seen left (set parts v part) stack m p o assigned₂ left₂ parts₂ stack₂) where
+          (rest : RestIs table classes pattern bytes seen left parts stack m p o assigned₂ left₂ parts₂ stack₂) where
         abbrev answer : Reply
         answer = replyOf o left₂ assigned₂ parts₂
 
         turn-is : (s : State) → Starts s → (k : ℕ) → levels pattern (start .at) ≤ k
             → answer ≡ levelOf k table classes bytes pattern (given s v n size) left
-        turn-is s h k l = rest .replies (given s v n size) (written-holds s h) k (omega (arith, t .at, l))
+        turn-is s h k l = rest .replies (given s v n size) (marked-holds s h) k (omega (arith, t .at, l))
 
         turn-kept : Kept assigned m parts₀ stack₀ parts₂ stack₂
         turn-kept =
             kept-then {m₁ = m} (λ i b. rw (q .is-seen) (bit-still assigned v i b)) (le-refl (m .frames)) (le-refl (m .waiting))
-            (kept-part assigned assigned m m parts₀ stack₀ parts stack (t .kept) (λ i b. b) v part (q .free .free)) (rest .kept)
+            (t .kept) (rest .kept)
 
         abbrev replied : (o′ : Outcome) → Type 0
         replied o′ = LevelIs table classes pattern bytes assigned allowance parts₀ stack₀ v first behind most m start o′ assigned₂ left₂ parts₂ stack₂
@@ -253,45 +253,54 @@ module _ (table classes pattern bytes : List ℕ) (assigned allowance : ℕ) (pa
           kept = turn-kept;
         }
 
-        pub try-more : failed o ≡ true → n < most → (left₂ ≡ 0 → ⊥) → (p′ : Place) (e : ℕ)
+        -- and its part is there still
+        pub part-there : v < variables → getD parts₂ v 0 ≡ packed (boundPart (start .node) size n)
+        part-there low = rest .kept .of-parts v low (rw (q .is-seen) (bit-new assigned v)) ∙ t .written low
+
+        pub try-more : failed o ≡ true → n < most → v < variables → (left₂ ≡ 0 → ⊥) → (p′ : Place) (e x : ℕ)
             → e ≡ extentOf table (take (length bytes - p .node) (drop (p .node) bytes))
             → p′ .children ≡ p .children → p′ .elements ≡ p .elements - 1 → p′ .at ≡ p .at → p′ .node ≡ p .node + e → p .node + e ≤ length bytes
-            → Trying (left₂ - 1) parts₂ stack₂ p′ (n + 1)
-        try-more f i z p′ e is-e a b c d w = record {
+            → x ≡ getD parts₂ v 0 + 65536 * e + 4294967296
+            → Trying (left₂ - 1) (set parts₂ v x) stack₂ p′ (n + 1)
+        try-more f i low z p′ e x is-e a b c d w is-x = record {
           few = omega arith;
           children = a ∙ t .children;
           elements = omega (arith, b, t .elements);
           at = c ∙ t .at;
           further = omega (arith, d, t .further);
           within = omega (arith, d, w);
-          kept = turn-kept;
+          kept = kept-part assigned assigned m m parts₀ stack₀ parts₂ stack₂ turn-kept (λ i b. b) v x (q .free .free);
+          written = λ l.
+              getD-set-same parts₂ v x 0 (omega (arith, low, turn-kept .sized (q .holding .holds .sized) .of-parts))
+              ∙ is-x ∙ ap (λ (y : ℕ). y + 65536 * e + 4294967296) (part-there low)
+              ∙ packed-longer (start .node) size e n (p′ .node - start .node) (omega (arith, d, t .further)) (omega (arith, d, w, q .short));
           least = omega (arith, t .least);
           fresh = λ y. absurd (omega (arith, t .least, y));
           same = λ s h k l.
               let j : most - n - 1 ≡ most - (n + 1) = omega arith in
               let g : s .place .node + size ≡ p .node = omega (arith, ap (λ (x : Place). x .node) (h .place), t .further) in
-              let x : p′ .node - start .node ≡ size + e = omega (arith, d, t .further) in
+              let y : p′ .node - start .node ≡ size + e = omega (arith, d, t .further) in
               t .same s h k l
               ∙ tries-more (levelOf k table classes bytes pattern) table bytes v s (most - n) n size left
               answer (omega arith) (turn-is s h k l) (fails f) (λ (y : answer .left ≡ 0). z (sym (reply-left left₂ assigned₂ parts₂ o) ∙ y))
-              ∙ rw (reply-left left₂ assigned₂ parts₂ o, j, g, x, is-e, rest-drop (p .node) bytes);
+              ∙ rw (reply-left left₂ assigned₂ parts₂ o, j, g, y, is-e, rest-drop (p .node) bytes);
         }
 
       -- and where the level halts
       module _ {o : Outcome} {assigned₂ left₂ : ℕ} {parts₂ stack₂ : List ℕ} where
         try-halt : v ≡ variables → first ≡ 0 → most ≡ 0 → behind ≡ 0
-            → Halts table classes pattern bytes seen left (set parts v part) stack m p o assigned₂ left₂ parts₂ stack₂
+            → Halts table classes pattern bytes seen left parts stack m p o assigned₂ left₂ parts₂ stack₂
             → Halts table classes pattern bytes assigned allowance parts₀ stack₀ m start o assigned₂ left₂ parts₂ stack₂
         try-halt is-v is-first is-most none r = record {
           reached = r .reached;
           parts₁ = r .parts₁;
-          walks = λ s h. let w = r .walks (given s v n size) (written-holds s h) in record {
+          walks = λ s h. let w = r .walks (given s v n size) (marked-holds s h) in record {
             end = w .end;
             is = ap₂ (λ (x : State) (l : ℕ). walkOf turns table classes pattern bytes x l) (sym (unchanged s h)) (sym (t .fresh at-first .0)) ∙ w .is;
             holds = w .holds;
             kept =
                 kept-then {m₁ = m} (λ i b. rw (q .is-seen) (bit-still assigned v i b)) (le-refl (m .frames)) (le-refl (m .waiting))
-                (kept-part assigned assigned m m parts₀ stack₀ parts stack (t .kept) (λ i b. b) v part (q .free .free)) (w .kept);
+                (t .kept) (w .kept);
             still = λ i b. w .still i (rw (q .is-seen) (bit-still assigned v i b));
             more-frames = w .more-frames;
             more-waiting = w .more-waiting;
@@ -313,7 +322,7 @@ module _ (table classes pattern bytes : List ℕ) (assigned allowance : ℕ) (pa
                 ∙ ap (λ (x : ℕ). given s variables 0 x) (t .fresh at-first .1 ∙ none) ∙ given-none s (h .all-variables)
 
       module _ {halts : Bool} {o : Outcome} {assigned₂ left₂ : ℕ} {parts₂ stack₂ : List ℕ} (a : Halting halts v first most behind)
-          (rest : RestBy halts table classes pattern bytes seen left (set parts v part) stack m p o assigned₂ left₂ parts₂ stack₂) where
+          (rest : RestBy halts table classes pattern bytes seen left parts stack m p o assigned₂ left₂ parts₂ stack₂) where
         abbrev repliedBy : (o′ : Outcome) → Type 0
         repliedBy o′ = LevelBy halts table classes pattern bytes assigned allowance parts₀ stack₀ v first behind most m start o′ assigned₂ left₂ parts₂ stack₂
 
@@ -330,23 +339,150 @@ module _ (table classes pattern bytes : List ℕ) (assigned allowance : ℕ) (pa
         try-spent-by f i z = record { halted = λ h. absurd (omega (arith, a .none h .2, i)); going = λ h. try-spent (rest .going h) f i z }
 
         -- another length is tried only where it does not halt
-        pub rest-free : n < most → RestIs table classes pattern bytes seen left (set parts v part) stack m p o assigned₂ left₂ parts₂ stack₂
+        pub rest-free : n < most → RestIs table classes pattern bytes seen left parts stack m p o assigned₂ left₂ parts₂ stack₂
         rest-free i = by halts refl
           where
-            by : (b : Bool) → halts ≡ b → RestIs table classes pattern bytes seen left (set parts v part) stack m p o assigned₂ left₂ parts₂ stack₂
+            by : (b : Bool) → halts ≡ b → RestIs table classes pattern bytes seen left parts stack m p o assigned₂ left₂ parts₂ stack₂
             by true h = absurd (omega (arith, a .none h .2, i))
             by false h = rest .going h
 
-pub rest-starts : {table classes pattern bytes : List ℕ} {assigned left : ℕ} {parts stack : List ℕ} {m : Marks} {p : Place}
-    {o : Outcome} {assigned′ left′ : ℕ} {parts′ stack′ : List ℕ}
-    → (size : ℕ) → size ≡ 0 → LevelIs table classes pattern bytes assigned left parts stack variables 0 size 0 m p o assigned′ left′ parts′ stack′
-    → RestIs table classes pattern bytes assigned left parts stack m p o assigned′ left′ parts′ stack′
-unfolding triesOf
-rest-starts {table} {classes} {pattern} {bytes} {left = left} size z r = record {
-  replies = λ s h n l. r .replies s h n l ∙ ap (λ (x : ℕ). levelOf n table classes bytes pattern (given s variables 0 x) left) z
-      ∙ ap (λ (x : State). levelOf n table classes bytes pattern x left) (given-none s (h .all-variables));
-  kept = r .kept;
-}
+-- The same from where the level is begun
+
+module _ (table classes pattern bytes : List ℕ) (assigned allowance : ℕ) (parts₀ stack₀ : List ℕ) (v : ℕ) (halts : Bool) (least : ℕ) (m : Marks)
+    (p₀ : Place) where
+  abbrev Begins : Type 0
+  Begins = Begun (length pattern) (length bytes) assigned parts₀ stack₀ v halts least m p₀
+
+  -- some length is tried here
+  pub record Turn (b : Begins) (left : ℕ) (parts stack : List ℕ) (p : Place) : Type 0 where
+    pub n : ℕ
+    pub trying : Trying table classes pattern bytes assigned allowance parts₀ stack₀ v (b .first) (p₀ .node - b .from) (b .most) m
+        (runStart (b .first) (b .from) p₀) left parts stack p n
+
+  pub record Turns (left : ℕ) (parts stack : List ℕ) (p : Place) : Type 0 where
+    pub turn : (b : Begins) → Turn b left parts stack p
+
+  pub turn-first : Turns allowance parts₀ stack₀ p₀
+  turn-first = record {
+    turn = λ b. record {
+      n = b .first;
+      trying = try-first table classes pattern bytes assigned allowance parts₀ stack₀ v (b .first) (p₀ .node - b .from) (b .most) m
+          (runStart (b .first) (b .from) p₀) p₀ (b .some) refl (omega arith) refl (b .behind) (b .within) refl (b .written);
+    };
+  }
+
+  module _ {left : ℕ} {parts stack : List ℕ} {p : Place} (turns : Turns left parts stack p) (short : length bytes ≤ longestRecord) {seen : ℕ}
+      (is-seen : seen ≡ bitOr assigned (2 ^ v)) where
+    marked : (b : Begins) → Marked table classes pattern bytes assigned allowance parts₀ stack₀ v (b .first) (p₀ .node - b .from) (b .most) m
+        (runStart (b .first) (b .from) p₀) (turns .turn b .trying) seen
+    marked b = record {
+      holding = b .holding;
+      free = b .free;
+      short = short;
+      byte = omega (arith, turns .turn b .trying .few, b .few);
+      is-seen = is-seen;
+    }
+
+    pub turn-holding : Begins → Holding (length pattern) (length bytes) seen parts stack m p
+    turn-holding b = marked-holding _ _ _ _ _ _ _ _ _ _ _ _ _ _ (turns .turn b .trying) (marked b)
+
+    module _ {o : Outcome} {assigned₂ left₂ : ℕ} {parts₂ stack₂ : List ℕ}
+        (rest : RestBy halts table classes pattern bytes seen left parts stack m p o assigned₂ left₂ parts₂ stack₂) where
+      abbrev Replied : Outcome → Type 0
+      Replied o′ = Levels table classes pattern bytes assigned allowance parts₀ stack₀ v halts least m p₀ o′ assigned₂ left₂ parts₂ stack₂
+
+      pub turn-hit : failed o ≡ false → Replied o
+      turn-hit f = record { from = λ b. try-hit-by _ _ _ _ _ _ _ _ _ _ _ _ _ _ (turns .turn b .trying) (marked b) (b .halting) rest f }
+
+      pub turn-last : p .elements ≤ least → Replied o
+      turn-last e = record {
+        from = λ b. try-last-by _ _ _ _ _ _ _ _ _ _ _ _ _ _ (turns .turn b .trying) (marked b) (b .halting) rest
+            (omega (arith, e, b .last, turns .turn b .trying .elements));
+      }
+
+      more : (b : Begins) → least < p .elements → turns .turn b .n < b .most
+      more b e = omega (arith, e, b .last, turns .turn b .trying .elements)
+
+      pub turn-spent : failed o ≡ true → least < p .elements → left₂ ≡ 0 → Replied Spent
+      turn-spent f e z = record {
+        from = λ b. try-spent-by _ _ _ _ _ _ _ _ _ _ _ _ _ _ (turns .turn b .trying) (marked b) (b .halting) rest f (more b e) z;
+      }
+
+      going : (b : Begins) → least < p .elements → RestIs table classes pattern bytes seen left parts stack m p o assigned₂ left₂ parts₂ stack₂
+      going b e = rest-free _ _ _ _ _ _ _ _ _ _ _ _ _ _ (turns .turn b .trying) (marked b) (b .halting) rest (more b e)
+
+      named : (b : Begins) → least < p .elements → v < variables
+      named b e = b .named (omega (arith, turns .turn b .trying .least, more b e))
+
+      -- its part has room for one element more
+      pub turn-room : Begins → least < p .elements → getD parts₂ v 0 < 2 ^ 48
+      turn-room b e =
+          packed-below _ _ _ _ (omega (arith, turns .turn b .trying .few, b .few))
+          (part-there _ _ _ _ _ _ _ _ _ _ _ _ _ _ (turns .turn b .trying) (marked b) (going b e) (named b e))
+
+      pub turn-more : failed o ≡ true → least < p .elements → (left₂ ≡ 0 → ⊥) → (p′ : Place) (e x : ℕ)
+          → e ≡ extentOf table (take (length bytes - p .node) (drop (p .node) bytes))
+          → p′ .children ≡ p .children → p′ .elements ≡ p .elements - 1 → p′ .at ≡ p .at → p′ .node ≡ p .node + e → p .node + e ≤ length bytes
+          → x ≡ getD parts₂ v 0 + 65536 * e + 4294967296
+          → Turns (left₂ - 1) (set parts₂ v x) stack₂ p′
+      turn-more f i z p′ e x is-e a c d g w is-x = record {
+        turn = λ b. record {
+          n = turns .turn b .n + 1;
+          trying =
+              try-more _ _ _ _ _ _ _ _ _ _ _ _ _ _ (turns .turn b .trying) (marked b) (going b i) f (more b i) (named b i) z p′ e x is-e a c d g w is-x;
+        };
+      }
+
+-- What a level that starts does
+
+module _ {table classes pattern bytes : List ℕ} {assigned left : ℕ} {parts stack : List ℕ} {m : Marks} {p : Place}
+    (holding : Holding (length pattern) (length bytes) assigned parts stack m p) (small : p .elements < 256)
+    {o : Outcome} {assigned′ left′ : ℕ} {parts′ stack′ : List ℕ} where
+  pub rest-starts : Levels table classes pattern bytes assigned left parts stack variables false 255 m p o assigned′ left′ parts′ stack′
+      → RestIs table classes pattern bytes assigned left parts stack m p o assigned′ left′ parts′ stack′
+  unfolding triesOf none-begun
+  rest-starts r =
+      let whole : LevelIs table classes pattern bytes assigned left parts stack variables 0 (p .node - p .node) 0 m p o assigned′ left′ parts′ stack′ =
+      subst (λ (x : Place). LevelIs table classes pattern bytes assigned left parts stack variables 0 (p .node - p .node) 0 m x o
+      assigned′ left′ parts′ stack′) (run-here p) (r .from (none-begun false holding small) .going refl) in
+      record {
+        replies = λ s h n l.
+            let z : p .node - p .node ≡ 0 = omega arith in
+            whole .replies s h n l ∙ ap (λ (x : ℕ). levelOf n table classes bytes pattern (given s variables 0 x) left) z
+            ∙ ap (λ (x : State). levelOf n table classes bytes pattern x left) (given-none s (h .all-variables));
+        kept = whole .kept;
+      }
+
+  pub level-halts : Levels table classes pattern bytes assigned left parts stack variables true 255 m p o assigned′ left′ parts′ stack′
+      → Halts table classes pattern bytes assigned left parts stack m p o assigned′ left′ parts′ stack′
+  unfolding none-begun
+  level-halts r =
+      subst (λ (x : Place). Halts table classes pattern bytes assigned left parts stack m x o assigned′ left′ parts′ stack′) (run-here p)
+      (r .from (none-begun true holding small) .halted refl)
+
+-- and one from a run name's first n elements on, of so many bytes, whose part was not written before
+pub level-run : {table classes pattern bytes : List ℕ} {assigned left : ℕ} {parts stack : List ℕ} {m : Marks} {p : Place} (v w n size x : ℕ) → w ≡ v
+    → Holding (length pattern) (length bytes) assigned parts stack m p → p .at < length pattern → v < variables → bit assigned v ≡ false
+    → n ≤ p .elements → p .elements < 256 → p .node + size ≤ length bytes → x ≡ packed (boundPart (p .node) size n)
+    → {o : Outcome} {assigned′ left′ : ℕ} {parts′ stack′ : List ℕ} (q : Place) → q ≡ passed p n 1 size
+    → Levels table classes pattern bytes assigned left (set parts w x) stack w false 0 m q o assigned′ left′ parts′ stack′
+    → LevelIs table classes pattern bytes assigned left parts stack v n size (p .elements) m (passed p 0 1 0) o assigned′ left′ parts′ stack′
+unfolding run-begun
+level-run {table} {classes} {pattern} {bytes} {assigned} {left} {parts} {stack} {m} {p} v w n size x is-w holding at low free l small within is-x {o} {assigned′} {left′} {parts′} {stack′} q is-q r =
+    let there : LevelIs table classes pattern bytes assigned left (set parts v x) stack v n (p .node + size - p .node) (p .elements) m
+    (runStart n (p .node) (passed p n 1 size)) o assigned′ left′ parts′ stack′ =
+    level-from {v = v} {least = 0} {k = m} refl is-q
+    (subst (λ (y : ℕ). Levels table classes pattern bytes assigned left (set parts y x) stack y false 0 m q o assigned′ left′ parts′ stack′) is-w r)
+    .from (run-begun v n size x holding at low free l small within is-x) .going refl in
+    let here : LevelIs table classes pattern bytes assigned left (set parts v x) stack v n size (p .elements) m (passed p 0 1 0) o assigned′ left′ parts′ stack′ =
+    subst (λ (y : ℕ). LevelIs table classes pattern bytes assigned left (set parts v x) stack v n y (p .elements) m (passed p 0 1 0) o
+    assigned′ left′ parts′ stack′) (omega arith)
+    (subst (λ (y : Place). LevelIs table classes pattern bytes assigned left (set parts v x) stack v n (p .node + size - p .node) (p .elements) m y o
+    assigned′ left′ parts′ stack′) (run-start p n size l) there) in
+    record {
+      replies = λ s h k i. here .replies s (restored (kept-unassigned v x free) h) k i;
+      kept = kept-then {m₁ = m} (λ i b. b) (le-refl (m .frames)) (le-refl (m .waiting)) (kept-unassigned v x free) (here .kept);
+    }
 
 -- What follows the walk
 
@@ -372,24 +508,17 @@ module _ (table classes pattern bytes : List ℕ) (assigned left : ℕ) (parts s
         → FollowIs table classes pattern bytes assigned left parts stack stop m p o assigned′ left′ parts′ stack′
     follow-tests stop e c = rw e (record { replies = λ s h n l. c .replies p s h n (omega arith); kept = c .kept })
 
-    -- the level past the run name, with place and variable as the code has them
-    pub follow-tries : (v w : ℕ) (q : Place) → w ≡ v → q ≡ passed p 0 1 0 → (left ≡ 0 → ⊥) → p .at < length pattern
-        → (size : ℕ) → size ≡ 0 → LevelIs table classes pattern bytes assigned (left - 1) parts stack w 0 size (p .elements) m q o assigned′ left′ parts′ stack′
+    -- the level past the run name
+    pub follow-tries : (v : ℕ) → (left ≡ 0 → ⊥) → p .at < length pattern
+        → LevelIs table classes pattern bytes assigned (left - 1) parts stack v 0 0 (p .elements) m (passed p 0 1 0) o assigned′ left′ parts′ stack′
         → FollowIs table classes pattern bytes assigned left parts stack (RunName v) m p o assigned′ left′ parts′ stack′
-    follow-tries v w q is-w is-q z i size none r = record {
-      replies = λ s h n l. level-reply .replies (past s) (past-holds i h) n (omega arith)
-          ∙ ap₂ (λ (x y : ℕ). triesOf (levelOf n table classes bytes pattern) table bytes v (past s) x 0 y (left - 1)) (sub-zero (p .elements)) none
+    follow-tries v z i r = record {
+      replies = λ s h n l. r .replies (past s) (past-holds i h) n (omega arith)
+          ∙ ap (λ (x : ℕ). triesOf (levelOf n table classes bytes pattern) table bytes v (past s) x 0 0 (left - 1)) (sub-zero (p .elements))
           ∙ sym (lengths-tries (levelOf n table classes bytes pattern) table bytes v s (s .place .elements) 0 0 left
           ∙ rw (ne-eqb left 0 z, h .place));
       kept = r .kept;
     }
-      where
-        level-reply : LevelIs table classes pattern bytes assigned (left - 1) parts stack v 0 size (p .elements) m (passed p 0 1 0) o assigned′ left′ parts′ stack′
-        level-reply =
-            subst (λ (x : ℕ). LevelIs table classes pattern bytes assigned (left - 1) parts stack x 0 size (p .elements) m (passed p 0 1 0) o
-            assigned′ left′ parts′ stack′) is-w
-            (subst (λ (x : Place). LevelIs table classes pattern bytes assigned (left - 1) parts stack w 0 size (p .elements) m x o
-            assigned′ left′ parts′ stack′) is-q r)
 
 -- a walk that fails
 
@@ -410,9 +539,6 @@ rest-fails {table} {classes} {pattern} {bytes} {r = r} {parts₁ = parts₁} {st
     record { replies = x .replies; kept = x .kept }
 
 -- a level that halts, or does not
-
-pub not-halting : {v first most size : ℕ} → Halting false v first most size
-not-halting = record { none = λ h. absurd (true≢false (sym h)) }
 
 module _ (halts : Bool) {table classes pattern bytes : List ℕ} {assigned left : ℕ} {parts stack : List ℕ} {m : Marks} {p : Place} {r : Reached}
     {parts₁ stack₁ : List ℕ} (walks : Walks table classes pattern bytes assigned left parts stack m p parts₁ stack₁ r) where

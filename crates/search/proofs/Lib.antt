@@ -6,9 +6,9 @@ pub mod Buffers
 pub mod Held
 pub mod Walks
 pub mod Kept
+pub mod Begins
 pub mod Levels
 pub mod FirstPairs
-pub mod Halves
 pub mod Reporting
 pub mod Givens
 pub mod Spreads

@@ -139,6 +139,23 @@ part-back offset size n h = by (offset % 65536) (size % 65536) (omega arith) (om
         let z : n % 256 ≡ n = omega arith in
         rw (x, q, y, d, z)
 
+-- one element more, of so many bytes
+pub packed-longer : (offset size e n size′ : ℕ) → size′ ≡ size + e → size′ < 65536
+    → packed (boundPart offset size n) + 65536 * e + 4294967296 ≡ packed (boundPart offset size′ (n + 1))
+packed-longer offset size e n size′ h i =
+    let x : size % 65536 ≡ size = omega arith in
+    let y : size′ % 65536 ≡ size + e = omega arith in
+    by (offset % 65536) (size % 65536) (size′ % 65536) (y ∙ ap (λ (k : ℕ). k + e) (sym x))
+  where
+    by : (o l l′ : ℕ) → l′ ≡ l + e → o + 65536 * l + 4294967296 * n + 65536 * e + 4294967296 ≡ o + 65536 * l′ + 4294967296 * (n + 1)
+    by o l l′ j = omega arith
+
+pub packed-below : (offset size n x : ℕ) → n < 256 → x ≡ packed (boundPart offset size n) → x < 2 ^ 48
+packed-below offset size n x h e = by (offset % 65536) (size % 65536) (omega arith) (omega arith) e
+  where
+    by : (o l : ℕ) → o < 65536 → l < 65536 → x ≡ o + 65536 * l + 4294967296 * n → x < 2 ^ 48
+    by o l i j f = omega arith
+
 module _ (a b c : ℕ) (h : a < 256) (i : b < 256) where
   low : (a + 256 * b + 65536 * c) % 256 ≡ a
   low = omega arith

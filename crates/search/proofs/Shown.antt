@@ -14,9 +14,9 @@ use Rattle.term.specs.Code.{variables}
 use Rattle.term.specs.Part.{nowhere, part, absent}
 use Rattle.term.specs.declared.Part.{Part}
 use Rattle.search.specs.Level.{Reply, levels, endOf, searchOf}
-use Rattle.search.specs.Shown.{entry, numbers, entryWidth, answerWidth, setEntry, shownBy, shownIn}
+use Rattle.search.specs.Shown.{entry, numbers, entryWidth, answerWidth, shownBy, shownIn}
 use Rattle.search.specs.Inner.Memory.{partIn}
-use Rattle.search.specs.Inner.Replies.{found, partsIn, replyWith, replyOf, EndsAtOnce}
+use Rattle.search.specs.Inner.Replies.{found, partsIn, setEntry, replyWith, replyOf, EndsAtOnce}
 use Rattle.search.specs.declared.Ended.{Ended}
 use Rattle.search.specs.declared.Outcome.{Outcome}
 use Rattle.search.specs.declared.Outcome.the-variants.{Found, Failed, Spent}

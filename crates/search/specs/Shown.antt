@@ -1,8 +1,8 @@
 -- What a search shows in the answer buffer, which held `before`.
-use Prim.Native.Nat.{ℕ, _+_, _*_}
+use Prim.Native.Nat.{ℕ, _*_}
 use mathlib.Core.List.{List, [], _∷_, _++_}
 use mathlib.Core.Bool.{cond}
-use lib.ListN.{length, drop, set}
+use lib.ListN.{length, drop}
 use lib.Dec.{ltb}
 use Rattle.term.specs.Code.{variables}
 use Rattle.term.specs.declared.Part.{Part}
@@ -25,10 +25,6 @@ entryWidth = 3
 
 abbrev pub answerWidth : ℕ
 answerWidth = entryWidth * variables
-
--- an entry written over the one of a variable
-abbrev pub setEntry : List ℕ → ℕ → Part → List ℕ
-setEntry l v p = set (set (set l (entryWidth * v) (p .offset)) (entryWidth * v + 1) (p .length)) (entryWidth * v + 2) (p .elements)
 
 -- only what is found is shown, in a buffer that is wide enough; what lies past the answer stays
 unfoldable pub shownBy : Outcome → List Part → List ℕ → List ℕ

@@ -15,7 +15,7 @@ use term::same_symbol;
 ghost use mathlib.Core.Path.{_≡_};
 ghost use mathlib.Core.List.{_++_};
 ghost use mathlib.Core.Bool.{_&&_, false};
-ghost use Prim.Native.Nat.{_+_, _-_, _/_, _%_, _^_, _≤_, _<_};
+ghost use Prim.Native.Nat.{_+_, _-_, _*_, _/_, _%_, _^_, _≤_, _<_};
 ghost use lib.ListN.{length, drop, replicate, set};
 ghost use lib.Bits.{bitOr};
 ghost use lib.Dec.{eqb};
@@ -30,9 +30,9 @@ ghost use Rattle.search.specs.Spread.{pastOf};
 ghost use Rattle.search.specs.Following.{nextPass, followedOf, shownPass, shownKnown};
 ghost use Rattle.search.specs.Inner.GivenReplies.{resuming, resumedAs, leftBy, FurtherIs, GivenFollows, GivenIs, SpreadIs};
 ghost use Rattle.search.specs.Inner.Bounds.{Short, Ready, Walks, StopsAt, Unassigned, reached};
-ghost use Rattle.search.specs.Shown.{answerWidth, numbers, setEntry, shownBy, shownIn};
-ghost use Rattle.search.specs.Inner.Replies.{failure, found, turned, partsIn, inside, Free, Between, runStart, Resting, Testable, Decides, RestIs, FollowIs, ComplementIs, ComplementsAre};
-ghost use Rattle.search.specs.Inner.Halts.{haltedAs, runOf, stopIn, reportedBy, Reports, Halting, RestBy, LevelBy, PairsAre};
+ghost use Rattle.search.specs.Shown.{answerWidth, numbers, shownBy, shownIn};
+ghost use Rattle.search.specs.Inner.Replies.{failure, found, turned, partsIn, setEntry, inside, Resting, Testable, Decides, RestIs, FollowIs, ComplementIs, ComplementsAre};
+ghost use Rattle.search.specs.Inner.Halts.{haltedAs, runOf, stopIn, reportedBy, Reports, RestBy, Begun, Levels, PairsAre};
 
 // The numbers that a variable is shown with: offset, length and number of terms.
 pub const ENTRY_WIDTH: usize = 3;
@@ -40,7 +40,10 @@ pub const ENTRY_WIDTH: usize = 3;
 // The numbers of an answer.
 pub const ANSWER_WIDTH: usize = ENTRY_WIDTH * VARIABLES;
 
-// A part for each variable, and three for where a level halts; the first of them is also that of no variable.
+// No node has more elements.
+const MOST_ELEMENTS: u8 = 255;
+
+// A part for each variable, and three for where a level halts.
 const PARTS: usize = VARIABLES + 3;
 
 // A place in the stack for each byte of the longest pattern.
@@ -173,6 +176,14 @@ fn packed(p: Part) -> u64
     ensures { λ r. ⌜ r ≡ packed p ⌝ }
 {
     p.offset as u64 + 65536 * p.length as u64 + 4294967296 * p.elements as u64
+}
+
+// With one element more, of so many bytes.
+fn longer(x: u64, size: usize) -> u64
+    requires { ⌜ (x < 2 ^ 48) × (size ≤ longestRecord) ⌝ }
+    ensures { λ r. ⌜ r ≡ x + 65536 * size + 4294967296 ⌝ }
+{
+    x + 65536 * size as u64 + 4294967296
 }
 
 fn unpacked(x: u64) -> Part
@@ -787,8 +798,8 @@ impl Marks {
     }
 }
 
-// The variable v is given `first` up to `most` of the elements from a byte on, until the rest of the level does not fail; the place is that behind
-// the first of these lengths. At a level's start v is `VARIABLES`, for none, and `most` 0. A level that halts only reports where its pairs stop.
+// The variable v has a part of the elements before the place, and is given one element more while the rest of the level fails and more than `least`
+// are left. At a level's start v is `VARIABLES`, for none, and `least` `MOST_ELEMENTS`. A level that halts only reports where its pairs stop.
 fn level(
     table: &[u8],
     classes: &[u8],
@@ -800,25 +811,21 @@ fn level(
     left: &mut u32,
     v: usize,
     halts: bool,
-    first: u8,
-    most: u8,
-    from: usize,
+    least: u8,
     nodes: Nodes,
     queue: Queue,
     remaining: Remaining,
     next: Next,
 ) -> Outcome
-    requires { ⌜ Holding (length (now pattern)) (length (now «record»)) (now assigned) (now parts) (now stack) (marksOf nodes queue) (runStart first from (placeOf remaining next)) × Free (now assigned) v × Between first most from (length (now «record»)) (placeOf remaining next) × Short (now pattern) (now «record») × Halting halts v first most (next .node - from) ⌝ }
-    ensures { λ r. ⌜ LevelBy halts (now (table .entry)) (now (classes .entry)) (now (pattern .entry)) (now («record» .entry)) (now (assigned .entry)) (now (left .entry)) (now (parts .entry)) (now (stack .entry)) v first (next .node - from) most (marksOf nodes queue) (runStart first from (placeOf remaining next)) r (now (assigned .exit)) (now (left .exit)) (now (parts .exit)) (now (stack .exit)) ⌝ }
+    requires { ⌜ Begun (length (now pattern)) (length (now «record»)) (now assigned) (now parts) (now stack) v halts least (marksOf nodes queue) (placeOf remaining next) × Short (now pattern) (now «record») ⌝ }
+    ensures { λ r. ⌜ Levels (now (table .entry)) (now (classes .entry)) (now (pattern .entry)) (now («record» .entry)) (now (assigned .entry)) (now (left .entry)) (now (parts .entry)) (now (stack .entry)) v halts least (marksOf nodes queue) (placeOf remaining next) r (now (assigned .exit)) (now (left .exit)) (now (parts .exit)) (now (stack .exit)) ⌝ }
 {
     let marks = Marks::of(nodes, queue);
     let start = Place::of(remaining, next);
     let seen = also(*assigned, v);
     let mut place = start;
-    let mut n = first;
     let outcome = loop {
         *assigned = seen;
-        parts[v] = packed(Part::bound(from, place.node - from, n));
         let x = rest(
             table,
             classes,
@@ -832,10 +839,10 @@ fn level(
             marks,
             place,
         );
-        if !is_failed(x) {
+        if place.elements <= least {
             break x;
         }
-        if most <= n {
+        if !is_failed(x) {
             break x;
         }
         if *left == 0 {
@@ -843,9 +850,10 @@ fn level(
         }
         *left = *left - 1;
         let at = place.node;
-        place.node = at + extent(table, &record[at..]);
+        let size = extent(table, &record[at..]);
+        place.node = at + size;
         place.elements = place.elements - 1;
-        n = n + 1;
+        parts[v] = longer(parts[v], size);
     };
     outcome
 }
@@ -878,9 +886,7 @@ fn start_level(
         left,
         VARIABLES,
         false,
-        0,
-        0,
-        start.node,
+        MOST_ELEMENTS,
         marks.nodes(),
         marks.queue(),
         start.remaining(),
@@ -1096,6 +1102,8 @@ fn lengths(
     }
     *left -= 1;
     let past = place.passed(0, 1, 0);
+    let i = wide(v);
+    parts[i] = packed(Part::bound(place.node, 0, 0));
     level(
         table,
         classes,
@@ -1105,11 +1113,9 @@ fn lengths(
         stack,
         assigned,
         left,
-        wide(v),
+        i,
         false,
         0,
-        place.elements,
-        past.node,
         marks.nodes(),
         marks.queue(),
         past.remaining(),
@@ -1298,6 +1304,7 @@ fn further(
     *left = *left - 1;
     let end = node + extent(table, &record[node..]);
     let next = place.passed(n + 1, 1, end - place.node);
+    parts[v] = packed(Part::bound(place.node, end - place.node, n + 1));
     level(
         table,
         classes,
@@ -1309,9 +1316,7 @@ fn further(
         left,
         v,
         false,
-        n + 1,
-        place.elements,
-        place.node,
+        0,
         marks.nodes(),
         marks.queue(),
         next.remaining(),
@@ -1348,9 +1353,7 @@ fn pairs(
         &mut rest,
         VARIABLES,
         true,
-        0,
-        0,
-        start.node,
+        MOST_ELEMENTS,
         marks.nodes(),
         marks.queue(),
         start.remaining(),

@@ -3,6 +3,7 @@
 use Prim.Native.Nat.{ℕ, _+_, _-_, _*_, _<_, _≤_}
 use native.Mathlib.Omega.{arith}
 use mathlib.Core.Path.{refl, sym, ap, subst, _∙_}
+use mathlib.Core.Bool.{false}
 use lib.ListN.{length}
 use denote.Ref.{now}
 use borrow.Author.Needs.{needs}
@@ -10,14 +11,13 @@ use borrow.Author.Tests.{not-true, not-false}
 use Rattle.search.specs.Level.{levels}
 use Rattle.search.specs.Inner.Memory.{packed, putByIn}
 use Rattle.search.specs.Inner.Bounds.{StopsAt, Unassigned}
-use Rattle.search.specs.Inner.Replies.{Decides, runStart}
-use Rattle.search.specs.Inner.Halts.{Halting}
+use Rattle.search.specs.Inner.Replies.{Decides}
+use Rattle.search.specs.Inner.Halts.{Begun}
 use Rattle.search.specs.declared.Place.{Place}
 use Rattle.search.proofs.Steps.{rest-length}
-use Rattle.search.proofs.Kept.{past, past-holds, none-free}
 use Rattle.search.proofs.FirstPairs.{complement-ends}
-use Rattle.search.proofs.Halves.{holding-here, level-from-by, level-whole}
-use Rattle.search.proofs.Levels.{rest-fails-by, rest-reports, rest-follows-by, rest-starts, Trying, try-first, Written, written-holding, try-last-by, try-hit-by, try-spent-by, try-more, rest-free, not-halting, Testing, test-first, test-end, test-next, test-stop, test-on, inside-length, inside-holding, complement-tests, follow-fails, follow-spent, follow-none, follow-tests, follow-tries}
+use Rattle.search.proofs.Begins.{level-from, none-begun, run-begun}
+use Rattle.search.proofs.Levels.{rest-fails-by, rest-reports, rest-follows-by, rest-starts, level-run, Turns, turn-first, turn-holding, turn-hit, turn-last, turn-spent, turn-room, turn-more, Testing, test-first, test-end, test-next, test-stop, test-on, inside-length, inside-holding, complement-tests, follow-fails, follow-spent, follow-none, follow-tests, follow-tries}
 use borrow.Fn.Kinds.{In}
 use borrow.Fn.PlainCycle.{Measures, is, falls, and}
 use Rattle.search.proofs.complement.Reads as complement
@@ -55,6 +55,7 @@ use Rattle.search.proofs.first_pair.Reads as first-pair-reads
 use Rattle.search.proofs.is_failed.Reads as is-failed-reads
 use Rattle.search.proofs.is_failure.Reads as is-failure-reads
 use Rattle.search.proofs.is_found.Reads as is-found-reads
+use Rattle.search.proofs.longer.Reads as longer-reads
 use Rattle.search.proofs.opposite.Reads as opposite-reads
 use Rattle.search.proofs.packed.Reads as packed-reads
 use Rattle.search.proofs.report.Reads as report-reads
@@ -78,7 +79,7 @@ abbrev μ-lengths : Measures 8 lengths-kinds.ps ℕ
 μ-lengths κs a = 5 * levels (now (a .1 .1 .0)) (a .1 .1 .1 .1 .1 .1 .1 .1 .1 .1 .0 .at) + 1
 
 abbrev μ-level : Measures 8 level-kinds.ps ℕ
-μ-level κs a = 5 * levels (now (a .1 .1 .0)) (a .1 .1 .1 .1 .1 .1 .1 .1 .1 .1 .1 .1 .1 .1 .1 .1 .0 .at) + 4
+μ-level κs a = 5 * levels (now (a .1 .1 .0)) (a .1 .1 .1 .1 .1 .1 .1 .1 .1 .1 .1 .1 .1 .1 .0 .at) + 4
 
 abbrev μ-rest : Measures 8 rest-kinds.ps ℕ
 μ-rest κs a = 5 * levels (now (a .1 .1 .0)) (a .1 .1 .1 .1 .1 .1 .1 .1 .1 .1 .0 .at) + 3
@@ -325,6 +326,10 @@ lengths-claims t = (
   passed-reads.Learnt,
   wide-reads.Asked,
   wide-reads.Learnt,
+  bound-reads.Asked,
+  bound-reads.Learnt,
+  packed-reads.Asked,
+  packed-reads.Learnt,
   nodes-reads.Asked,
   nodes-reads.Learnt,
   queue-reads.Asked,
@@ -351,6 +356,18 @@ lengths-passed-requires t c κs =
 lengths-wide-requires : (t : ℕ) → lengths-lts.Need-wide-requires (lengths-claims t) (lengths-at t) lengths.Post
 lengths-wide-requires t c κs = search needs
 
+lengths-bound-requires : (t : ℕ) → lengths-lts.Need-bound-requires (lengths-claims t) (lengths-at t) lengths.Post
+lengths-bound-requires t c κs = search needs
+
+lengths-packed-requires : (t : ℕ) → lengths-lts.Need-packed-requires (lengths-claims t) (lengths-at t) lengths.Post
+lengths-packed-requires t c κs = search needs
+
+lengths-mul-parts : (t : ℕ) → lengths-lts.Need-mul-parts (lengths-claims t) (lengths-at t) lengths.Post
+lengths-mul-parts t c = omega (arith, c .before .before .wide .ensures, c .before .before .before .before .before .before .before .before .before .before .pre .1 .1 .variable)
+
+lengths-element-write-parts : (t : ℕ) → lengths-lts.Need-element-write-parts (lengths-claims t) (lengths-at t) lengths.Post
+lengths-element-write-parts t c = omega (arith, c .before .before .wide .ensures, c .before .before .before .before .before .before .before .before .before .before .pre .1 .1 .variable)
+
 lengths-nodes-requires : (t : ℕ) → lengths-lts.Need-nodes-requires (lengths-claims t) (lengths-at t) lengths.Post
 lengths-nodes-requires t c κs = search needs
 
@@ -365,33 +382,34 @@ lengths-next-requires t c κs = search needs
 
 lengths-level-requires : (t : ℕ) → lengths-lts.Need-level-requires (lengths-claims t) (lengths-at t) lengths.Post
 lengths-level-requires t c κs =
-    let passed = c .before .before .before .before .before .before .before .before .before in
-    let pre = passed .before .before .before .before .before .before .before .pre in
+    let entered = c .before .before .before .before .before .before .before .before .before .before .before .before .before .before .before .before .before .before in
+    let pre = entered .pre in
+    let node = pre .1 .0 .holds .node in
     rw (
       c .next .ensures,
       c .before .remaining .ensures,
       c .before .before .queue .ensures,
       c .before .before .before .nodes .ensures,
-      c .before .before .before .before .wide .ensures,
-      passed .passed .ensures,
+      c .before .before .before .before .before .before .before .before .before .before .wide .ensures,
+      c .before .before .before .before .before .before .before .before .before .before .before .passed .ensures,
     ) (
       omega (arith, pre .0, pre .1 .1 .at),
       (
-        holding-here (record { state = past (pre .1 .0 .state); holds = past-holds (pre .1 .1 .at) (pre .1 .0 .holds) }),
-        record { below = omega (arith, pre .1 .1 .variable); free = λ l. pre .1 .2 },
-        record { some = omega arith; enough = omega arith; behind = omega arith; within = omega (arith, pre .1 .0 .holds .node) },
+        run-begun _ 0 0 _ (pre .1 .0) (pre .1 .1 .at) (pre .1 .1 .variable) (pre .1 .2) (omega arith) (omega (arith, entered .good)) (omega (arith, node))
+            (c .before .before .before .before .before .before .before .before .packed .ensures ∙ ap packed (c .before .before .before .before .before .before .before .before .before .bound .ensures)),
         pre .1 .3,
-        not-halting,
       ),
     )
 
 lengths-returns-2 : (t : ℕ) → lengths-lts.Need-returns-2 (lengths-claims t) (lengths-at t) lengths.Post
 lengths-returns-2 t c =
-    let passed = c .before .before .before .before .before .before .before .before .before .before in
-    follow-tries _ _ _ _ _ _ _ _ _ _ _ _ _ (c .before .before .before .before .before .wide .ensures) (passed .passed .ensures) (passed .before .if1 .left)
-    (passed .before .before .before .before .before .before .before .pre .1 .1 .at) _ (omega arith)
-    (level-whole (rw (c .before .before .before .queue .ensures, c .before .before .before .before .nodes .ensures)) (rw (c .before .next .ensures, c .before .before .remaining .ensures)) refl
-    (c .level .ensures))
+    let entered = c .before .before .before .before .before .before .before .before .before .before .before .before .before .before .before .before .before .before .before in
+    let pre = entered .pre in
+    let node = pre .1 .0 .holds .node in
+    follow-tries _ _ _ _ _ _ _ _ _ _ _ (c .before .before .before .before .before .before .before .before .before .before .before .before .before .if1 .left) (pre .1 .1 .at)
+    (level-run _ _ 0 0 _ (c .before .before .before .before .before .before .before .before .before .before .before .wide .ensures) (pre .1 .0) (pre .1 .1 .at) (pre .1 .1 .variable) (pre .1 .2) (omega arith) (omega (arith, entered .good))
+    (omega (arith, node)) (c .before .before .before .before .before .before .before .before .before .packed .ensures ∙ ap packed (c .before .before .before .before .before .before .before .before .before .before .bound .ensures)) _ (c .before .before .before .before .before .before .before .before .before .before .before .before .passed .ensures)
+    (level-from (rw (c .before .before .before .queue .ensures, c .before .before .before .before .nodes .ensures)) (rw (c .before .next .ensures, c .before .before .remaining .ensures)) (c .level .ensures)))
 
 abbrev level-claims : ℕ → level-lts.Claims
 level-claims t = (
@@ -401,56 +419,40 @@ level-claims t = (
   Place-of-reads.Learnt,
   also-reads.Asked,
   also-reads.Learnt,
-  bound-reads.Asked,
-  bound-reads.Learnt,
-  packed-reads.Asked,
-  packed-reads.Learnt,
   rest-below t,
   rest.Post,
   is-failed-reads.Asked,
   is-failed-reads.Learnt,
   extent-reads.Asked,
   extent-reads.Learnt,
+  longer-reads.Asked,
+  longer-reads.Learnt,
 )
 
 abbrev level-Inv-loop : level-lts.InvT-loop
-level-Inv-loop table classes pattern «record» parts₀ stack₀ assigned₀ left₀ v halts first most from marks seen place₀ n₀ parts stack assigned left place n =
-    Trying table classes pattern «record» assigned₀ left₀ parts₀ stack₀ v first (place₀ .node - from) most marks (runStart first from place₀) left parts stack place n
+level-Inv-loop table classes pattern «record» parts₀ stack₀ assigned₀ left₀ v halts least marks seen place₀ parts stack assigned left place =
+    Turns table classes pattern «record» assigned₀ left₀ parts₀ stack₀ v halts least marks place₀ left parts stack place
 
 abbrev level-μ-loop : level-lts.MeasureT-loop
-level-μ-loop table classes pattern «record» parts₀ stack₀ assigned₀ left₀ v halts first most from marks seen place₀ n₀ parts stack assigned left place n =
-    most - n
+level-μ-loop table classes pattern «record» parts₀ stack₀ assigned₀ left₀ v halts least marks seen place₀ parts stack assigned left place =
+    place .elements
 
--- the variable's part is written
-level-written : (t : ℕ) (c : level-lts.After-packed (level-claims t) (level-at t) level.Post level-Inv-loop level-μ-loop)
-    → Written _ _ _ _ _ _ _ _ _ _ _ _ _ _ (c .before .before .before .loop .inv) (c .packed .result) (c .before .before .before .before .also .result)
-level-written t c = record {
-  holding = rw (c .before .before .before .before .before .before .of2 .ensures, c .before .before .before .before .before .before .before .of .ensures) (c .before .before .before .before .before .before .before .before .before .before .before .before .pre .1 .0);
-  free = c .before .before .before .before .before .before .before .before .before .before .before .before .pre .1 .1;
-  short = c .before .before .before .before .before .before .before .before .before .before .before .before .pre .1 .3 .of-record;
-  byte = omega (arith, c .before .before .before .loop .inv .few, c .before .before .before .before .before .before .before .before .before .before .before .before .fits .most);
-  is-part = c .packed .ensures ∙ ap packed (c .before .bound .ensures);
-  is-seen = c .before .before .before .before .also .ensures;
-}
-
--- at its first length, if the level halts
-level-halting : (t : ℕ) (c : level-lts.After-packed (level-claims t) (level-at t) level.Post level-Inv-loop level-μ-loop)
-    → Halting (c .before .before .before .before .before .before .before .before .before .before .before .before .args .halts) (c .before .before .before .before .before .before .before .before .before .before .before .before .args .v) (c .before .before .before .before .before .before .before .before .before .before .before .before .args .first) (c .before .before .before .before .before .before .before .before .before .before .before .before .args .most)
-    (c .before .before .before .before .before .before .of2 .result .node - c .before .before .before .before .before .before .before .before .before .before .before .before .args .from)
-level-halting t c =
-    subst (λ (x : Place). Halting (c .before .before .before .before .before .before .before .before .before .before .before .before .args .halts) (c .before .before .before .before .before .before .before .before .before .before .before .before .args .v) (c .before .before .before .before .before .before .before .before .before .before .before .before .args .first) (c .before .before .before .before .before .before .before .before .before .before .before .before .args .most)
-    (x .node - c .before .before .before .before .before .before .before .before .before .before .before .before .args .from)) (sym (c .before .before .before .before .before .before .of2 .ensures)) (c .before .before .before .before .before .before .before .before .before .before .before .before .pre .1 .4)
+-- where the level is begun
+level-begun : (t : ℕ) (c : level-lts.After-also (level-claims t) (level-at t) level.Post level-Inv-loop level-μ-loop)
+    → Begun (length (c .before .before .before .before .before .before .before .before .args .pattern .now)) (length (c .before .before .before .before .before .before .before .before .args .«record» .now)) (c .before .before .before .before .before .before .before .before .args .assigned .now) (c .before .before .before .before .before .before .before .before .args .parts .now) (c .before .before .before .before .before .before .before .before .args .stack .now)
+    (c .before .before .before .before .before .before .before .before .args .v) (c .before .before .before .before .before .before .before .before .args .halts) (c .before .before .before .before .before .before .before .before .args .least) (c .before .before .before .of .result) (c .before .before .of2 .result)
+level-begun t c = rw (c .before .before .of2 .ensures, c .before .before .before .of .ensures) (c .before .before .before .before .before .before .before .before .pre .1 .0)
 
 -- one element more stays within the record
 level-grows : (t : ℕ) (c : level-lts.After-extent (level-claims t) (level-at t) level.Post level-Inv-loop level-μ-loop)
-    → c .before .before .before .before .before .before .before .before .before .before .before .before .before .before .before .loop .place .node + c .extent .result ≤ length (c .before .before .before .before .before .before .before .before .before .before .before .before .before .before .before .before .before .before .before .before .before .before .before .before .args .«record» .now)
+    → c .before .before .before .before .before .before .before .before .before .before .before .before .before .loop .place .node + c .extent .result ≤ length (c .before .before .before .before .before .before .before .before .before .before .before .before .before .before .before .before .before .before .before .before .before .before .args .«record» .now)
 level-grows t c =
-    let loop = c .before .before .before .before .before .before .before .before .before .before .before .before .before .before .before .loop in
+    let loop = c .before .before .before .before .before .before .before .before .before .before .before .before .before .loop in
     omega (
       arith,
-      loop .inv .within,
+      loop .inv .turn (level-begun t (c .before .before .before .before .before .before .before .before .before .before .before .before .before .before)) .trying .within,
       c .extent .ensures .1,
-      rest-length (loop .place .node) (c .before .before .before .before .before .before .before .before .before .before .before .before .before .before .before .before .before .before .before .before .before .before .before .before .args .«record» .now),
+      rest-length (loop .place .node) (c .before .before .before .before .before .before .before .before .before .before .before .before .before .before .before .before .before .before .before .before .before .before .args .«record» .now),
     )
 
 level-of-requires : (t : ℕ) → level-lts.Need-of-requires (level-claims t) (level-at t) level.Post level-Inv-loop level-μ-loop
@@ -460,36 +462,20 @@ level-of-requires-2 : (t : ℕ) → level-lts.Need-of-requires-2 (level-claims t
 level-of-requires-2 t c κs = search needs
 
 level-also-requires : (t : ℕ) → level-lts.Need-also-requires (level-claims t) (level-at t) level.Post level-Inv-loop level-μ-loop
-level-also-requires t c κs = c .before .before .before .before .before .before .before .pre .1 .1 .below
+level-also-requires t c κs = c .before .before .before .before .before .before .before .pre .1 .0 .free .below
 
 level-loop-holds : (t : ℕ) → level-lts.Need-loop-holds (level-claims t) (level-at t) level.Post level-Inv-loop level-μ-loop
-level-loop-holds t c =
-    let between = c .before .before .before .before .before .before .before .before .pre .1 .2 in
-    let is = c .before .before .of2 .ensures in
-    try-first _ _ _ _ _ _ _ _ _ _ _ _ _ _ (c .before .before .of2 .result) (between .some) refl (omega arith) refl
-    (rw is (between .behind)) (rw is (between .within)) refl
-
-level-sub-bound : (t : ℕ) → level-lts.Need-sub-bound (level-claims t) (level-at t) level.Post level-Inv-loop level-μ-loop
-level-sub-bound t c = c .before .loop .inv .further
-
-level-bound-requires : (t : ℕ) → level-lts.Need-bound-requires (level-claims t) (level-at t) level.Post level-Inv-loop level-μ-loop
-level-bound-requires t c κs = search needs
-
-level-packed-requires : (t : ℕ) → level-lts.Need-packed-requires (level-claims t) (level-at t) level.Post level-Inv-loop level-μ-loop
-level-packed-requires t c κs = search needs
-
-level-mul-parts : (t : ℕ) → level-lts.Need-mul-parts (level-claims t) (level-at t) level.Post level-Inv-loop level-μ-loop
-level-mul-parts t c = omega (arith, c .before .before .before .before .before .before .before .before .before .before .before .before .pre .1 .1 .below)
-
-level-element-write-parts : (t : ℕ) → level-lts.Need-element-write-parts (level-claims t) (level-at t) level.Post level-Inv-loop level-μ-loop
-level-element-write-parts t c = omega (arith, c .before .before .before .before .before .before .before .before .before .before .before .before .pre .1 .1 .below)
+level-loop-holds t c = turn-first _ _ _ _ _ _ _ _ _ _ _ _ _
 
 level-rest-requires : (t : ℕ) → level-lts.Need-rest-requires (level-claims t) (level-at t) level.Post level-Inv-loop level-μ-loop
 level-rest-requires t c κs =
-    let pre = c .before .before .before .before .before .before .before .before .before .before .before .before .before .before .before .before .pre in
-    let inv = c .before .before .before .before .before .before .before .loop .inv in
-    let at = ap (λ (x : Place). x .at) (c .before .before .before .before .before .before .before .before .before .before .of2 .ensures) in
-    (omega (arith, pre .0, inv .at, at), (written-holding _ _ _ _ _ _ _ _ _ _ _ _ _ _ inv (level-written t (c .before .before .before .before)), pre .1 .3))
+    let pre = c .before .before .before .before .before .before .before .before .before .before .before .before .before .pre in
+    let inv = c .before .before .before .before .loop .inv in
+    let begun = level-begun t (c .before .before .before .before .before) in
+    let at = ap (λ (x : Place). x .at) (c .before .before .before .before .before .before .before .of2 .ensures) in (
+      omega (arith, pre .0, inv .turn begun .trying .at, at),
+      (turn-holding _ _ _ _ _ _ _ _ _ _ _ _ _ inv (pre .1 .1 .of-record) (c .before .before .before .before .before .also .ensures) begun, pre .1 .1),
+    )
 
 level-is-failed-requires : (t : ℕ) → level-lts.Need-is-failed-requires (level-claims t) (level-at t) level.Post level-Inv-loop level-μ-loop
 level-is-failed-requires t c κs = search needs
@@ -498,12 +484,10 @@ level-sub-left : (t : ℕ) → level-lts.Need-sub-left (level-claims t) (level-a
 level-sub-left t c = omega (arith, c .if3 .left)
 
 level-sub-extent : (t : ℕ) → level-lts.Need-sub-extent (level-claims t) (level-at t) level.Post level-Inv-loop level-μ-loop
-level-sub-extent t c =
-    c .before .before .before .before .before .before .before .before .before .before .before .before .before .loop .inv .within
+level-sub-extent t c = c .before .before .before .before .before .before .before .before .before .before .before .loop .inv .turn (level-begun t (c .before .before .before .before .before .before .before .before .before .before .before .before)) .trying .within
 
 level-part-extent-start : (t : ℕ) → level-lts.Need-part-extent-start (level-claims t) (level-at t) level.Post level-Inv-loop level-μ-loop
-level-part-extent-start t c =
-    c .before .before .before .before .before .before .before .before .before .before .before .before .before .loop .inv .within
+level-part-extent-start t c = c .before .before .before .before .before .before .before .before .before .before .before .loop .inv .turn (level-begun t (c .before .before .before .before .before .before .before .before .before .before .before .before)) .trying .within
 
 level-part-extent-end : (t : ℕ) → level-lts.Need-part-extent-end (level-claims t) (level-at t) level.Post level-Inv-loop level-μ-loop
 level-part-extent-end t c = omega arith
@@ -512,63 +496,54 @@ level-extent-requires : (t : ℕ) → level-lts.Need-extent-requires (level-clai
 level-extent-requires t c κs = search needs
 
 level-add-place : (t : ℕ) → level-lts.Need-add-place (level-claims t) (level-at t) level.Post level-Inv-loop level-μ-loop
-level-add-place t c =
-    let pre = c .before .before .before .before .before .before .before .before .before .before .before .before .before .before .before .before .before .before .before .before .before .before .before .before .pre in
-    omega (arith, level-grows t c, pre .1 .3 .of-record)
+level-add-place t c = omega (arith, level-grows t c, c .before .before .before .before .before .before .before .before .before .before .before .before .before .before .before .before .before .before .before .before .before .before .pre .1 .1 .of-record)
 
 level-sub-place : (t : ℕ) → level-lts.Need-sub-place (level-claims t) (level-at t) level.Post level-Inv-loop level-μ-loop
-level-sub-place t c =
-    let pre = c .before .before .before .before .before .before .before .before .before .before .before .before .before .before .before .before .before .before .before .before .before .before .before .before .before .pre in
-    let inv = c .before .before .before .before .before .before .before .before .before .before .before .before .before .before .before .before .loop .inv in
-    let elements = ap (λ (x : Place). x .elements) (c .before .before .before .before .before .before .before .before .before .before .before .before .before .before .before .before .before .before .before .of2 .ensures) in
-    omega (arith, inv .elements, c .before .before .before .before .before .if2 .left, pre .1 .2 .enough, elements)
+level-sub-place t c = omega (arith, c .before .before .before .before .before .before .before .if1 .left)
 
-level-add-n : (t : ℕ) → level-lts.Need-add-n (level-claims t) (level-at t) level.Post level-Inv-loop level-μ-loop
-level-add-n t c =
-    let fits = c .before .before .before .before .before .before .before .before .before .before .before .before .before .before .before .before .before .before .before .before .before .before .before .before .before .fits in
-    omega (arith, c .before .before .before .before .before .if2 .left, fits .most)
+level-mul-longer : (t : ℕ) → level-lts.Need-mul-longer (level-claims t) (level-at t) level.Post level-Inv-loop level-μ-loop
+level-mul-longer t c = omega (arith, c .before .before .before .before .before .before .before .before .before .before .before .before .before .before .before .before .before .before .before .before .before .before .before .pre .1 .0 .free .below)
+
+level-element-copy-out-longer : (t : ℕ) → level-lts.Need-element-copy-out-longer (level-claims t) (level-at t) level.Post level-Inv-loop level-μ-loop
+level-element-copy-out-longer t c = omega (arith, c .before .before .before .before .before .before .before .before .before .before .before .before .before .before .before .before .before .before .before .before .before .before .before .pre .1 .0 .free .below)
+
+level-longer-requires : (t : ℕ) → level-lts.Need-longer-requires (level-claims t) (level-at t) level.Post level-Inv-loop level-μ-loop
+level-longer-requires t c κs = (
+  turn-room _ _ _ _ _ _ _ _ _ _ _ _ _ (c .before .before .before .before .before .before .before .before .before .before .before .before .before .before .before .loop .inv) (c .before .before .before .before .before .before .before .before .before .before .before .before .before .before .before .before .before .before .before .before .before .before .before .before .pre .1 .1 .of-record) (c .before .before .before .before .before .before .before .before .before .before .before .before .before .before .before .before .also .ensures) (c .before .before .before .before .before .before .before .before .before .before .rest .ensures)
+      (level-begun t (c .before .before .before .before .before .before .before .before .before .before .before .before .before .before .before .before)) (omega (arith, c .before .before .before .before .before .before .before .before .if1 .left)),
+  omega (arith, level-grows t (c .before .before), c .before .before .before .before .before .before .before .before .before .before .before .before .before .before .before .before .before .before .before .before .before .before .before .before .pre .1 .1 .of-record),
+)
+
+level-mul-parts : (t : ℕ) → level-lts.Need-mul-parts (level-claims t) (level-at t) level.Post level-Inv-loop level-μ-loop
+level-mul-parts t c = omega (arith, c .before .before .before .before .before .before .before .before .before .before .before .before .before .before .before .before .before .before .before .before .before .before .before .before .before .pre .1 .0 .free .below)
+
+level-element-write-parts : (t : ℕ) → level-lts.Need-element-write-parts (level-claims t) (level-at t) level.Post level-Inv-loop level-μ-loop
+level-element-write-parts t c = omega (arith, c .before .before .before .before .before .before .before .before .before .before .before .before .before .before .before .before .before .before .before .before .before .before .before .before .before .pre .1 .0 .free .below)
 
 level-loop-less : (t : ℕ) → level-lts.Need-loop-less (level-claims t) (level-at t) level.Post level-Inv-loop level-μ-loop
-level-loop-less t c = omega (arith, c .before .before .before .before .before .if2 .left)
+level-loop-less t c = omega (arith, c .before .before .before .before .before .before .before .before .before .if1 .left)
 
 level-loop-again : (t : ℕ) → level-lts.Need-loop-again (level-claims t) (level-at t) level.Post level-Inv-loop level-μ-loop
 level-loop-again t c =
-    try-more _ _ _ _ _ _ _ _ _ _ _ _ _ _
-    (c .before .before .before .before .before .before .before .before .before .before .before .before .before .before .before .before .loop .inv)
-    (level-written t (c .before .before .before .before .before .before .before .before .before .before .before .before .before))
-    (rest-free _ _ _ _ _ _ _ _ _ _ _ _ _ _
-    (c .before .before .before .before .before .before .before .before .before .before .before .before .before .before .before .before .loop .inv)
-    (level-written t (c .before .before .before .before .before .before .before .before .before .before .before .before .before))
-    (level-halting t (c .before .before .before .before .before .before .before .before .before .before .before .before .before))
-    (c .before .before .before .before .before .before .before .before .rest .ensures) (omega (arith, c .before .before .before .before .before .if2 .left)))
-    (sym (c .before .before .before .before .before .before .before .is-failed .ensures) ∙ not-false _ (c .before .before .before .before .before .before .if1 .left)) (omega (arith, c .before .before .before .before .before .if2 .left)) (c .before .before .before .if3 .left) _ (c .before .extent .result)
-    (c .before .extent .ensures .0) refl refl refl refl (level-grows t (c .before))
+    turn-more _ _ _ _ _ _ _ _ _ _ _ _ _ (c .before .before .before .before .before .before .before .before .before .before .before .before .before .before .before .before .loop .inv) (c .before .before .before .before .before .before .before .before .before .before .before .before .before .before .before .before .before .before .before .before .before .before .before .before .before .pre .1 .1 .of-record) (c .before .before .before .before .before .before .before .before .before .before .before .before .before .before .before .before .before .also .ensures) (c .before .before .before .before .before .before .before .before .before .before .before .rest .ensures)
+    (sym (c .before .before .before .before .before .before .before .before .is-failed .ensures) ∙ not-false _ (c .before .before .before .before .before .before .before .if2 .left)) (omega (arith, c .before .before .before .before .before .before .before .before .before .if1 .left)) (c .before .before .before .before .before .if3 .left) _
+    (c .before .before .before .extent .result) (c .longer .result) (c .before .before .before .extent .ensures .0) refl refl refl refl (level-grows t (c .before .before .before)) (c .longer .ensures)
 
 level-returns : (t : ℕ) → level-lts.Need-returns (level-claims t) (level-at t) level.Post level-Inv-loop level-μ-loop
 level-returns t c =
-    level-from-by (c .before .before .before .before .before .before .before .before .before .before .before .before .before .before .of .ensures)
-    (c .before .before .before .before .before .before .before .before .before .before .before .before .before .of2 .ensures)
-    (try-hit-by _ _ _ _ _ _ _ _ _ _ _ _ _ _ (c .before .before .before .before .before .before .before .before .before .before .loop .inv)
-    (level-written t (c .before .before .before .before .before .before .before)) (level-halting t (c .before .before .before .before .before .before .before)) (c .before .before .rest .ensures)
-    (sym (c .before .is-failed .ensures) ∙ not-true _ (c .if1 .taken)))
+    level-from (c .before .before .before .before .before .before .before .before .before .before .before .of .ensures) (c .before .before .before .before .before .before .before .before .before .before .of2 .ensures)
+    (turn-last _ _ _ _ _ _ _ _ _ _ _ _ _ (c .before .before .before .before .before .before .before .loop .inv) (c .before .before .before .before .before .before .before .before .before .before .before .before .before .before .before .before .pre .1 .1 .of-record) (c .before .before .before .before .before .before .before .before .also .ensures) (c .before .before .rest .ensures) (c .if1 .taken))
 
 level-returns-2 : (t : ℕ) → level-lts.Need-returns-2 (level-claims t) (level-at t) level.Post level-Inv-loop level-μ-loop
 level-returns-2 t c =
-    level-from-by (c .before .before .before .before .before .before .before .before .before .before .before .before .before .before .before .of .ensures)
-    (c .before .before .before .before .before .before .before .before .before .before .before .before .before .before .of2 .ensures)
-    (try-last-by _ _ _ _ _ _ _ _ _ _ _ _ _ _ (c .before .before .before .before .before .before .before .before .before .before .before .loop .inv)
-    (level-written t (c .before .before .before .before .before .before .before .before)) (level-halting t (c .before .before .before .before .before .before .before .before)) (c .before .before .before .rest .ensures)
-    (c .if2 .taken))
+    level-from (c .before .before .before .before .before .before .before .before .before .before .before .before .before .of .ensures) (c .before .before .before .before .before .before .before .before .before .before .before .before .of2 .ensures)
+    (turn-hit _ _ _ _ _ _ _ _ _ _ _ _ _ (c .before .before .before .before .before .before .before .before .before .loop .inv) (c .before .before .before .before .before .before .before .before .before .before .before .before .before .before .before .before .before .before .pre .1 .1 .of-record) (c .before .before .before .before .before .before .before .before .before .before .also .ensures) (c .before .before .before .before .rest .ensures) (sym (c .before .is-failed .ensures) ∙ not-true _ (c .if2 .taken)))
 
 level-returns-3 : (t : ℕ) → level-lts.Need-returns-3 (level-claims t) (level-at t) level.Post level-Inv-loop level-μ-loop
 level-returns-3 t c =
-    level-from-by (c .before .before .before .before .before .before .before .before .before .before .before .before .before .before .before .before .before .of .ensures)
-    (c .before .before .before .before .before .before .before .before .before .before .before .before .before .before .before .before .of2 .ensures)
-    (try-spent-by _ _ _ _ _ _ _ _ _ _ _ _ _ _
-    (c .before .before .before .before .before .before .before .before .before .before .before .before .before .loop .inv)
-    (level-written t (c .before .before .before .before .before .before .before .before .before .before)) (level-halting t (c .before .before .before .before .before .before .before .before .before .before))
-    (c .before .before .before .before .before .rest .ensures)
-    (sym (c .before .before .before .before .is-failed .ensures) ∙ not-false _ (c .before .before .before .if1 .left)) (omega (arith, c .before .before .if2 .left)) (c .if3 .taken))
+    level-from (c .before .before .before .before .before .before .before .before .before .before .before .before .before .before .before .of .ensures) (c .before .before .before .before .before .before .before .before .before .before .before .before .before .before .of2 .ensures)
+    (turn-spent _ _ _ _ _ _ _ _ _ _ _ _ _ (c .before .before .before .before .before .before .before .before .before .before .before .loop .inv) (c .before .before .before .before .before .before .before .before .before .before .before .before .before .before .before .before .before .before .before .before .pre .1 .1 .of-record) (c .before .before .before .before .before .before .before .before .before .before .before .before .also .ensures) (c .before .before .before .before .before .before .rest .ensures)
+    (sym (c .before .before .before .is-failed .ensures) ∙ not-false _ (c .before .before .if2 .left)) (omega (arith, c .before .before .before .before .if1 .left)) (c .if3 .taken))
 
 abbrev rest-claims : ℕ → rest-lts.Claims
 rest-claims t = (
@@ -638,28 +613,19 @@ start-level-next-requires t c κs = search needs
 
 start-level-level-requires : (t : ℕ) → start-level-lts.Need-level-requires (start-level-claims t) (start-level-at t) start-level.Post
 start-level-level-requires t c κs =
-    let pre = c .before .before .before .before .before .before .before .before .before .before .before .before .pre in
+    let entered = c .before .before .before .before .before .before .before .before .before .before .before .before in
     rw (
       c .next .ensures,
       c .before .remaining .ensures,
       c .before .before .queue .ensures,
       c .before .before .before .nodes .ensures,
-    ) (
-      omega (arith, pre .0),
-      (
-        holding-here (pre .1 .0),
-        none-free,
-        record { some = omega arith; enough = omega arith; behind = omega arith; within = pre .1 .0 .holds .node },
-        pre .1 .1,
-        not-halting,
-      ),
-    )
+    ) (omega (arith, entered .pre .0), (none-begun false (entered .pre .1 .0) (omega (arith, entered .good)), entered .pre .1 .1))
 
 start-level-returns : (t : ℕ) → start-level-lts.Need-returns (start-level-claims t) (start-level-at t) start-level.Post
 start-level-returns t c =
-    rest-starts _ (omega arith)
-    (level-whole (rw (c .before .before .before .queue .ensures, c .before .before .before .before .nodes .ensures))
-    (rw (c .before .next .ensures, c .before .before .remaining .ensures)) refl (c .level .ensures))
+    let entered = c .before .before .before .before .before .before .before .before .before .before .before .before .before in
+    rest-starts (entered .pre .1 .0) (omega (arith, entered .good))
+    (level-from (rw (c .before .before .before .queue .ensures, c .before .before .before .before .nodes .ensures)) (rw (c .before .next .ensures, c .before .before .remaining .ensures)) (c .level .ensures))
 
 pub +complement+complements+follow+lengths+level+rest+start-level-spec : {M : Type 1} → statement M
 +complement+complements+follow+lengths+level+rest+start-level-spec =
@@ -725,6 +691,10 @@ pub +complement+complements+follow+lengths+level+rest+start-level-spec : {M : Ty
     (lengths-sub-left t)
     (lengths-passed-requires t)
     (lengths-wide-requires t)
+    (lengths-bound-requires t)
+    (lengths-packed-requires t)
+    (lengths-mul-parts t)
+    (lengths-element-write-parts t)
     (lengths-nodes-requires t)
     (lengths-queue-requires t)
     (lengths-remaining-requires t)
@@ -741,11 +711,6 @@ pub +complement+complements+follow+lengths+level+rest+start-level-spec : {M : Ty
     (level-of-requires-2 t)
     (level-also-requires t)
     (level-loop-holds t)
-    (level-sub-bound t)
-    (level-bound-requires t)
-    (level-packed-requires t)
-    (level-mul-parts t)
-    (level-element-write-parts t)
     (level-rest-requires t)
     (level-is-failed-requires t)
     (level-sub-left t)
@@ -755,7 +720,11 @@ pub +complement+complements+follow+lengths+level+rest+start-level-spec : {M : Ty
     (level-extent-requires t)
     (level-add-place t)
     (level-sub-place t)
-    (level-add-n t)
+    (level-mul-longer t)
+    (level-element-copy-out-longer t)
+    (level-longer-requires t)
+    (level-mul-parts t)
+    (level-element-write-parts t)
     (level-loop-less t)
     (level-loop-again t)
     (level-returns t)

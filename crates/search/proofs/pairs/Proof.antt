@@ -1,8 +1,8 @@
 -- `search::pairs` meets its contract. Assumes nothing.
 use native.Mathlib.Omega.{arith}
-use mathlib.Core.Path.{refl}
-use Rattle.search.proofs.Kept.{none-free}
-use Rattle.search.proofs.Halves.{holding-here, level-halts}
+use mathlib.Core.Bool.{true}
+use Rattle.search.proofs.Begins.{level-from, none-begun}
+use Rattle.search.proofs.Levels.{level-halts}
 use borrow.Author.Needs.{needs}
 use Rattle.search.proofs.pairs.Statement.{statement}
 use Rattle.search.proofs.pairs.Tie as tie
@@ -21,19 +21,13 @@ next-requires c κs = search needs
 
 level-requires : tie.Need-level-requires
 level-requires c κs =
-    let pre = c .before .before .before .before .before .before .before .before .before .before .before .before .pre in
+    let entered = c .before .before .before .before .before .before .before .before .before .before .before .before in
     rw (
       c .next .ensures,
       c .before .remaining .ensures,
       c .before .before .queue .ensures,
       c .before .before .before .nodes .ensures,
-    ) (
-      holding-here (pre .0),
-      none-free,
-      record { some = omega arith; enough = omega arith; behind = omega arith; within = pre .0 .holds .node },
-      pre .1,
-      record { none = λ h. (refl, refl, refl, omega arith) },
-    )
+    ) (none-begun true (entered .pre .0) (omega (arith, entered .good)), entered .pre .1)
 
 reported-requires : tie.Need-reported-requires
 reported-requires c κs = search needs
@@ -44,8 +38,8 @@ returns c = record {
   assigned₁ = _;
   left₁ = _;
   halts =
-      level-halts (rw (c .before .before .before .before .before .queue .ensures, c .before .before .before .before .before .before .nodes .ensures)) (rw (c .before .before .before .next .ensures, c .before .before .before .before .remaining .ensures)) refl
-      (c .before .before .level .ensures);
+      level-halts (c .before .before .before .before .before .before .before .before .before .before .before .before .before .before .before .pre .0) (omega (arith, c .before .before .before .before .before .before .before .before .before .before .before .before .before .before .before .good))
+      (level-from (rw (c .before .before .before .before .before .queue .ensures, c .before .before .before .before .before .before .nodes .ensures)) (rw (c .before .before .before .next .ensures, c .before .before .before .before .remaining .ensures)) (c .before .before .level .ensures));
   is = c .reported .ensures;
 }
 

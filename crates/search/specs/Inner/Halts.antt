@@ -1,16 +1,16 @@
 -- A level that halts where its pairs stop, and what it reports of that.
-use Prim.Native.Nat.{ℕ, _+_, _-_, _%_, _<_}
+use Prim.Native.Nat.{ℕ, _+_, _-_, _%_, _<_, _≤_}
 use mathlib.Core.Path.{_≡_}
 use mathlib.Core.List.{List}
 use mathlib.Core.Bool.{Bool, true, false, cond}
-use lib.ListN.{getD, set}
+use lib.ListN.{length, getD, set}
 use lib.Dec.{ltb}
 use Rattle.term.specs.Code.{variables}
 use Rattle.term.specs.Part.{boundPart}
 use Rattle.search.specs.State.{place}
-use Rattle.search.specs.Inner.Memory.{marks, packed, unpacked}
+use Rattle.search.specs.Inner.Memory.{marks, packed, unpacked, Holding}
 use Rattle.search.specs.Inner.Bounds.{reached, Walks}
-use Rattle.search.specs.Inner.Replies.{failure, LevelIs, RestIs}
+use Rattle.search.specs.Inner.Replies.{failure, Free, runStart, LevelIs, RestIs}
 use Rattle.search.specs.declared.Place.{Place}
 use Rattle.search.specs.declared.Marks.{Marks}
 use Rattle.search.specs.declared.Reached.{Reached}
@@ -86,6 +86,29 @@ pub record LevelBy (halts : Bool) (table classes pattern bytes : List ℕ) (assi
     (outcome : Outcome) (assigned′ left′ : ℕ) (parts′ stack′ : List ℕ) : Type 0 where
   pub halted : halts ≡ true → Halts table classes pattern bytes assigned left parts stack m p outcome assigned′ left′ parts′ stack′
   pub going : halts ≡ false → LevelIs table classes pattern bytes assigned left parts stack v first size most m p outcome assigned′ left′ parts′ stack′
+
+-- the place is behind the first of the lengths that v is given, v has them as its part, and they end where `least` elements are left
+pub record Begun (codes bytes assigned : ℕ) (parts stack : List ℕ) (v : ℕ) (halts : Bool) (least : ℕ) (m : Marks) (p : Place) : Type 0 where
+  pub first : ℕ
+  pub most : ℕ
+  pub from : ℕ
+  pub holding : Holding codes bytes assigned parts stack m (runStart first from p)
+  pub free : Free assigned v
+  pub some : first ≤ most
+  pub few : most < 256
+  pub last : most ≡ p .elements + first - least
+  pub behind : from ≤ p .node
+  pub within : p .node ≤ bytes
+  pub named : first < most → v < variables
+  pub written : v < variables → getD parts v 0 ≡ packed (boundPart from (p .node - from) first)
+  pub halting : Halting halts v first most (p .node - from)
+
+-- the level from there
+pub record Levels (table classes pattern bytes : List ℕ) (assigned left : ℕ) (parts stack : List ℕ) (v : ℕ) (halts : Bool) (least : ℕ) (m : Marks) (p : Place)
+    (outcome : Outcome) (assigned′ left′ : ℕ) (parts′ stack′ : List ℕ) : Type 0 where
+  pub from : (b : Begun (length pattern) (length bytes) assigned parts stack v halts least m p)
+      → LevelBy halts table classes pattern bytes assigned left parts stack v (b .first) (p .node - b .from) (b .most) m (runStart (b .first) (b .from) p)
+      outcome assigned′ left′ parts′ stack′
 
 -- what is read of a level that halts
 pub record PairsAre (table classes pattern bytes : List ℕ) (assigned left : ℕ) (parts stack : List ℕ) (m : Marks) (p : Place)

@@ -1,5 +1,5 @@
 -- What the functions of the search of levels reply, and what they ask for.
-use Prim.Native.Nat.{ℕ, zero, suc, _+_, _-_, _<_, _≤_}
+use Prim.Native.Nat.{ℕ, zero, suc, _+_, _-_, _*_, _<_, _≤_}
 use mathlib.Core.Path.{_≡_}
 use mathlib.Core.List.{List, [], _∷_}
 use mathlib.Core.Bool.{Bool, true, false, cond}
@@ -11,6 +11,7 @@ use Rattle.term.specs.Part.{boundPart}
 use Rattle.term.specs.declared.Part.{Part}
 use Rattle.search.specs.State.{PutBy, State, place, state}
 use Rattle.search.specs.Level.{Reply, reply, failedAt, spentAt, startOf, orElse, insideOf, complementsOf, stopBy, levelOf, levels}
+use Rattle.search.specs.Shown.{entryWidth}
 use Rattle.search.specs.Inner.Memory.{bit, partIn, Holds, Holding, Kept}
 use Rattle.search.specs.declared.Place.{Place}
 use Rattle.search.specs.declared.Marks.{Marks}
@@ -41,6 +42,10 @@ turned Spent = Spent
 unfoldable pub partsIn : ℕ → List ℕ → ℕ → ℕ → List Part
 partsIn assigned parts v zero = []
 partsIn assigned parts v (suc k) = partIn assigned parts v ∷ partsIn assigned parts (v + 1) k
+
+-- an entry written over the one of a variable
+abbrev pub setEntry : List ℕ → ℕ → Part → List ℕ
+setEntry l v p = set (set (set l (entryWidth * v) (p .offset)) (entryWidth * v + 1) (p .length)) (entryWidth * v + 2) (p .elements)
 
 -- the reply that outcome, allowance and parts shown stand for
 abbrev pub replyWith : Outcome → ℕ → List Part → Reply
@@ -78,13 +83,6 @@ pub record Free (assigned v : ℕ) : Type 0 where
 -- the place at which a run starts, from the place behind its first n elements
 abbrev pub runStart : ℕ → ℕ → Place → Place
 runStart n from p = place (p .children) (p .elements + n) (p .at) from
-
--- the lengths from the first one on, where the place is behind it
-pub record Between (first most from bytes : ℕ) (p : Place) : Type 0 where
-  pub some : first ≤ most
-  pub enough : most ≤ p .elements + first
-  pub behind : from ≤ p .node
-  pub within : p .node ≤ bytes
 
 -- the buffers hold a state at some place
 pub record Resting (codes bytes assigned : ℕ) (parts stack : List ℕ) (m : Marks) : Type 0 where
