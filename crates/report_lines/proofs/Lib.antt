@@ -8,3 +8,4 @@ pub mod Rooms
 pub mod Turns
 pub mod Cuts
 pub mod Demands
+pub mod Codes

@@ -1,4 +1,4 @@
-// The text of the report: which refusal or which lines, and the bytes of each.
+// The text of the report: which refusal or which lines, and the bytes of each. And the list of the codes, in fields as the report's.
 use rules::RuleAnswer;
 use sheet::Checked;
 use term::Refusal;
@@ -15,6 +15,7 @@ ghost use Rattle.rules.specs.Call.{answerOf};
 ghost use Rattle.report_lines.specs.Line.{field, line, answerLine, refusalLine};
 ghost use Rattle.report_lines.specs.Verdict.{readable, verdict, AllAccepted};
 ghost use Rattle.report_lines.specs.Report.{allowance, lines, report, reportRoom, front};
+ghost use Rattle.report_lines.specs.Codes.{kindWord, codeLine, codesRoom, codeList};
 
 // What the rules are allowed on each state.
 const ALLOWANCE: u32 = 100000;
@@ -26,6 +27,9 @@ const LINE_ROOM: usize = 22;
 
 // The room that every report has its place in.
 pub const REPORT_ROOM: usize = MOST_LINES * LINE_ROOM;
+
+// The bytes of the list of the codes.
+pub const CODES_ROOM: usize = 2605;
 
 // The files of a report.
 pub enum File {
@@ -210,4 +214,52 @@ pub fn put_report(
         Verdict::Lines(n) => put_lines(table, rules, states, n, out),
         Verdict::Refused(r, file, i) => put_refusal(out, r, file, i),
     }
+}
+
+// Puts the word of a kind, which ends its line, and answers where it ends.
+fn put_kind(out: &mut [u8], at: usize, kind: u8) -> usize
+    requires { ⌜ at + length (kindWord kind) + 1 ≤ length (now out) ⌝ }
+    ensures { λ _. ⌜ now (out .exit) ≡ sets (now (out .entry)) at (field (kindWord kind) 10) ⌝ }
+    ensures { λ r. ⌜ r ≡ at + length (kindWord kind) + 1 ⌝ }
+{
+    match kind {
+        kinds::SYMBOL => put_field(out, at, b"symbol", b'\n'),
+        kinds::NAME => put_field(out, at, b"name", b'\n'),
+        kinds::RUN => put_field(out, at, b"run", b'\n'),
+        kinds::COMPLEMENT => put_field(out, at, b"complement", b'\n'),
+        _ => put_field(out, at, b"refused", b'\n'),
+    }
+}
+
+// Puts the line of a code, the code and its kind, and answers where it ends.
+fn put_code(out: &mut [u8], at: usize, code: u8) -> usize
+    requires { ⌜ at + length (codeLine code) ≤ length (now out) ⌝ }
+    ensures { λ _. ⌜ now (out .exit) ≡ sets (now (out .entry)) at (codeLine code) ⌝ }
+    ensures { λ r. ⌜ r ≡ at + length (codeLine code) ⌝ }
+{
+    let mut digits = [0u8; 20];
+    let size = io::decimal(code as u64, &mut digits);
+    let kind = kinds::kind_of(code);
+    let end = put_field(out, at, &digits[..size], b' ');
+    put_kind(out, end, kind)
+}
+
+// Puts the lines of all codes, from code 0 up.
+fn put_each_code(out: &mut [u8])
+    requires { ⌜ length (now out) ≡ codesRoom ⌝ }
+    ensures { λ _. ⌜ now (out .exit) ≡ sets (now (out .entry)) 0 codeList ⌝ }
+{
+    let mut at: usize = 0;
+    let mut code: usize = 0;
+    while code < kinds::CODES {
+        at = put_code(out, at, code as u8);
+        code = code + 1;
+    }
+}
+
+// Puts the list of the codes, which fills the output.
+pub fn put_codes(out: &mut [u8; CODES_ROOM])
+    ensures { λ _. ⌜ now (out .exit) ≡ codeList ⌝ }
+{
+    put_each_code(out);
 }

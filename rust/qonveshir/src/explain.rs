@@ -6,8 +6,14 @@ use reference::{
     classes::Classes, pattern::Steps, record::Record, sheet::Sheet, table::Table, Refusal,
 };
 
-/// Explains what the arguments name: a number, or a table and inputs over it.
+/// What the proved program `codes` prints: a line for each code from 0 up, the code and its kind.
+const CODES: &str = include_str!("../../../crates/codes/stdout");
+
+/// Explains what the arguments name: a number, a code, or a table and inputs over it.
 pub fn explain(arguments: &[&str]) -> Reply {
+    if let ["--code", code] = arguments {
+        return kind(code);
+    }
     if let [Ok(number)] = arguments.iter().map(|text| text.parse()).collect::<Vec<_>>()[..] {
         return meaning(number);
     }
@@ -36,6 +42,14 @@ fn meaning(number: u32) -> Reply {
     match Word::of(number) {
         Some(word) => Ok(format!("{number} {}: {}\n", word.text(), word.meaning())),
         None => trouble(format!("{number}: numbers are 0 to {}", Word::ALL.len() - 1)),
+    }
+}
+
+/// The line of a code.
+fn kind(code: &str) -> Reply {
+    match code.parse().ok().and_then(|code| CODES.lines().nth(code)) {
+        Some(line) => Ok(format!("{line}\n")),
+        None => trouble(format!("{code}: codes are 0 to {}", CODES.lines().count() - 1)),
     }
 }
 

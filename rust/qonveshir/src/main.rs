@@ -29,6 +29,7 @@ usage:
                     [--pattern FILE] [--record FILE]
                                             say why an input is refused
   qonveshir explain NUMBER                  say what a number means
+  qonveshir explain --code CODE             say what kind a code of a pattern is
   qonveshir --help, qonveshir --version
 
 SYMBOLS is a text file of names in order, such as `open held gate/1 row/2 gates/* stopped=held`: a

@@ -229,6 +229,29 @@ fn explains() {
 }
 
 #[test]
+fn explains_codes() {
+    let folder = folder("codes");
+    for (code, kind) in [
+        (0, "symbol"),
+        (199, "symbol"),
+        (200, "name"),
+        (231, "name"),
+        (232, "run"),
+        (247, "run"),
+        (248, "complement"),
+        (249, "refused"),
+        (255, "refused"),
+    ] {
+        let line = format!("{code} {kind}\n");
+        assert_eq!(run(&folder, &["explain", "--code", &code.to_string()]), (0, line));
+    }
+    for wrong in ["256", "-1", "name"] {
+        assert_eq!(run(&folder, &["explain", "--code", wrong]).0, 2, "{wrong}");
+    }
+    fs::remove_dir_all(folder).unwrap();
+}
+
+#[test]
 fn explains_class_lists() {
     let folder = folder("lists");
     fs::write(folder.join("t"), [0, 1, 255, 0]).unwrap();

@@ -1,0 +1,3 @@
+-- The laws of the kinds.
+pub mod Table
+pub mod Ranges

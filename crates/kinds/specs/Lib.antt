@@ -1,0 +1,2 @@
+-- The kinds of codes.
+pub mod Kind

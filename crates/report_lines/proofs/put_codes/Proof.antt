@@ -1,0 +1,14 @@
+-- `report_lines::put_codes` meets its contract.
+use Rattle.report_lines.proofs.Codes.{codes-fill}
+use borrow.Author.Needs.{needs}
+use Rattle.report_lines.proofs.put_codes.Statement.{statement}
+use Rattle.report_lines.proofs.put_codes.Tie as tie
+
+put-each-code-requires : tie.Need-put-each-code-requires
+put-each-code-requires c κs = search needs
+
+returns : tie.Need-returns
+returns c = codes-fill _ _ (search needs) (c .put-each-code .ensures)
+
+pub put-codes-spec : {M : Type 1} → statement M
+put-codes-spec = tie.close (tie.spec put-each-code-requires returns)
