@@ -9,16 +9,16 @@ use lib.Dec.{leb}
 use borrow.Author.Tests.{leb-true}
 use Rattle.term.specs.Limits.{Octets, nesting, longestPattern, PatternAccepted}
 use Rattle.term.specs.Pattern.{Pattern}
-use Rattle.term.specs.Reading.{Answer as Reading, refused, read, shown, readPattern}
+use Rattle.reader.specs.Reading.{Answer as Reading, refused, read, shown, readPattern}
 use Rattle.term.specs.Refusal.{numberOf}
 use Rattle.term.specs.Table.{entriesAccepted, tableAccepted, largestTable}
-use Rattle.term.specs.declared.Read.{Read}
-use Rattle.term.specs.declared.Read.the-variants.{Ends}
+use Rattle.reader.specs.declared.Read.{Read}
+use Rattle.reader.specs.declared.Read.the-variants.{Ends}
 use Rattle.term.specs.declared.Refusal.{Refusal}
 use Rattle.term.specs.declared.Refusal.the-variants.{Table}
-use Rattle.term.proofs.Answers.{refused-shown, ends-shown}
+use Rattle.reader.proofs.Answers.{refused-shown, ends-shown}
 use Rattle.term.proofs.Numbers.{word-or-refusal}
-use Rattle.term.proofs.Typed.{pattern-iff, pattern-read}
+use Rattle.reader.proofs.Typed.{pattern-iff, pattern-read}
 use Rattle.anti_pattern.specs.Cost.{nodes, hasRuns}
 use Rattle.anti_pattern.specs.Language.{language}
 use Rattle.anti_pattern.specs.Published.{NoRuns}

@@ -3,7 +3,7 @@ use Prim.Native.Nat.{ℕ}
 use mathlib.Core.List.{List}
 use mathlib.Core.Bool.{cond}
 use Rattle.term.specs.Pattern.{Pattern}
-use Rattle.term.specs.Reading.{Answer as Reading, refused, read, readPattern}
+use Rattle.reader.specs.Reading.{Answer as Reading, refused, read, readPattern}
 use Rattle.term.specs.Refusal.{numberOf}
 use Rattle.term.specs.Table.{tableAccepted}
 use Rattle.term.specs.declared.Refusal.the-variants.{Table}

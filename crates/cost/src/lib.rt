@@ -1,6 +1,6 @@
 // What a rule can cost at most: the number of its nodes, unless it has run names.
+use reader::Read;
 use term::Code;
-use term::Read;
 use term::Refusal;
 ghost use mathlib.Core.Path.{_≡_};
 ghost use mathlib.Core.Bool.{false};
@@ -90,7 +90,7 @@ pub fn cost_of(table: &[u8], pattern: &[u8]) -> Cost
     if !term::check_table(table) {
         return Cost::Refused(Refusal::Table);
     }
-    let p = term::read_pattern(table, pattern);
+    let p = reader::read_pattern(table, pattern);
     if let Read::Refused(r) = p {
         return Cost::Refused(r);
     }

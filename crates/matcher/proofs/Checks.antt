@@ -12,14 +12,14 @@ use Rattle.term.specs.Table.{tableAccepted}
 use Rattle.term.specs.Term.{Term}
 use Rattle.term.specs.Pattern.{Pattern}
 use Rattle.term.specs.Limits.{Octets}
-use Rattle.term.specs.Reading.{Answer as Reading, refused, read, shown, readRecord, readPattern}
+use Rattle.reader.specs.Reading.{Answer as Reading, refused, read, shown, readRecord, readPattern}
 use Rattle.term.specs.declared.Refusal.{Refusal}
 use Rattle.term.specs.declared.Refusal.the-variants.{Table, Narrow, Class}
-use Rattle.term.specs.declared.Read.{Read}
-use Rattle.term.specs.declared.Read.the-variants.{Ends}
+use Rattle.reader.specs.declared.Read.{Read}
+use Rattle.reader.specs.declared.Read.the-variants.{Ends}
 use Rattle.term.proofs.Classes.{accepted-alike, none-alike}
-use Rattle.term.proofs.Answers.{refused-shown, ends-shown}
-use Rattle.term.proofs.Typed.{record-iff, pattern-iff, record-read, pattern-read}
+use Rattle.reader.proofs.Answers.{refused-shown, ends-shown}
+use Rattle.reader.proofs.Typed.{record-iff, pattern-iff, record-read, pattern-read}
 use Rattle.matcher.specs.Call.{broughtBy, classesOf, broughtAccepted, Input, fault, trees, checkedBy, checked, checkOf}
 use Rattle.matcher.specs.declared.Check.the-variants.{Passed, Failed}
 use Rattle.search.specs.Shown.{answerWidth}

@@ -12,7 +12,7 @@ use Rattle.term.specs.Term.{Term, termBytes}
 use Rattle.term.specs.Pattern.{Pattern, patternBytes}
 use Rattle.term.specs.Limits.{TermAccepted, PatternAccepted}
 use Rattle.term.specs.Refusal.{numberOf}
-use Rattle.term.specs.Reading.{Answer as Reading, refused, read, readPattern, readRecord}
+use Rattle.reader.specs.Reading.{Answer as Reading, refused, read, readPattern, readRecord}
 use Rattle.term.specs.declared.Refusal.{Refusal}
 use Rattle.term.specs.declared.Refusal.the-variants.{Table, Narrow, Class}
 use Rattle.anti_pattern.specs.Language.{Language, language}

@@ -1,7 +1,7 @@
 // The match of one pattern against one record: the checks, the search, and the answer in the caller's buffer.
+use reader::Read;
 use search::Known;
 use search::Outcome;
-use term::Read;
 use term::Refusal;
 ghost use mathlib.Core.Path.{_≡_};
 ghost use mathlib.Core.List.{[]};
@@ -86,11 +86,11 @@ fn check_input(
     if !accepts_classes(table, brings, classes) {
         return Check::Failed(Refusal::Class);
     }
-    let p = term::read_pattern(table, pattern);
+    let p = reader::read_pattern(table, pattern);
     if let Read::Refused(r) = p {
         return Check::Failed(r);
     }
-    let s = term::read_record(table, record);
+    let s = reader::read_record(table, record);
     if let Read::Refused(r) = s {
         return Check::Failed(r);
     }

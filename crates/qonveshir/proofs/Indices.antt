@@ -11,9 +11,9 @@ use borrow.Author.Tests.{leb-true}
 use Rattle.term.specs.Term.{Term}
 use Rattle.term.specs.Pattern.{Pattern}
 use Rattle.term.specs.Table.{tableAccepted}
-use Rattle.term.specs.Reading.{Answer as Reading, refused, read, readPattern, readRecord}
-use Rattle.term.specs.declared.Read.{Read}
-use Rattle.term.specs.declared.Read.the-variants.{Ends}
+use Rattle.reader.specs.Reading.{Answer as Reading, refused, read, readPattern, readRecord}
+use Rattle.reader.specs.declared.Read.{Read}
+use Rattle.reader.specs.declared.Read.the-variants.{Ends}
 use Rattle.term.specs.declared.Refusal.the-variants.{Table, Narrow, Long, Directory, Full, Class}
 use Rattle.anti_pattern.specs.Answer.{Answer as Outcome, bound, nothing, spent, answer}
 use Rattle.sheet.specs.Answer.{checkedIndex, writingIndex}

@@ -8,7 +8,7 @@ use mathlib.Core.Option.{none}
 use lib.ListN.{length, getD}
 use Rattle.term.specs.Term.{Term}
 use Rattle.term.specs.Limits.{Octets}
-use Rattle.term.specs.Reading.{Answer as Reading, refused, read, shown, readRecord}
+use Rattle.reader.specs.Reading.{Answer as Reading, refused, read, shown, readRecord}
 use Rattle.term.proofs.Classes.{none-alike}
 use Rattle.anti_pattern.specs.Language.{language}
 use Rattle.sheet.specs.Check.{checkSheet}

@@ -13,13 +13,13 @@ use Rattle.term.specs.Table.{tableAccepted}
 use Rattle.term.specs.Term.{Term}
 use Rattle.term.specs.Pattern.{Pattern}
 use Rattle.term.specs.Limits.{Octets}
-use Rattle.term.specs.Reading.{Answer as Reading, refused, read, shown, readPattern, readRecord}
+use Rattle.reader.specs.Reading.{Answer as Reading, refused, read, shown, readPattern, readRecord}
 use Rattle.term.specs.declared.Refusal.{Refusal}
 use Rattle.term.specs.declared.Refusal.the-variants.{Table, Narrow, Class}
-use Rattle.term.specs.declared.Read.{Read}
-use Rattle.term.specs.declared.Read.the-variants.{Ends}
-use Rattle.term.proofs.Answers.{refused-shown, ends-shown}
-use Rattle.term.proofs.Typed.{record-iff, pattern-iff, record-read, pattern-read}
+use Rattle.reader.specs.declared.Read.{Read}
+use Rattle.reader.specs.declared.Read.the-variants.{Ends}
+use Rattle.reader.proofs.Answers.{refused-shown, ends-shown}
+use Rattle.reader.proofs.Typed.{record-iff, pattern-iff, record-read, pattern-read}
 use Rattle.sheet.specs.Entry.{entries}
 use Rattle.sheet.specs.Contents.{readEntry, checkEach, checkRules}
 use Rattle.sheet.specs.declared.Checked.{Checked as SheetChecked}

@@ -8,7 +8,7 @@ use Rattle.term.specs.Tree.{own, encode}
 use Rattle.term.specs.Term.{Term}
 use Rattle.term.specs.Pattern.{Pattern, name, symbol, complement, patternBytes}
 use Rattle.term.specs.Limits.{Octets, PatternAccepted}
-use Rattle.term.specs.Reading.{Answer as Reading, refused, read, readPattern}
+use Rattle.reader.specs.Reading.{Answer as Reading, refused, read, readPattern}
 use Rattle.sheet.specs.Sheet.{NoneEmpty}
 use Rattle.sheet.specs.Check.{entryCount}
 use Rattle.sheet.specs.Entry.{entryAt, entries, partAt}

@@ -11,7 +11,7 @@ use Rattle.term.specs.Table.{tableAccepted}
 use Rattle.term.specs.Term.{Term, termBytes}
 use Rattle.term.specs.Pattern.{Pattern, patternBytes}
 use Rattle.term.specs.Limits.{TermAccepted, PatternAccepted}
-use Rattle.term.specs.Reading.{Answer as Reading, refused, read, readPattern, readRecord}
+use Rattle.reader.specs.Reading.{Answer as Reading, refused, read, readPattern, readRecord}
 use Rattle.term.specs.declared.Refusal.{Refusal}
 use Rattle.term.specs.declared.Refusal.the-variants.{Table, Narrow, Class}
 use Rattle.sheet.specs.Sheet.{sheetBytes}

@@ -1,7 +1,7 @@
 // A rule sheet against one record: its rules are tried in order, up to the first that is bound or spent.
 use matcher::Answer;
+use reader::Read;
 use sheet::Checked;
-use term::Read;
 use term::Refusal;
 ghost use mathlib.Core.Path.{_≡_};
 ghost use mathlib.Core.Option.{none, some};
@@ -82,7 +82,7 @@ fn check_input(table: &[u8], sheet: &[u8], record: &[u8], width: usize) -> Check
     let Checked::Accepted(_) = rules else {
         return rules;
     };
-    let read = term::read_record(table, record);
+    let read = reader::read_record(table, record);
     if let Read::Refused(r) = read {
         return Checked::Refused(r, 0);
     }

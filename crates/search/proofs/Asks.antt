@@ -9,7 +9,7 @@ use mathlib.Core.Path.{_≡_, refl}
 use lib.Dec.{leb, eqb, ltb}
 use lib.ListN.{length, getD, drop, length-drop}
 use borrow.Author.Tests.{leb-true, leb-false, eqb-false, ltb-true}
-use Rattle.term.proofs.Answers.{cond-all}
+use Rattle.term.proofs.Bools.{cond-all}
 use Rattle.term.proofs.Codes.{decode-below}
 use Rattle.term.proofs.Extents.{extent-some}
 use Rattle.term.specs.Same.{sameByte}

@@ -4,9 +4,9 @@ use mathlib.Core.List.{List, [], _∷_}
 use mathlib.Core.Bool.{Bool, true, false, cond}
 use lib.Dec.{leb}
 use Rattle.term.specs.Table.{tableAccepted}
-use Rattle.term.specs.Reading.{shown, readRecord, readPattern}
-use Rattle.term.specs.declared.Read.{Read}
-use Rattle.term.specs.declared.Read.the-variants.{Ends}
+use Rattle.reader.specs.Reading.{shown, readRecord, readPattern}
+use Rattle.reader.specs.declared.Read.{Read}
+use Rattle.reader.specs.declared.Read.the-variants.{Ends}
 use Rattle.term.specs.declared.Refusal.the-variants.{Table, Long}
 use Rattle.sheet.specs.Check.{checkSheet, andThen}
 use Rattle.sheet.specs.Entry.{entries}

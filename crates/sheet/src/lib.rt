@@ -1,5 +1,5 @@
 // Sheets of patterns or of records: how they are checked, read entry by entry, and written.
-use term::Read;
+use reader::Read;
 use term::Refusal;
 ghost use mathlib.Core.Path.{_≡_};
 ghost use mathlib.Core.Bool.{true};
@@ -277,9 +277,9 @@ fn read_entry(records: bool, table: &[u8], bytes: &[u8]) -> Read
     ensures { λ r. ⌜ r ≡ readEntry records (now (table .entry)) (now (bytes .entry)) ⌝ }
 {
     if records {
-        return term::read_record(table, bytes);
+        return reader::read_record(table, bytes);
     }
-    term::read_pattern(table, bytes)
+    reader::read_pattern(table, bytes)
 }
 
 // Each of the n entries of a checked sheet, in order.

@@ -20,7 +20,7 @@ use Rattle.term.specs.declared.Code.{Code}
 use Rattle.term.specs.declared.Code.the-variants.{Symbol, Name, Run, Complement}
 use Rattle.term.proofs.Codes.{byte-injective}
 use Rattle.term.proofs.Sizes.{take-terms, number-terms, node-bytes, encodes-append}
-use Rattle.term.proofs.Typed.{terms-back}
+use Rattle.term.proofs.Trees.{terms-back}
 
 pub and-true : (a b : Bool) → a && b ≡ true → (a ≡ true) × (b ≡ true)
 and-true true b h = (refl, h)

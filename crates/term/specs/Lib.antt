@@ -1,4 +1,4 @@
--- Tables, codes, terms and patterns, their bytes, and how they are read. In document 01's order.
+-- Tables, codes, terms and patterns, their bytes and limits, and when they are the same. In document 01's order.
 pub mod Table
 pub mod Code
 pub mod Tree
@@ -6,9 +6,6 @@ pub mod Term
 pub mod Pattern
 pub mod Limits
 pub mod Refusal
-pub mod Node
-pub mod Frame
-pub mod Reading
 pub mod Extent
 pub mod Class
 pub mod Same

@@ -1,7 +1,5 @@
--- Document 01's number for each refusal, and document 02's from 14 on (10 and 11, none and spent, are answers); and what a reading shows.
+-- Document 01's number for each refusal, and document 02's from 14 on (10 and 11, none and spent, are answers).
 use Prim.Native.Nat.{ℕ}
-use Rattle.term.specs.declared.Read.{Read}
-use Rattle.term.specs.declared.Read.the-variants.{Ends}
 use Rattle.term.specs.declared.Refusal.{Refusal}
 use Rattle.term.specs.declared.Refusal.the-variants.{Table, Short, Spare, BadCode, Deep, Long, Stray, Narrow, Directory, Full, Unread, Class, Unknown}
 
@@ -19,12 +17,3 @@ numberOf Full = 12
 numberOf Unread = 13
 numberOf Class = 14
 numberOf Unknown = 15
-
--- what is read has 0 for a number, and its length in bytes; a refusal has length 0
-abbrev pub readNumber : Read → ℕ
-readNumber (Ends n) = 0
-readNumber (Read.Refused r) = numberOf r
-
-abbrev pub readLength : Read → ℕ
-readLength (Ends n) = n
-readLength (Read.Refused r) = 0

@@ -39,8 +39,8 @@ fn of_part(name: &[u8], part: &[u8]) -> Shown {
 fn of_reading(name: &[u8], table: &[u8], bytes: &[u8]) -> Shown {
     let call = text::place_among(b"read_record read_pattern extent cost_of", name);
     match call {
-        0 => shown::show_read(term::read_record(table, bytes)),
-        1 => shown::show_read(term::read_pattern(table, bytes)),
+        0 => shown::show_read(reader::read_record(table, bytes)),
+        1 => shown::show_read(reader::read_pattern(table, bytes)),
         2 => shown::show_number(b" ", term::extent(table, bytes) as u64),
         3 => shown::show_cost(cost::cost_of(table, bytes)),
         _ => shown::nothing(),

@@ -2,10 +2,10 @@
 use crate::text;
 use cost::Cost;
 use matcher::Answer;
+use reader::Read;
 use rules::RuleAnswer;
 use sheet::Checked;
 use sheet::Place;
-use term::Read;
 
 // The numbers of an entry, the entries of an answer, and those of the buffer around it.
 const ENTRY: usize = search::ENTRY_WIDTH;

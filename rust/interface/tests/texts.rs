@@ -10,7 +10,7 @@ fn read(file: &str) -> String {
 
 /// The code of the proved crates, without comments.
 fn rattle() -> String {
-    let crates = ["term", "search", "matcher", "cost", "sheet", "rules", "qonveshir"];
+    let crates = ["term", "reader", "search", "matcher", "cost", "sheet", "rules", "qonveshir"];
     let code = crates.map(|name| read(&format!("crates/{name}/src/lib.rt"))).concat();
     let lines = code.lines().filter(|line| !line.trim_start().starts_with("//"));
     lines.map(|line| format!("{line}\n")).collect()

@@ -1,0 +1,265 @@
+-- What is still to be read, in frames: a node and then its children, read one node at a time.
+use Prim.Native.Nat.{ℕ, zero, suc, _+_, _-_, _≤_, _<_}
+use native.Mathlib.Omega.{arith}
+use native.Mathlib.Numerals.{add-one, sub-one}
+use mathlib.Core.Path.{_≡_, refl, sym, ap, ap₂, fun-ext, _∙_}
+use mathlib.Core.List.{List, [], _∷_}
+use mathlib.Core.Bool.{Bool, false}
+use lib.ListN.{length, getD, drop, set, take, length-drop, length-set}
+use lib.Seq.{drop-drop, getD-set-same, getD-set-other}
+use Rattle.term.specs.Limits.{nesting}
+use Rattle.term.specs.declared.Refusal.{Refusal}
+use Rattle.reader.specs.Frame.{frame}
+use Rattle.reader.specs.Node.{nodeAt}
+use Rattle.reader.specs.Reading.{shown, readAll, readTree, HandsOn}
+use Rattle.reader.specs.declared.Frame.{Frame}
+use Rattle.reader.specs.declared.Node.{Node}
+use Rattle.reader.specs.declared.Node.the-variants.{Open}
+use Rattle.reader.specs.declared.Read.{Read}
+use Rattle.reader.specs.declared.Read.the-variants.{Ends}
+use Rattle.reader.proofs.Steps.{plus, andThen, all-none, all-more, shown-chain, tree-refused, tree-open, node-within, node-below, rest-part}
+
+-- all but the first tree
+abbrev pub restOf : Frame → Frame
+restOf f = frame (f .count - 1) (f .left) (f .list)
+
+-- Frames in an array: the first so many, the last of them innermost
+
+abbrev pub none : Frame
+none = frame 0 0 false
+
+abbrev pub stack : ℕ → List Frame → List Frame
+stack zero fs = []
+stack (suc d) fs = getD fs d none ∷ stack d fs
+
+stack-length : (d : ℕ) (fs : List Frame) → length (stack d fs) ≡ d
+stack-length zero fs = refl
+stack-length (suc d) fs = ap suc (stack-length d fs)
+
+stack-kept : (d i : ℕ) (fs : List Frame) (f : Frame) → d ≤ i → stack d (set fs i f) ≡ stack d fs
+stack-kept zero i fs f h = refl
+stack-kept (suc d) i fs f h = ap₂ _∷_ (getD-set-other fs i d f none (λ e. omega arith)) (stack-kept d i fs f (omega arith))
+
+stack-pushed : (d : ℕ) (fs : List Frame) (f : Frame) → d < length fs → stack (d + 1) (set fs d f) ≡ f ∷ stack d fs
+stack-pushed d fs f h = rw (add-one) (ap₂ _∷_ (getD-set-same fs d f none h) (stack-kept d d fs f (omega arith)))
+
+stack-popped : (d : ℕ) (fs : List Frame) → 0 < d → stack d fs ≡ getD fs (d - 1) none ∷ stack (d - 1) fs
+stack-popped zero fs h = absurd (omega arith)
+stack-popped (suc d) fs h = rw (sub-one (suc d))
+
+-- Reading on
+
+plus-none : (r : Read) → plus 0 r ≡ r
+plus-none (Read.Refused r) = refl
+plus-none (Ends n) = ap Ends (omega arith)
+
+plus-plus : (m n : ℕ) (r : Read) → plus m (plus n r) ≡ plus (m + n) r
+plus-plus m n (Read.Refused r) = refl
+plus-plus m n (Ends k) = ap Ends (omega arith)
+
+and-no-more : (a : Read) → andThen (andThen a (λ n. Ends 0)) (λ n. Ends 0) ≡ a
+and-no-more (Read.Refused r) = refl
+and-no-more (Ends n) = ap Ends (omega arith)
+
+-- a node's children, the trees after the node, and then what follows
+module _ (size : ℕ) (s : List ℕ) (g h : List ℕ → Read) where
+  after-children : (n : ℕ) (l : List ℕ) (b : Read) → drop (size + n) s ≡ l
+      → andThen (plus (size + n) b) (λ m. h (drop m s)) ≡ plus size (plus n (andThen b (λ m. h (drop m l))))
+  after-children n l (Read.Refused r) e = refl
+  after-children n l (Ends m) e =
+      let d : drop (size + n + m) s ≡ drop m l = sym (drop-drop m (size + n) s) ∙ ap (drop m) e in
+      ap (λ (x : List ℕ). plus (size + n + m) (h x)) d
+      ∙ sym (plus-plus size n (plus m (h (drop m l))) ∙ plus-plus (size + n) m (h (drop m l)))
+
+  after-node : (a : Read)
+      → andThen (andThen (plus size a) (λ n. g (drop n s))) (λ m. h (drop m s))
+      ≡ plus size (andThen a (λ n. andThen (g (drop n (drop size s))) (λ m. h (drop m (drop n (drop size s))))))
+  after-node (Read.Refused r) = refl
+  after-node (Ends n) =
+      let d : drop (size + n) s ≡ drop n (drop size s) = sym (drop-drop n size s) in
+      ap (λ (x : List ℕ). andThen (plus (size + n) (g x)) (λ m. h (drop m s))) d
+      ∙ after-children n (drop n (drop size s)) (g (drop n (drop size s))) d
+
+module _ (table : List ℕ) (records : Bool) where
+  -- the trees of all frames, one frame after the other
+  unfoldable pub resume : List Frame → List ℕ → Read
+  resume [] s = Ends 0
+  resume (f ∷ fs) s = andThen (shown (readAll (readTree table records (f .left) (f .list)) (f .count) s)) (λ n. resume fs (drop n s))
+
+  resume-one : (left : ℕ) (list : Bool) (s : List ℕ) → resume (frame 1 left list ∷ []) s ≡ shown (readTree table records left list s)
+  unfolding resume readAll shown
+  resume-one left list s =
+      let t = readTree table records left list in
+      ap (λ (a : Read). andThen a (λ n. Ends 0)) (shown-chain (t s) (λ n. readAll t 0 (drop n s))) ∙ and-no-more (shown (t s))
+
+  resume-none : (f : Frame) (fs : List Frame) (s : List ℕ) → f .count ≡ 0 → resume (f ∷ fs) s ≡ resume fs s
+  unfolding resume
+  resume-none f fs s e =
+      ap (λ (a : Read). andThen a (λ n. resume fs (drop n s))) (all-none (readTree table records (f .left) (f .list)) (f .count) s e)
+      ∙ plus-none (resume fs s)
+
+  -- under the innermost frame
+  resume-under : (f : Frame) (fs gs : List Frame) (s : List ℕ) → ((l : List ℕ) → resume fs l ≡ resume gs l) → resume (f ∷ fs) s ≡ resume (f ∷ gs) s
+  unfolding resume
+  resume-under f fs gs s e =
+      ap (andThen (shown (readAll (readTree table records (f .left) (f .list)) (f .count) s))) (fun-ext (λ n. e (drop n s)))
+
+  resume-refused : (f : Frame) (fs : List Frame) (s : List ℕ) (r : Refusal) → 0 < f .count → nodeAt table records (f .list) (f .left) s ≡ Node.Refused r
+      → resume (f ∷ fs) s ≡ Read.Refused r
+  unfolding resume
+  resume-refused f fs s r h e =
+      let t = readTree table records (f .left) (f .list) in
+      rw (all-more t (f .count) s (λ z. omega arith), shown-chain (t s) (λ n. readAll t (f .count - 1) (drop n s)), tree-refused table records (f .left) (f .list) s r e)
+
+  resume-open : (f : Frame) (fs : List Frame) (s : List ℕ) {size k : ℕ} {list : Bool} {low : ℕ} → 0 < f .count
+      → nodeAt table records (f .list) (f .left) s ≡ Open size k list low
+      → resume (f ∷ fs) s ≡ plus size (resume (frame k low list ∷ restOf f ∷ fs) (drop size s))
+  unfolding resume
+  resume-open f fs s {size} {k} {list} {low} h e =
+      let t = readTree table records (f .left) (f .list) in
+      ap (λ (a : Read). andThen a (λ n. resume fs (drop n s)))
+      (ap shown (all-more t (f .count) s (λ z. omega arith)) ∙ shown-chain (t s) (λ n. readAll t (f .count - 1) (drop n s))
+      ∙ ap (λ (a : Read). andThen a (λ n. shown (readAll t (f .count - 1) (drop n s)))) (tree-open table records (f .left) (f .list) s e))
+      ∙ after-node size s (λ l. shown (readAll t (f .count - 1) l)) (resume fs) (shown (readAll (readTree table records low list) k (drop size s)))
+
+-- The loop of `read_tree`
+
+-- frames around are not empty, and each has a nesting of its own
+abbrev pub Kept : List Frame → Type 0
+Kept [] = Unit {0}
+Kept (f ∷ fs) = (0 < f .count) × (length fs + f .left ≤ nesting) × Kept fs
+
+module _ (table : List ℕ) (records : Bool) (s : List ℕ) where
+  -- read up to `at`, with these frames still to come
+  abbrev pub ToCome : List Frame → ℕ → Type 0
+  ToCome fs at = shown (readTree table records nesting false s) ≡ plus at (resume table records fs (drop at s))
+
+  pub whole-to-come : ToCome (frame 1 nesting false ∷ []) 0
+  whole-to-come = sym (plus-none (resume table records (frame 1 nesting false ∷ []) s) ∙ resume-one table records nesting false s)
+
+  -- an open node's children come next, and then what is left of its frame
+  pub children-to-come : (f : Frame) (fs : List Frame) (at : ℕ) {size k : ℕ} {list : Bool} {low : ℕ} → 0 < f .count
+      → nodeAt table records (f .list) (f .left) (drop at s) ≡ Open size k list low
+      → ToCome (f ∷ fs) at → ToCome (frame k low list ∷ restOf f ∷ fs) (at + size)
+  children-to-come f fs at {size} {k} {list} {low} h e l =
+      let gs = frame k low list ∷ restOf f ∷ fs in
+      l ∙ ap (plus at) (resume-open table records f fs (drop at s) h e)
+      ∙ plus-plus at size (resume table records gs (drop size (drop at s)))
+      ∙ ap (λ (x : List ℕ). plus (at + size) (resume table records gs x)) (drop-drop size at s)
+
+  -- `top` is the innermost frame; a single tree takes no place around its children
+  pub record Reading (around : List Frame) (depth : ℕ) (top : Frame) (at : ℕ) : Type 0 where
+    pub within : at ≤ length s
+    pub some : 0 < top .count
+    pub room : depth + top .left ≤ nesting + (2 - top .count)
+    pub places : length around ≡ nesting
+    pub kept : Kept (stack depth around)
+    pub to-come : ToCome (top ∷ stack depth around) at
+
+  pub reading-starts : (around : List Frame) (top : Frame) → length around ≡ nesting → top ≡ frame 1 nesting false → Reading around 0 top 0
+  reading-starts around top l e = record {
+    within = omega arith;
+    some = rw e (omega arith);
+    room = rw e (omega arith);
+    places = l;
+    kept = tt;
+    to-come = rw e whole-to-come;
+  }
+
+  pub none-to-come : (at : ℕ) → ToCome [] at → shown (readTree table records nesting false s) ≡ Ends at
+  unfolding resume
+  none-to-come at l = l ∙ ap Ends (omega arith)
+
+  pub skip : (f : Frame) (fs : List Frame) (at : ℕ) → f .count ≡ 0 → ToCome (f ∷ fs) at → ToCome fs at
+  skip f fs at z l = l ∙ ap (plus at) (resume-none table records f fs (drop at s) z)
+
+  skip-under : (g f : Frame) (fs : List Frame) (at : ℕ) → f .count ≡ 0 → ToCome (g ∷ f ∷ fs) at → ToCome (g ∷ fs) at
+  skip-under g f fs at z l = l ∙ ap (plus at) (resume-under table records g (f ∷ fs) fs (drop at s) (λ d. resume-none table records f fs d z))
+
+module _ {table : List ℕ} {records : Bool} {s : List ℕ} {around : List Frame} {depth : ℕ} {top : Frame} {at : ℕ} (i : Reading table records s around depth top at)
+    {n : Node} (is : n ≡ nodeAt table records (top .list) (top .left) (take (length s - at) (drop at s))) where
+  refused : {r : Refusal} → n ≡ Node.Refused r → shown (readTree table records nesting false s) ≡ Read.Refused r
+  refused {r} e =
+      i .to-come ∙ ap (plus at) (resume-refused table records top (stack depth around) (drop at s) r (i .some) (rw (rest-part at s) at (sym is ∙ e)))
+
+  pub node-refuses : {r : Refusal} {a : Read} → n ≡ Node.Refused r → HandsOn n a → a ≡ shown (readTree table records nesting false s)
+  node-refuses e h = (rw (e) at h) ∙ sym (refused e)
+
+  module _ {size k : ℕ} {list : Bool} {low : ℕ} (e : n ≡ Open size k list low) where
+    opens : nodeAt table records (top .list) (top .left) (drop at s) ≡ Open size k list low
+    opens = rw (rest-part at s) at (sym is ∙ e)
+
+    below : (0 < top .left) × (low < top .left + (2 - k))
+    below = node-below table records (top .list) (top .left) (drop at s) opens
+
+    pub node-ends : (at + size ≤ length s) × (0 < size)
+    node-ends =
+        let w = node-within table records (top .list) (top .left) (drop at s) opens in
+        (omega (arith, w, length-drop at s, i .within), w .1)
+
+    pub depth-within : depth ≤ nesting
+    depth-within = omega (arith, i .room, i .some, below)
+
+    opened : ToCome table records s (frame k low list ∷ restOf top ∷ stack depth around) (at + size)
+    opened = children-to-come table records s top (stack depth around) at (i .some) opens (i .to-come)
+
+    -- a node without children: its frame goes on, or after its last tree the one around it
+    next-frames : k ≤ 0 → ToCome table records s (restOf top ∷ stack depth around) (at + size)
+    next-frames z = skip table records s (frame k low list) (restOf top ∷ stack depth around) (at + size) (omega arith) opened
+
+    pub next-tree : k ≤ 0 → (top .count - 1 ≡ 0 → ⊥) → Reading table records s around depth (restOf top) (at + size)
+    next-tree z h = record {
+      within = node-ends .0;
+      some = omega (arith, h);
+      room = omega (arith, i .room, h);
+      places = i .places;
+      kept = i .kept;
+      to-come = next-frames z;
+    }
+
+    last-tree : k ≤ 0 → top .count - 1 ≡ 0 → ToCome table records s (stack depth around) (at + size)
+    last-tree z h = skip table records s (restOf top) (stack depth around) (at + size) h (next-frames z)
+
+    pub next-around : k ≤ 0 → top .count - 1 ≡ 0 → (depth ≡ 0 → ⊥) → Reading table records s around (depth - 1) (getD around (depth - 1) none) (at + size)
+    next-around z h d =
+        let p = stack-popped depth around (omega (arith, d)) in
+        let o : Kept (getD around (depth - 1) none ∷ stack (depth - 1) around) = rw p at (i .kept) in
+        record {
+          within = node-ends .0;
+          some = o .0;
+          room = omega (arith, o .1, stack-length (depth - 1) around);
+          places = i .places;
+          kept = o .2;
+          to-come = rw (← p) (last-tree z h);
+        }
+
+    pub no-more : k ≤ 0 → top .count - 1 ≡ 0 → depth ≡ 0 → shown (readTree table records nesting false s) ≡ Ends (at + size)
+    no-more z h d = none-to-come table records s (at + size) (rw d at (last-tree z h))
+
+    pub place-free : 0 < top .count - 1 → depth < nesting
+    place-free h = omega (arith, i .room, below)
+
+    -- a node with children: they come next, and then what is left of its frame
+    module _ (g : Frame) (q : g ≡ frame k low list) where
+      pub child-last : 0 < k → top .count - 1 ≤ 0 → Reading table records s around depth g (at + size)
+      child-last z h = record {
+        within = node-ends .0;
+        some = rw q z;
+        room = rw q (omega (arith, i .room, i .some, below));
+        places = i .places;
+        kept = i .kept;
+        to-come = rw q (skip-under table records s (frame k low list) (restOf top) (stack depth around) (at + size) (omega arith) opened);
+      }
+
+      pub child-first : 0 < k → 0 < top .count - 1 → Reading table records s (set around depth (restOf top)) (depth + 1) g (at + size)
+      child-first z h =
+          let p : stack (depth + 1) (set around depth (restOf top)) ≡ restOf top ∷ stack depth around =
+          stack-pushed depth around (restOf top) (omega (arith, place-free h, i .places)) in
+          record {
+            within = node-ends .0;
+            some = rw q z;
+            room = rw q (omega (arith, i .room, below));
+            places = length-set around depth (restOf top) ∙ i .places;
+            kept = rw p (h, omega (arith, i .room, stack-length depth around), i .kept);
+            to-come = rw (p, q) opened;
+          }

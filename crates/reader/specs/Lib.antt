@@ -1,0 +1,4 @@
+-- How records and patterns are read.
+pub mod Node
+pub mod Frame
+pub mod Reading
