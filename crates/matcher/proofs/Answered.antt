@@ -38,12 +38,12 @@ use Rattle.anti_pattern.proofs.Placed.{Answers, first-answers}
 use Rattle.search.specs.Level.{Reply, searchOf}
 use Rattle.matcher.specs.Call.{answerNumber, answerCount, classesOf, languageOf, broughtAccepted, Input, Checked, trees, checked, told, answerBy, answerOf, numbers, written, bufferBy, bufferOf}
 use Rattle.matcher.specs.Demands.{offsetIn, lengthIn, termsIn, Shows, Answered, Published}
-use Rattle.matcher.proofs.Represents.{Shown, Agrees, is-found}
+use Rattle.link.proofs.Represents.{Shown, Agrees, is-found}
 use Rattle.matcher.proofs.Buffers.{shown-at}
 use Rattle.matcher.proofs.Checks.{input-checked}
-use Rattle.matcher.proofs.Followed.{free-runs-are}
+use Rattle.link.proofs.Followed.{free-runs-are}
 use Rattle.anti_pattern.proofs.Each.{each-at}
-use Rattle.matcher.proofs.Linked.{whole-agrees}
+use Rattle.link.proofs.Linked.{whole-agrees}
 use Rattle.search.specs.Shown.{entryWidth, answerWidth}
 
 -- the free variables of an accepted pattern are among the 48

@@ -30,7 +30,7 @@ use Rattle.matcher.specs.Next.{toldNext, nextOf, writtenNext, nextBuffer
 use Rattle.matcher.proofs.Answered.{none-told, bound-told, same-call}
 use Rattle.matcher.proofs.Buffers.{shown-at}
 use Rattle.matcher.proofs.Checks.{brought-alike}
-use Rattle.matcher.proofs.Followed.{free-runs-are, next-accepted, every-accepted}
+use Rattle.link.proofs.Followed.{free-runs-are, next-accepted, every-accepted}
 use Rattle.matcher.proofs.Follows.{is-none, is-bound, same-next}
 
 module _ (table : List ℕ) (brought : Option (List ℕ)) (pattern bytes : List ℕ) (pattern-octets : Octets pattern) (record-octets : Octets bytes)

@@ -17,10 +17,11 @@ use Rattle.search.specs.declared.Ended.{Ended}
 use Rattle.search.specs.declared.Outcome.{Outcome}
 use Rattle.search.specs.declared.Outcome.the-variants.{Found, Failed, Spent}
 use Rattle.search.proofs.Lefts.{search-left}
-use Rattle.matcher.specs.Call.{Input, told, written, repliedBy, outcomeOnBytes, answerOnBytes, bufferOnBytes}
+use Rattle.link.specs.OnBytes.{repliedBy, outcomeOnBytes}
+use Rattle.matcher.specs.Call.{Input, told, written, answerOnBytes, bufferOnBytes}
 use Rattle.matcher.specs.declared.Answer.{Answer}
 use Rattle.matcher.specs.declared.Answer.the-variants.{Refused}
-use Rattle.matcher.proofs.Linked.{linked}
+use Rattle.link.proofs.Linked.{linked}
 
 pub left-within : (table classes pattern bytes : List ℕ) (allowance : ℕ) (e : Ended) → e ≡ endOf (searchOf table classes pattern bytes allowance) → e .left ≤ allowance
 left-within table classes pattern bytes allowance e s = rw s (search-left table classes bytes pattern allowance)

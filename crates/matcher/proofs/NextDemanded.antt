@@ -30,8 +30,9 @@ use Rattle.search.specs.declared.Followed.{Followed}
 use Rattle.search.specs.declared.Known.the-variants.{Ended as KnownEnds, Unknown as Strange}
 use Rattle.search.specs.declared.Outcome.{Outcome}
 use Rattle.search.proofs.Lefts.{following-left}
-use Rattle.matcher.specs.Call.{answerNumber, answerCount, classesOf, languageOf, broughtAccepted, Input, Checked, fault, trees, checked, checkOf, told, repliedBy}
-use Rattle.matcher.specs.Next.{toldNext, nextBy, nextOf, writtenNext, nextBufferBy, nextBufferOf, repliedPass, followingOnBytes}
+use Rattle.link.specs.OnBytes.{repliedBy, repliedPass, followingOnBytes}
+use Rattle.matcher.specs.Call.{answerNumber, answerCount, classesOf, languageOf, broughtAccepted, Input, Checked, fault, trees, checked, checkOf, told}
+use Rattle.matcher.specs.Next.{toldNext, nextBy, nextOf, writtenNext, nextBufferBy, nextBufferOf}
 use Rattle.matcher.specs.Demands.{Shows, NextAnswered, NextDemanded}
 use Rattle.matcher.specs.declared.Answer.{Answer}
 use Rattle.matcher.specs.declared.Answer.the-variants.{Refused}
@@ -43,10 +44,10 @@ use Rattle.matcher.proofs.Calls.{every-call}
 use Rattle.matcher.proofs.Checks.{brought-alike, checked-input}
 use Rattle.matcher.proofs.Cost.{next-bounded}
 use Rattle.matcher.proofs.Demanded.{told-refused, refused-count, written-past, passes-by}
-use Rattle.matcher.proofs.Followed.{next-accepted}
+use Rattle.link.proofs.Followed.{next-accepted}
 use Rattle.matcher.proofs.Follows.{is-unknown, is-spent, is-none, is-bound, same-next}
 use Rattle.matcher.proofs.Matched.{told-parts, shown-by}
-use Rattle.matcher.proofs.NextBytes.{next-on-bytes, bound-stands}
+use Rattle.link.proofs.NextBytes.{next-on-bytes, bound-stands}
 
 -- On any bytes
 

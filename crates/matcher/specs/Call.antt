@@ -1,6 +1,5 @@
 -- The call: what the match of one pattern against one record answers, and what it leaves in the answer buffer, on all inputs.
-use Prim.Native.Nat.{ℕ, zero, _-_}
-use mathlib.Core.Path.{_≡_}
+use Prim.Native.Nat.{ℕ, zero}
 use mathlib.Core.List.{List, [], _++_}
 use mathlib.Core.Bool.{Bool, true, false, cond}
 use mathlib.Core.Option.{Option, none, some}
@@ -8,20 +7,17 @@ use lib.ListN.{length, drop}
 use lib.Dec.{ltb}
 use Rattle.term.specs.Class.{classesAccepted}
 use Rattle.term.specs.Table.{tableAccepted}
-use Rattle.term.specs.Term.{Term, termBytes}
-use Rattle.term.specs.Pattern.{Pattern, patternBytes}
-use Rattle.term.specs.Limits.{TermAccepted, PatternAccepted}
+use Rattle.term.specs.Term.{Term}
+use Rattle.term.specs.Pattern.{Pattern}
 use Rattle.term.specs.Refusal.{numberOf}
 use Rattle.reader.specs.Reading.{Answer as Reading, refused, read, readPattern, readRecord}
 use Rattle.term.specs.declared.Refusal.{Refusal}
 use Rattle.term.specs.declared.Refusal.the-variants.{Table, Narrow, Class}
 use Rattle.anti_pattern.specs.Language.{Language, language}
 use Rattle.anti_pattern.specs.Answer.{Answer as Outcome, bound, nothing, spent, answer}
-use Rattle.term.specs.declared.Part.{Part}
-use Rattle.search.specs.Level.{Reply, searchOf}
 pub use Rattle.search.specs.Shown.{numbers, answerWidth}
-use Rattle.search.specs.declared.Outcome.{Outcome as Ending}
-use Rattle.search.specs.declared.Outcome.the-variants.{Found, Failed as Missed, Spent as UsedUp}
+pub use Rattle.link.specs.Input.{Input}
+use Rattle.link.specs.OnBytes.{outcomeOnBytes}
 use Rattle.matcher.specs.declared.Answer.{Answer}
 use Rattle.matcher.specs.declared.Answer.the-variants.{Bound, None, Spent, Refused}
 use Rattle.matcher.specs.declared.Check.{Check}
@@ -56,14 +52,6 @@ languageOf table brought = language table (classesOf brought)
 abbrev pub broughtAccepted : List ℕ → Option (List ℕ) → Bool
 broughtAccepted table none = true
 broughtAccepted table (some classes) = classesAccepted table classes
-
--- Accepted input: a table, and the bytes of a pattern and of a record, that pass every check
-pub record Input (table pattern bytes : List ℕ) (q : Pattern) (t : Term) : Type 0 where
-  pub table-accepted : tableAccepted table ≡ true
-  pub pattern-bytes : patternBytes table q [] ≡ pattern
-  pub pattern-accepted : PatternAccepted table q
-  pub record-bytes : termBytes table t [] ≡ bytes
-  pub record-accepted : TermAccepted table t
 
 -- The checks: the first refusal, or the trees of pattern and record
 pub data Checked : Type 0 where
@@ -117,18 +105,7 @@ unfoldable pub bufferOf : List ℕ → Option (List ℕ) → List ℕ → List �
 bufferOf table brought pattern bytes allowance before = bufferBy (checked table brought pattern bytes (length before)) table brought allowance before
 
 -- The match of any bytes, without the checks but for the buffer's: what the search on bytes comes to. On accepted input it is the answer above
--- (proofs/Linked).
-
-abbrev pub repliedBy : Ending → ℕ → ℕ → List Part → Outcome
-repliedBy Found allowance left parts = bound parts (allowance - left)
-repliedBy Missed allowance left parts = nothing (allowance - left)
-repliedBy UsedUp allowance left parts = spent allowance
-
-abbrev pub replied : ℕ → Reply → Outcome
-replied allowance r = repliedBy (r .outcome) allowance (r .left) (r .parts)
-
-unfoldable pub outcomeOnBytes : List ℕ → List ℕ → List ℕ → List ℕ → ℕ → Outcome
-outcomeOnBytes table classes pattern bytes allowance = replied allowance (searchOf table classes pattern bytes allowance)
+-- (link/proofs/Linked).
 
 unfoldable pub answerOnBytes : List ℕ → List ℕ → List ℕ → List ℕ → ℕ → ℕ → Answer
 answerOnBytes table classes pattern bytes allowance width =

@@ -6,9 +6,7 @@ use mathlib.Core.Option.{Option}
 use lib.ListN.{length}
 use Rattle.term.specs.declared.Refusal.the-variants.{Unknown}
 use Rattle.anti_pattern.specs.Next.{Following, follows, unknown, next}
-use Rattle.search.specs.Following.{nextPass}
-use Rattle.search.specs.Given.{Pass, ends}
-use Rattle.matcher.specs.Call.{languageOf, Checked, fault, trees, checked, told, written, replied}
+use Rattle.matcher.specs.Call.{languageOf, Checked, fault, trees, checked, told, written}
 use Rattle.matcher.specs.declared.Answer.{Answer}
 use Rattle.matcher.specs.declared.Answer.the-variants.{Refused}
 
@@ -36,13 +34,3 @@ nextBufferBy (trees q t) table brought given allowance before = writtenNext (nex
 unfoldable pub nextBufferOf : List ℕ → Option (List ℕ) → List ℕ → List ℕ → List ℕ → ℕ → List ℕ → List ℕ
 nextBufferOf table brought pattern bytes given allowance before =
     nextBufferBy (checked table brought pattern bytes (length before)) table brought given allowance before
-
--- Of any bytes, without the checks: what the search after the given answer comes to. On accepted input it is the answer above
--- (proofs/NextBytes).
-
-abbrev pub repliedPass : ℕ → Pass → Following
-repliedPass allowance (ends r) = follows (replied allowance r)
-repliedPass allowance Pass.unknown = unknown
-
-unfoldable pub followingOnBytes : List ℕ → List ℕ → List ℕ → List ℕ → List ℕ → ℕ → Following
-followingOnBytes table classes pattern bytes given allowance = repliedPass allowance (nextPass table classes pattern bytes given allowance)

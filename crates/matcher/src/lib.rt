@@ -8,9 +8,10 @@ ghost use mathlib.Core.List.{[]};
 ghost use mathlib.Core.Option.{none, some};
 ghost use Prim.Native.Nat.{_≤_};
 ghost use lib.ListN.{length};
-ghost use Rattle.matcher.specs.Call.{answerNumber, answerCount, broughtBy, classesOf, broughtAccepted, checked, checkOf, answerOf, bufferOf, answerOnBytes, bufferOnBytes, told, repliedBy};
-ghost use Rattle.matcher.specs.Next.{toldNext, nextOf, nextBufferOf, followingOnBytes};
+ghost use Rattle.matcher.specs.Call.{answerNumber, answerCount, broughtBy, classesOf, broughtAccepted, checked, checkOf, answerOf, bufferOf, answerOnBytes, bufferOnBytes, told};
+ghost use Rattle.matcher.specs.Next.{toldNext, nextOf, nextBufferOf};
 ghost use Rattle.search.specs.Following.{nextPass, shownPass};
+ghost use Rattle.link.specs.OnBytes.{repliedBy, followingOnBytes};
 ghost use Rattle.matcher.specs.Demands.{Demanded, NextDemanded};
 
 // How many numbers an answer has.

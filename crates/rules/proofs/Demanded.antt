@@ -2,7 +2,7 @@
 use Prim.Native.Nat.{ℕ, _+_, _<_, _≤_}
 use native.Mathlib.Omega.{arith}
 use mathlib.Core.Path.{_≡_, refl, sym, _∙_, ap, ap₂, subst}
-use mathlib.Core.Logic.{_⊎_, inl, inr, _↔_}
+use mathlib.Core.Logic.{_⊎_, inl, inr}
 use mathlib.Core.List.{List, [], _∷_, _++_}
 use mathlib.Core.Bool.{true}
 use mathlib.Core.Option.{Option}
@@ -13,7 +13,6 @@ use Rattle.term.specs.Term.{Term}
 use Rattle.term.specs.Pattern.{Pattern, name}
 use Rattle.term.specs.Limits.{Octets}
 use Rattle.term.specs.Refusal.{numberOf}
-use Rattle.term.specs.declared.Part.{Part}
 use Rattle.term.specs.declared.Refusal.{Refusal}
 use Rattle.term.proofs.Numbers.{word-or-refusal}
 use Rattle.anti_pattern.specs.AntiTerm.{Substitution}
@@ -38,7 +37,7 @@ use Rattle.matcher.proofs.Checks.{brought-alike}
 use Rattle.rules.specs.Answer.{ruleNumber, ruleIndex, ruleCount, ShownAs}
 use Rattle.rules.specs.Trial.{Trial, boundAt, noneOf, spentAt, tryRules}
 use Rattle.rules.specs.Call.{Input, Checked, fault, trees, checked, checkOf, told, answerBy, answerOf, written, bufferBy, bufferOf, answerOnBytes, bufferOnBytes}
-use Rattle.rules.specs.Demands.{IsNone, EachNone, counts, Reached, EachEnough, Answered, Published, Bounded, Demanded}
+use Rattle.rules.specs.Demands.{EachNone, counts, Reached, EachEnough, Answered, Published, Bounded, Demanded}
 use Rattle.rules.specs.declared.RuleAnswer.{RuleAnswer}
 use Rattle.rules.specs.declared.RuleAnswer.the-variants.{Bound, None, Spent, Refused}
 use Rattle.rules.proofs.Rules.{ruleAt, rule-input, part-octets}

@@ -2,7 +2,7 @@
 use Prim.Native.Nat.{ℕ, zero, suc, _+_, _*_, _<_, _≤_}
 use native.Mathlib.Omega.{arith}
 use native.Mathlib.Numerals.{add-one}
-use mathlib.Core.Path.{_≡_, refl, sym, _∙_, ap, ap₂}
+use mathlib.Core.Path.{_≡_, refl, sym, _∙_, ap}
 use mathlib.Core.List.{List, [], _∷_}
 use lib.ListN.{length, getD, drop, drop-of-length-le}
 use lib.Seq.{drop-cons}
@@ -15,9 +15,10 @@ use Rattle.anti_pattern.specs.Answer.{Answer as Outcome, bound, nothing, spent,
 use Rattle.anti_pattern.specs.Language.{language}
 use Rattle.sheet.specs.Check.{entryCount}
 use Rattle.sheet.specs.Entry.{partAt}
-use Rattle.matcher.specs.Call.{answerWidth, told as ownTold, written as ownWritten, outcomeOnBytes, answerOnBytes as ownAnswer, bufferOnBytes as ownBuffer}
+use Rattle.link.specs.OnBytes.{outcomeOnBytes}
+use Rattle.matcher.specs.Call.{answerWidth, told as ownTold, written as ownWritten, answerOnBytes as ownAnswer, bufferOnBytes as ownBuffer}
 use Rattle.matcher.specs.declared.Answer.{Answer}
-use Rattle.matcher.proofs.Linked.{linked}
+use Rattle.link.proofs.Linked.{linked}
 use Rattle.rules.specs.Trial.{Trial, noneOf, tryOne, tryEach, tryRules}
 use Rattle.rules.specs.Call.{Input, told, written, partsFrom, tryParts, answerOnBytes, bufferOnBytes}
 use Rattle.rules.specs.declared.RuleAnswer.{RuleAnswer}

@@ -20,7 +20,8 @@ use Rattle.sheet.specs.Entry.{entries, partAt}
 use Rattle.sheet.specs.Contents.{checkRules}
 use Rattle.sheet.specs.declared.Checked.{Checked as SheetChecked}
 use Rattle.sheet.specs.declared.Checked.the-variants.{Accepted}
-use Rattle.matcher.specs.Call.{answerWidth, numbers, languageOf, broughtAccepted, outcomeOnBytes}
+use Rattle.link.specs.OnBytes.{outcomeOnBytes}
+use Rattle.matcher.specs.Call.{answerWidth, numbers, languageOf, broughtAccepted}
 use Rattle.rules.specs.Trial.{Trial, boundAt, noneOf, spentAt, tryEach, tryRules}
 use Rattle.rules.specs.declared.RuleAnswer.{RuleAnswer}
 use Rattle.rules.specs.declared.RuleAnswer.the-variants.{Bound, None, Spent}

@@ -5,7 +5,7 @@ use sheet::Checked;
 use term::Refusal;
 ghost use mathlib.Core.Path.{_≡_};
 ghost use mathlib.Core.Option.{none, some};
-ghost use Prim.Native.Nat.{_+_, _*_, _≤_};
+ghost use Prim.Native.Nat.{_+_};
 ghost use lib.ListN.{length};
 ghost use Rattle.rules.specs.Answer.{ruleNumber, ruleIndex, ruleCount};
 ghost use Rattle.rules.specs.Call.{checked, classFault, checkOf, answerOf, bufferOf, answerOnBytes, bufferOnBytes};

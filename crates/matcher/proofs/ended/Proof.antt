@@ -1,6 +1,5 @@
 -- `matcher::ended` meets its contract.
 use native.Mathlib.Omega.{arith}
-use mathlib.Core.Path.{sym, ap}
 use borrow.Author.Needs.{needs}
 use Rattle.matcher.proofs.ended.Statement.{statement}
 use Rattle.matcher.proofs.ended.Tie as tie

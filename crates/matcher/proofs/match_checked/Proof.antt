@@ -1,6 +1,5 @@
 -- `matcher::match_checked` meets its contract.
 use native.Mathlib.Omega.{arith}
-use mathlib.Core.Path.{refl}
 use Rattle.matcher.proofs.Matched.{narrow-matched, left-within, search-matched}
 use borrow.Author.Needs.{needs}
 use Rattle.matcher.proofs.match_checked.Statement.{statement}

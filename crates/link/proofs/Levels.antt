@@ -24,11 +24,11 @@ use Rattle.anti_pattern.proofs.Steps.{step-found, step-refute, step-length, ste
 use Rattle.search.specs.State.{PutBy, State}
 use Rattle.search.specs.Level.{Reply, reply, spentAt, startOf, tried, orElse, lengthsOf, insideOf, andThen, complementsOf, levels}
 use Rattle.search.specs.declared.Outcome.the-variants.{Found}
-use Rattle.matcher.proofs.Represents.{Limited, bytesLeft, Stands, Shown, Waits, AllWait, Represents, Agrees, is-found, is-failed, is-spent}
 use Rattle.term.proofs.Joins.{sizes-join, sizes-none}
-use Rattle.matcher.proofs.Places.{here-stands, past-leaf}
-use Rattle.matcher.proofs.Parts.{shown-bind}
-use Rattle.matcher.proofs.Turns.{extent-element}
+use Rattle.link.proofs.Represents.{Limited, bytesLeft, Stands, Shown, Waits, AllWait, Represents, Agrees, is-found, is-failed, is-spent}
+use Rattle.link.proofs.Places.{here-stands, past-leaf}
+use Rattle.link.proofs.Parts.{shown-bind}
+use Rattle.link.proofs.Turns.{extent-element}
 
 -- replies
 

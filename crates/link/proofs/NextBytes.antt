@@ -22,13 +22,13 @@ use Rattle.anti_pattern.specs.Variables.{freeRuns}
 use Rattle.search.specs.Following.{nextPass}
 use Rattle.search.specs.Given.{passOf, unknown}
 use Rattle.search.specs.Spread.{freeIn, spreadTo}
-use Rattle.matcher.specs.Call.{Input}
-use Rattle.matcher.specs.Next.{repliedPass, followingOnBytes}
-use Rattle.matcher.proofs.Followed.{free-runs-are, apart}
-use Rattle.matcher.proofs.Givens.{next-linked, next-stands}
-use Rattle.matcher.proofs.Linked.{table-short, narrow, short}
-use Rattle.matcher.proofs.Represents.{Shown}
-use Rattle.matcher.proofs.Spreading.{free-in, spread-free}
+use Rattle.link.specs.Input.{Input}
+use Rattle.link.specs.OnBytes.{repliedPass, followingOnBytes}
+use Rattle.link.proofs.Followed.{free-runs-are, apart}
+use Rattle.link.proofs.Givens.{next-linked, next-stands}
+use Rattle.link.proofs.Linked.{table-short, narrow, short}
+use Rattle.link.proofs.Represents.{Shown}
+use Rattle.link.proofs.Spreading.{free-in, spread-free}
 
 module _ (table classes pattern bytes : List ℕ) (alike : Alike table classes) (q : Pattern) (t : Term) (i : Input table pattern bytes q t)
     (given : List ℕ) (allowance : ℕ) where

@@ -20,8 +20,7 @@ use Rattle.anti_pattern.proofs.Meter.{Metered, met, missed, usedUp}
 use Rattle.search.specs.State.{Frame as Counts, frame as counts, PutBy, State}
 use Rattle.search.specs.Level.{Reply, reply, failedAt, spentAt}
 use Rattle.search.specs.declared.Place.{Place}
-use Rattle.search.specs.declared.Outcome.{Outcome}
-use Rattle.search.specs.declared.Outcome.the-variants.{Found, Failed, Spent}
+use Rattle.search.specs.declared.Outcome.the-variants.{Found}
 
 -- trees within the limits
 pub record Limited (table : List ℕ) (records : Bool) (ts : Trees) : Type 0 where

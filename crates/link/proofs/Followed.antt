@@ -19,7 +19,7 @@ use Rattle.anti_pattern.specs.Variables.{among, NoName, NoNames, runs, runsAll,
 use Rattle.anti_pattern.proofs.Demands.{next-exact, every-answer}
 use Rattle.anti_pattern.proofs.Following.{within-firsts}
 use Rattle.anti_pattern.proofs.Within.{accepted-of}
-use Rattle.matcher.specs.Call.{Input}
+use Rattle.link.specs.Input.{Input}
 
 -- every variable of a list is so
 abbrev Each : (ℕ → Type 0) → List ℕ → Type 0

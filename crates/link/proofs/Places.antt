@@ -21,8 +21,8 @@ use Rattle.anti_pattern.proofs.Machine.{Frame, Pending, frame}
 use Rattle.anti_pattern.proofs.Facts.{count-join}
 use Rattle.search.specs.State.{Frame as Counts, frame as counts, State, state, passed, entered, reopened, alone}
 use Rattle.search.specs.declared.Place.{Place}
-use Rattle.matcher.proofs.Represents.{Limited, codesLeft, bytesLeft, Stacked, Here, Stands, Shown, Represents}
 use Rattle.term.proofs.Joins.{bytes-join, sizes-join, fit-split, leaf-length}
+use Rattle.link.proofs.Represents.{Limited, codesLeft, bytesLeft, Stacked, Here, Stands, Shown, Represents}
 
 -- limits
 

@@ -22,9 +22,9 @@ use Rattle.anti_pattern.specs.Search.{Env, bind, start, behind}
 use Rattle.anti_pattern.specs.Place.{partOf}
 use Rattle.anti_pattern.proofs.Facts.{count-join, cut, none-some, some-same, behind-alike, alike-behind}
 use Rattle.search.specs.State.{standsOf}
-use Rattle.matcher.proofs.Represents.{Stands, Shown}
 use Rattle.term.proofs.Joins.{bytes-join, fit-split}
-use Rattle.matcher.proofs.Places.{within-terms}
+use Rattle.link.proofs.Represents.{Stands, Shown}
+use Rattle.link.proofs.Places.{within-terms}
 
 module _ (table bytes : List ℕ) where
   part-bytes : (at : ℕ) (w : Terms) → Stands table bytes at w → partBytes bytes (part at (sizes table w) (count w)) ≡ termsBytes table w []

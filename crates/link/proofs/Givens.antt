@@ -36,12 +36,12 @@ use Rattle.search.specs.Given.{Pass, ends, unknown, elementsOf, resumedBy, orFu
 use Rattle.search.specs.Level.{Reply, startOf, tried, lengthsOf, levelOf, levels}
 use Rattle.search.specs.State.{State, turns}
 use Rattle.term.proofs.Joins.{sizes-none}
-use Rattle.matcher.specs.Call.{Input}
-use Rattle.matcher.specs.Next.{repliedPass}
-use Rattle.matcher.proofs.Represents.{Represents, Shown, Agrees, is-found, is-failed, is-spent}
-use Rattle.matcher.proofs.Levels.{carry, or-then, Searches, run-bound, next-size, lengths-from, complements-agree}
-use Rattle.matcher.proofs.Linked.{answers, level-searches, table-short, narrow, short, start-here}
-use Rattle.matcher.proofs.Walks.{framesRuns, Walking, walk-goes}
+use Rattle.link.specs.Input.{Input}
+use Rattle.link.specs.OnBytes.{repliedPass}
+use Rattle.link.proofs.Represents.{Represents, Shown, Agrees, is-found, is-failed, is-spent}
+use Rattle.link.proofs.Levels.{carry, or-then, Searches, run-bound, next-size, lengths-from, complements-agree}
+use Rattle.link.proofs.Linked.{answers, level-searches, table-short, narrow, short, start-here}
+use Rattle.link.proofs.Walks.{framesRuns, Walking, walk-goes}
 
 -- what a pass on bytes says of one on trees
 pub data Fits (table bytes : List ℕ) : Passed → Pass → Type 0 where

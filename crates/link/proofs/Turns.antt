@@ -29,10 +29,10 @@ use Rattle.search.specs.State.{Frame as Counts, alone, variableOf, variableAt, 
 use Rattle.search.specs.declared.Place.{Place}
 use Rattle.search.specs.declared.Step.the-variants.{Stops, Fails, Closes, Opens, Passes, Binds, PutsBy}
 use Rattle.search.specs.declared.Stop.the-variants.{Failure, NoAllowance, NoPair}
-use Rattle.matcher.proofs.Represents.{Limited, codesLeft, bytesLeft, Here, Stands}
 use Rattle.term.proofs.Joins.{sizes-single, rootOf, first-code}
-use Rattle.matcher.proofs.Places.{behind-last}
-use Rattle.matcher.proofs.Parts.{assigned-stands, assigned-differs}
+use Rattle.link.proofs.Represents.{Limited, codesLeft, bytesLeft, Here, Stands}
+use Rattle.link.proofs.Places.{behind-last}
+use Rattle.link.proofs.Parts.{assigned-stands, assigned-differs}
 
 -- the extent of what stands first
 

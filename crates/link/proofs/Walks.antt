@@ -38,11 +38,11 @@ use Rattle.search.specs.declared.Step.{Step}
 use Rattle.search.specs.declared.Step.the-variants.{Stops, Fails, Closes, Opens, Passes, Binds, PutsBy}
 use Rattle.search.specs.declared.Stop.{Stop}
 use Rattle.search.specs.declared.Stop.the-variants.{Failure, NoAllowance, NoPair, RunName}
-use Rattle.matcher.proofs.Represents.{Limited, codesLeft, Here, Shown, Waits, AllWait, Represents}
 use Rattle.term.proofs.Joins.{sizes-single}
-use Rattle.matcher.proofs.Places.{limited-children, childless, some-width, stacked-alone, stacked-open, here-past, here-stands, here-open, here-close, close-at, past-leaf}
-use Rattle.matcher.proofs.Parts.{assigned-present, shown-bind}
-use Rattle.matcher.proofs.Turns.{turn-over, turn-end, child-here, variable-here, does-code, does-short, does-spent, does-pair, assigned-passes, assigned-fails, name-binds, symbol-opens, symbol-passes, symbol-fails, complement-put-by}
+use Rattle.link.proofs.Represents.{Limited, codesLeft, Here, Shown, Waits, AllWait, Represents}
+use Rattle.link.proofs.Places.{limited-children, childless, some-width, stacked-alone, stacked-open, here-past, here-stands, here-open, here-close, close-at, past-leaf}
+use Rattle.link.proofs.Parts.{assigned-present, shown-bind}
+use Rattle.link.proofs.Turns.{turn-over, turn-end, child-here, variable-here, does-code, does-short, does-spent, does-pair, assigned-passes, assigned-fails, name-binds, symbol-opens, symbol-passes, symbol-fails, complement-put-by}
 
 -- variables within the limits
 

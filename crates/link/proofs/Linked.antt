@@ -29,11 +29,12 @@ use Rattle.anti_pattern.proofs.Allowance.{answer-metered}
 use Rattle.anti_pattern.proofs.Each.{each-at}
 use Rattle.search.specs.Level.{Reply, startOf, stopBy, afterWalk, levels, levelOf, searchOf}
 use Rattle.search.specs.State.{State, turns}
-use Rattle.matcher.specs.Call.{Input, replied, outcomeOnBytes}
-use Rattle.matcher.proofs.Represents.{Limited, Shown, Represents, Agrees, is-found, is-failed, is-spent}
-use Rattle.matcher.proofs.Parts.{shown-start}
-use Rattle.matcher.proofs.Levels.{carry, start-represents, Searches, lengths-agree, complements-agree}
-use Rattle.matcher.proofs.Walks.{Walking, walk-goes}
+use Rattle.link.specs.Input.{Input}
+use Rattle.link.specs.OnBytes.{replied, outcomeOnBytes}
+use Rattle.link.proofs.Represents.{Limited, Shown, Represents, Agrees, is-found, is-failed, is-spent}
+use Rattle.link.proofs.Parts.{shown-start}
+use Rattle.link.proofs.Levels.{carry, start-represents, Searches, lengths-agree, complements-agree}
+use Rattle.link.proofs.Walks.{Walking, walk-goes}
 
 -- the walk of the search itself
 module _ (table : List ℕ) (small : length table ≤ 200) (classes bytes : List ℕ) (short : length bytes ≤ longestRecord) (n : ℕ) (lv : List ℕ → State → ℕ → Reply)

@@ -1,0 +1,1 @@
+// What shows that the search on bytes is the search on trees: definitions in specs/, laws in proofs/. There is no code.
