@@ -1,10 +1,10 @@
 -- The lines of the codes, put one after the other.
-use Prim.Native.Nat.{ℕ, zero, suc, _+_, _-_, _≤_, _<_}
+use Prim.Native.Nat.{ℕ, suc, _+_, _-_, _≤_, _<_}
 use native.Mathlib.Nat.{zero-add}
 use native.Mathlib.Omega.{arith}
 use mathlib.Core.Path.{_≡_, refl, sym, ap, _∙_}
-use mathlib.Core.List.{List, [], _∷_, _++_, append-nil}
-use lib.ListN.{length, drop, length-append, drop-of-length-le}
+use mathlib.Core.List.{List, _++_, append-nil}
+use lib.ListN.{length, length-append, drop-of-length-le}
 use lib.Seq.{sets, length-sets}
 use Rattle.sheet.proofs.Stores.{sets-append, sets-front}
 use borrow.Author.Tests.{ne-eqb}
@@ -45,15 +45,15 @@ unfolding codeLine
 code-length code = simp length-append (omega arith)
 
 -- two fields, put one after the other, are the line of a code
-pub code-put : (l o p : List ℕ) (at second end code : ℕ) (a b : List ℕ) → a ≡ decimal code → b ≡ kindWord (rangeKind code)
-    → o ≡ sets l at (field a 32) → second ≡ at + length a + 1 → p ≡ sets o second (field b 10) → end ≡ second + length b + 1
+pub code-put : (l o p : List ℕ) (at second end code : ℕ) (b : List ℕ) → b ≡ kindWord (rangeKind code)
+    → (o ≡ sets l at (field (decimal code) 32)) × (second ≡ at + length (decimal code) + 1) → (p ≡ sets o second (field b 10)) × (end ≡ second + length b + 1)
     → (p ≡ sets l at (codeLine code)) × (end ≡ at + length (codeLine code))
 unfolding codeLine
-code-put l o p at second end code a b spelled worded first-put first-ends second-put second-ends =
-    let e : second ≡ at + length (field a 32) = simp length-append (omega arith) in
-    rw (← spelled, ← worded) (
-      rw (second-put, first-put, e) (sym (sets-append l at (field a 32) (field b 10))),
-      simp length-append (omega arith),
+code-put l o p at second end code b worded first last =
+    let e : second ≡ at + length (field (decimal code) 32) = simp length-append (omega (arith, first .1)) in
+    rw (← worded) (
+      rw (last .0, first .0, e) (sym (sets-append l at (field (decimal code) 32) (field b 10))),
+      simp length-append (omega (arith, first .1, last .1)),
     )
 
 -- the lines of the codes from this on

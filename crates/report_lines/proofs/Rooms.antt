@@ -12,7 +12,7 @@ use borrow.Author.Tests.{ltb-false, leb-true}
 use Rattle.term.specs.Term.{Term}
 use Rattle.term.specs.Pattern.{Pattern}
 use Rattle.term.specs.Refusal.{numberOf}
-use Rattle.reader.specs.Reading.{Answer as Reading, refused, read, readPattern, readRecord}
+use Rattle.reader.specs.Reading.{Answer as Reading, refused, read, readRecord}
 use Rattle.term.specs.declared.Refusal.{Refusal}
 use Rattle.anti_pattern.specs.Language.{Language, language}
 use Rattle.anti_pattern.specs.Search.{Outcome, found, failed, whole}

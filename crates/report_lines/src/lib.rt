@@ -12,7 +12,8 @@ ghost use Rattle.sheet.specs.Entry.{entryOf};
 ghost use Rattle.sheet.specs.Contents.{checkContents};
 ghost use Rattle.matcher.specs.Call.{answerWidth};
 ghost use Rattle.rules.specs.Call.{answerOf};
-ghost use Rattle.report_lines.specs.Line.{field, line, answerLine, refusalLine};
+ghost use Rattle.report_lines.specs.Decimal.{decimal};
+ghost use Rattle.report_lines.specs.Line.{field, line, noneWord, dash, answerLine, refusedWord, refusalLine};
 ghost use Rattle.report_lines.specs.Verdict.{readable, verdict, AllAccepted};
 ghost use Rattle.report_lines.specs.Report.{allowance, lines, report, reportRoom, front};
 ghost use Rattle.report_lines.specs.Codes.{kindWord, codeLine, codesRoom, codeList};
@@ -101,23 +102,39 @@ fn put_field(out: &mut [u8], at: usize, text: &[u8], end: u8) -> usize
     at + i + 1
 }
 
-// Puts a line of four fields, and answers where it ends.
-fn put_line(
-    out: &mut [u8],
-    at: usize,
-    first: &[u8],
-    second: &[u8],
-    third: &[u8],
-    fourth: &[u8],
-) -> usize
-    requires { ⌜ at + length (line (now first) (now second) (now third) (now fourth)) ≤ length (now out) ⌝ }
-    ensures { λ _. ⌜ now (out .exit) ≡ sets (now (out .entry)) at (line (now (first .entry)) (now (second .entry)) (now (third .entry)) (now (fourth .entry))) ⌝ }
-    ensures { λ r. ⌜ r ≡ at + length (line (now (first .entry)) (now (second .entry)) (now (third .entry)) (now (fourth .entry))) ⌝ }
+// Puts a number in decimal and the byte after it, and answers where they end.
+fn put_number(out: &mut [u8], at: usize, n: u64, end: u8) -> usize
+    requires { ⌜ at + length (decimal n) + 1 ≤ length (now out) ⌝ }
+    ensures { λ _. ⌜ now (out .exit) ≡ sets (now (out .entry)) at (field (decimal n) end) ⌝ }
+    ensures { λ r. ⌜ r ≡ at + length (decimal n) + 1 ⌝ }
 {
-    let mut end = put_field(out, at, first, b' ');
-    end = put_field(out, end, second, b' ');
-    end = put_field(out, end, third, b' ');
-    put_field(out, end, fourth, b'\n')
+    let mut digits = [0u8; 20];
+    let size = io::decimal(n, &mut digits);
+    put_field(out, at, &digits[..size], end)
+}
+
+// Puts the line of a state by the rule that is shown, and answers where it ends.
+fn put_ruled(out: &mut [u8], at: usize, state: usize, rule: usize, word: &[u8], sum: u64) -> usize
+    requires { ⌜ at + length (line (decimal state) (decimal rule) (now word) (decimal sum)) ≤ length (now out) ⌝ }
+    ensures { λ _. ⌜ now (out .exit) ≡ sets (now (out .entry)) at (line (decimal state) (decimal rule) (now (word .entry)) (decimal sum)) ⌝ }
+    ensures { λ r. ⌜ r ≡ at + length (line (decimal state) (decimal rule) (now (word .entry)) (decimal sum)) ⌝ }
+{
+    let mut end = put_number(out, at, state as u64, b' ');
+    end = put_number(out, end, rule as u64, b' ');
+    end = put_field(out, end, word, b' ');
+    put_number(out, end, sum, b'\n')
+}
+
+// Puts the line of a state that no rule is shown for, and answers where it ends.
+fn put_none(out: &mut [u8], at: usize, state: usize, sum: u64) -> usize
+    requires { ⌜ at + length (line (decimal state) dash noneWord (decimal sum)) ≤ length (now out) ⌝ }
+    ensures { λ _. ⌜ now (out .exit) ≡ sets (now (out .entry)) at (line (decimal state) dash noneWord (decimal sum)) ⌝ }
+    ensures { λ r. ⌜ r ≡ at + length (line (decimal state) dash noneWord (decimal sum)) ⌝ }
+{
+    let mut end = put_number(out, at, state as u64, b' ');
+    end = put_field(out, end, b"-", b' ');
+    end = put_field(out, end, b"none", b' ');
+    put_number(out, end, sum, b'\n')
 }
 
 // Puts the line of a state by what the rules answer on it, and answers where it ends.
@@ -126,19 +143,10 @@ fn put_answer(out: &mut [u8], at: usize, state: usize, answer: RuleAnswer) -> us
     ensures { λ _. ⌜ now (out .exit) ≡ sets (now (out .entry)) at (answerLine state answer) ⌝ }
     ensures { λ r. ⌜ r ≡ at + length (answerLine state answer) ⌝ }
 {
-    let mut a = [0u8; 20];
-    let mut b = [0u8; 20];
-    let mut c = [0u8; 20];
-    let a_size = io::decimal(state as u64, &mut a);
-    let b_size = io::decimal(answer.index() as u64, &mut b);
-    let c_size = io::decimal(answer.count(), &mut c);
-    let index = &a[..a_size];
-    let rule = &b[..b_size];
-    let sum = &c[..c_size];
     match answer {
-        RuleAnswer::Bound(_, _) => put_line(out, at, index, rule, b"bound", sum),
-        RuleAnswer::None(_) => put_line(out, at, index, b"-", b"none", sum),
-        RuleAnswer::Spent(_, _) => put_line(out, at, index, rule, b"spent", sum),
+        RuleAnswer::Bound(rule, sum) => put_ruled(out, at, state, rule, b"bound", sum),
+        RuleAnswer::None(sum) => put_none(out, at, state, sum),
+        RuleAnswer::Spent(rule, sum) => put_ruled(out, at, state, rule, b"spent", sum),
         RuleAnswer::Refused(_, _) => at,
     }
 }
@@ -177,22 +185,29 @@ fn put_lines(table: &[u8], rules: &[u8], states: &[u8], n: usize, out: &mut [u8]
     at
 }
 
+// Puts the line of a refusal by its number and its file's word, and answers its length.
+fn put_refused(out: &mut [u8], number: u8, word: &[u8], index: usize) -> usize
+    requires { ⌜ length (line refusedWord (decimal number) (now word) (decimal index)) ≤ length (now out) ⌝ }
+    ensures { λ _. ⌜ now (out .exit) ≡ sets (now (out .entry)) 0 (line refusedWord (decimal number) (now (word .entry)) (decimal index)) ⌝ }
+    ensures { λ r. ⌜ r ≡ length (line refusedWord (decimal number) (now (word .entry)) (decimal index)) ⌝ }
+{
+    let mut end = put_field(out, 0, b"refused", b' ');
+    end = put_number(out, end, number as u64, b' ');
+    end = put_field(out, end, word, b' ');
+    put_number(out, end, index as u64, b'\n')
+}
+
 // Puts the line of a refusal, and answers its length.
 fn put_refusal(out: &mut [u8], refusal: Refusal, file: File, index: usize) -> usize
     requires { ⌜ length (refusalLine refusal file index) ≤ length (now out) ⌝ }
     ensures { λ _. ⌜ now (out .exit) ≡ sets (now (out .entry)) 0 (refusalLine refusal file index) ⌝ }
     ensures { λ r. ⌜ r ≡ length (refusalLine refusal file index) ⌝ }
 {
-    let mut a = [0u8; 20];
-    let mut b = [0u8; 20];
-    let a_size = io::decimal(refusal.number() as u64, &mut a);
-    let b_size = io::decimal(index as u64, &mut b);
-    let number = &a[..a_size];
-    let entry = &b[..b_size];
+    let number = refusal.number();
     match file {
-        File::Table => put_line(out, 0, b"refused", number, b"table", entry),
-        File::Rules => put_line(out, 0, b"refused", number, b"rules", entry),
-        File::States => put_line(out, 0, b"refused", number, b"states", entry),
+        File::Table => put_refused(out, number, b"table", index),
+        File::Rules => put_refused(out, number, b"rules", index),
+        File::States => put_refused(out, number, b"states", index),
     }
 }
 
@@ -237,10 +252,8 @@ fn put_code(out: &mut [u8], at: usize, code: u8) -> usize
     ensures { λ _. ⌜ now (out .exit) ≡ sets (now (out .entry)) at (codeLine code) ⌝ }
     ensures { λ r. ⌜ r ≡ at + length (codeLine code) ⌝ }
 {
-    let mut digits = [0u8; 20];
-    let size = io::decimal(code as u64, &mut digits);
     let kind = kinds::kind_of(code);
-    let end = put_field(out, at, &digits[..size], b' ');
+    let end = put_number(out, at, code as u64, b' ');
     put_kind(out, end, kind)
 }
 
