@@ -10,7 +10,6 @@ pub mod Givens
 pub mod Followed
 pub mod Spreading
 pub mod NextBytes
-pub mod Buffers
 pub mod Checks
 pub mod Answered
 pub mod Cost

@@ -17,7 +17,8 @@ use Rattle.search.specs.declared.Ended.{Ended}
 use Rattle.search.specs.declared.Outcome.{Outcome}
 use Rattle.search.specs.declared.Outcome.the-variants.{Found, Failed, Spent}
 use Rattle.search.proofs.Lefts.{search-left}
-use Rattle.matcher.specs.Call.{Input, told, written, repliedBy, outcomeOnBytes, answerOnBytes, bufferOnBytes}
+use Rattle.call.specs.Call.{written}
+use Rattle.matcher.specs.Call.{Input, told, boundParts, repliedBy, outcomeOnBytes, answerOnBytes, bufferOnBytes}
 use Rattle.matcher.specs.declared.Answer.{Answer}
 use Rattle.matcher.specs.declared.Answer.the-variants.{Refused}
 use Rattle.matcher.proofs.Linked.{linked}
@@ -43,7 +44,7 @@ module _ (table classes pattern bytes before : List ℕ) (allowance : ℕ) where
 
   module _ (wide : answerWidth ≤ length before) where
     -- what the search shows is what its answer writes
-    pub shown-by : (o : Outcome) (left : ℕ) (parts : List Part) → shownBy o parts before ≡ written (repliedBy o allowance left parts) before
+    pub shown-by : (o : Outcome) (left : ℕ) (parts : List Part) → shownBy o parts before ≡ written (boundParts (repliedBy o allowance left parts)) before
     unfolding shownBy
     shown-by Found left parts = rw (le-ltb (length before) answerWidth wide)
     shown-by Failed left parts = refl
@@ -65,8 +66,8 @@ module _ (table classes pattern bytes before : List ℕ) (allowance : ℕ) where
     -- on accepted input it is the answer of the search on trees
     pub bytes-answered : Alike table classes → (q : Pattern) (t : Term) → Input table pattern bytes q t
         → (answerOnBytes table classes pattern bytes allowance (length before) ≡ told (answer (language table classes) q t allowance))
-        × (bufferOnBytes table classes pattern bytes allowance before ≡ written (answer (language table classes) q t allowance) before)
+        × (bufferOnBytes table classes pattern bytes allowance before ≡ written (boundParts (answer (language table classes) q t allowance)) before)
     unfolding answerOnBytes bufferOnBytes
     bytes-answered k q t i =
         let z = sym (linked table classes pattern bytes k q t i allowance) in
-        rw (le-ltb (length before) answerWidth wide) (ap told z, ap (λ (x : Matching). written x before) z)
+        rw (le-ltb (length before) answerWidth wide) (ap told z, ap (λ (x : Matching). written (boundParts x) before) z)

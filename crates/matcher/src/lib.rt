@@ -8,10 +8,11 @@ ghost use mathlib.Core.List.{[]};
 ghost use mathlib.Core.Option.{none, some};
 ghost use Prim.Native.Nat.{_≤_};
 ghost use lib.ListN.{length};
-ghost use Rattle.matcher.specs.Call.{answerNumber, answerCount, broughtBy, classesOf, broughtAccepted, checked, checkOf, answerOf, bufferOf, answerOnBytes, bufferOnBytes, told, repliedBy};
+ghost use Rattle.call.specs.Brought.{broughtBy, classesOf, broughtAccepted};
+ghost use Rattle.matcher.specs.Call.{answerNumber, answerCount, checked, checkOf, answerOf, bufferOf, answerOnBytes, bufferOnBytes, told, repliedBy};
 ghost use Rattle.matcher.specs.Next.{toldNext, nextOf, nextBufferOf, followingOnBytes};
 ghost use Rattle.search.specs.Following.{nextPass, shownPass};
-ghost use Rattle.matcher.specs.Demands.{Demanded, NextDemanded};
+ghost use Rattle.matcher.specs.Demands.{Demanded, NextDemanded, NextCalled};
 
 // How many numbers an answer has.
 pub const ANSWER_WIDTH: usize = search::ANSWER_WIDTH;
@@ -205,9 +206,7 @@ fn next_brought(
     answer: &mut [u16],
 ) -> Answer
     requires { ⌜ now classes ≡ classesOf (broughtBy brings (now classes)) ⌝ }
-    ensures is { λ r. ⌜ r ≡ nextOf (now (table .entry)) (broughtBy brings (now (classes .entry))) (now (pattern .entry)) (now («record» .entry)) (now (given .entry)) allowance (length (now (answer .entry))) ⌝ }
-    ensures buffer { λ r. ⌜ now (answer .exit) ≡ nextBufferOf (now (table .entry)) (broughtBy brings (now (classes .entry))) (now (pattern .entry)) (now («record» .entry)) (now (given .entry)) allowance (now (answer .entry)) ⌝ }
-    ensures demand { λ r. ⌜ NextDemanded (now (table .entry)) (broughtBy brings (now (classes .entry))) (now (pattern .entry)) (now («record» .entry)) (now (given .entry)) (now (answer .entry)) allowance r (now (answer .exit)) ⌝ }
+    ensures { λ r. ⌜ NextCalled (now (table .entry)) (broughtBy brings (now (classes .entry))) (now (pattern .entry)) (now («record» .entry)) (now (given .entry)) (now (answer .entry)) allowance r (now (answer .exit)) ⌝ }
 {
     let checks = check_input(table, brings, classes, pattern, record, answer.len());
     match checks {

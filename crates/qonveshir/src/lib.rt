@@ -10,11 +10,11 @@ ghost use lib.ListN.{length};
 ghost use Rattle.cost.specs.Call.{costOf};
 ghost use Rattle.cost.specs.Demands.{Demanded as CostDemanded};
 ghost use Rattle.matcher.specs.Call.{answerOf, bufferOf};
-ghost use Rattle.matcher.specs.Demands.{Demanded, NextDemanded};
+ghost use Rattle.matcher.specs.Demands.{DemandedOf, NextDemandedOf};
 ghost use Rattle.matcher.specs.Next.{nextOf, nextBufferOf};
 ghost use Rattle.rules.specs.Answer.{ruleIndex};
 ghost use Rattle.rules.specs.Call.{answerOf as rulesAnswer, bufferOf as rulesBuffer};
-ghost use Rattle.rules.specs.Demands.{Demanded as RulesDemanded};
+ghost use Rattle.rules.specs.Demands.{DemandedOf as RulesDemandedOf};
 ghost use Rattle.sheet.specs.Answer.{checkedIndex};
 ghost use Rattle.sheet.specs.Entry.{placeOf};
 ghost use Rattle.sheet.specs.Contents.{checkRules, checkStates};
@@ -94,9 +94,9 @@ pub extern "C" fn qonveshir_match(
     allowance: u32,
     answer: &mut [u16],
 ) -> Outcome
-    ensures shown { λ r. ⌜ r ≡ answerShown (answerOf (now (table .entry)) none (now (pattern .entry)) (now («record» .entry)) allowance (length (now (answer .entry)))) ⌝ }
+    ensures is { λ r. ⌜ r ≡ answerShown (answerOf (now (table .entry)) none (now (pattern .entry)) (now («record» .entry)) allowance (length (now (answer .entry)))) ⌝ }
     ensures buffer { λ _. ⌜ now (answer .exit) ≡ bufferOf (now (table .entry)) none (now (pattern .entry)) (now («record» .entry)) allowance (now (answer .entry)) ⌝ }
-    ensures demand { λ _. ⌜ Demanded (now (table .entry)) none (now (pattern .entry)) (now («record» .entry)) (now (answer .entry)) allowance (answerOf (now (table .entry)) none (now (pattern .entry)) (now («record» .entry)) allowance (length (now (answer .entry)))) (now (answer .exit)) ⌝ }
+    ensures demand { λ _. ⌜ DemandedOf (now (table .entry)) none (now (pattern .entry)) (now («record» .entry)) (now (answer .entry)) allowance (now (answer .exit)) ⌝ }
 {
     let a = matcher::match_one(table, pattern, record, allowance, answer);
     answer_shown(a)
@@ -112,9 +112,9 @@ pub extern "C" fn qonveshir_match_with_classes(
     allowance: u32,
     answer: &mut [u16],
 ) -> Outcome
-    ensures shown { λ r. ⌜ r ≡ answerShown (answerOf (now (table .entry)) (some (now (classes .entry))) (now (pattern .entry)) (now («record» .entry)) allowance (length (now (answer .entry)))) ⌝ }
+    ensures is { λ r. ⌜ r ≡ answerShown (answerOf (now (table .entry)) (some (now (classes .entry))) (now (pattern .entry)) (now («record» .entry)) allowance (length (now (answer .entry)))) ⌝ }
     ensures buffer { λ _. ⌜ now (answer .exit) ≡ bufferOf (now (table .entry)) (some (now (classes .entry))) (now (pattern .entry)) (now («record» .entry)) allowance (now (answer .entry)) ⌝ }
-    ensures demand { λ _. ⌜ Demanded (now (table .entry)) (some (now (classes .entry))) (now (pattern .entry)) (now («record» .entry)) (now (answer .entry)) allowance (answerOf (now (table .entry)) (some (now (classes .entry))) (now (pattern .entry)) (now («record» .entry)) allowance (length (now (answer .entry)))) (now (answer .exit)) ⌝ }
+    ensures demand { λ _. ⌜ DemandedOf (now (table .entry)) (some (now (classes .entry))) (now (pattern .entry)) (now («record» .entry)) (now (answer .entry)) allowance (now (answer .exit)) ⌝ }
 {
     let a = matcher::match_one_with_classes(table, classes, pattern, record, allowance, answer);
     answer_shown(a)
@@ -130,9 +130,9 @@ pub extern "C" fn qonveshir_next(
     allowance: u32,
     answer: &mut [u16],
 ) -> Outcome
-    ensures shown { λ r. ⌜ r ≡ answerShown (nextOf (now (table .entry)) none (now (pattern .entry)) (now («record» .entry)) (now (given .entry)) allowance (length (now (answer .entry)))) ⌝ }
+    ensures is { λ r. ⌜ r ≡ answerShown (nextOf (now (table .entry)) none (now (pattern .entry)) (now («record» .entry)) (now (given .entry)) allowance (length (now (answer .entry)))) ⌝ }
     ensures buffer { λ _. ⌜ now (answer .exit) ≡ nextBufferOf (now (table .entry)) none (now (pattern .entry)) (now («record» .entry)) (now (given .entry)) allowance (now (answer .entry)) ⌝ }
-    ensures demand { λ _. ⌜ NextDemanded (now (table .entry)) none (now (pattern .entry)) (now («record» .entry)) (now (given .entry)) (now (answer .entry)) allowance (nextOf (now (table .entry)) none (now (pattern .entry)) (now («record» .entry)) (now (given .entry)) allowance (length (now (answer .entry)))) (now (answer .exit)) ⌝ }
+    ensures demand { λ _. ⌜ NextDemandedOf (now (table .entry)) none (now (pattern .entry)) (now («record» .entry)) (now (given .entry)) (now (answer .entry)) allowance (now (answer .exit)) ⌝ }
 {
     let a = matcher::next(table, pattern, record, given, allowance, answer);
     answer_shown(a)
@@ -149,9 +149,9 @@ pub extern "C" fn qonveshir_next_with_classes(
     allowance: u32,
     answer: &mut [u16],
 ) -> Outcome
-    ensures shown { λ r. ⌜ r ≡ answerShown (nextOf (now (table .entry)) (some (now (classes .entry))) (now (pattern .entry)) (now («record» .entry)) (now (given .entry)) allowance (length (now (answer .entry)))) ⌝ }
+    ensures is { λ r. ⌜ r ≡ answerShown (nextOf (now (table .entry)) (some (now (classes .entry))) (now (pattern .entry)) (now («record» .entry)) (now (given .entry)) allowance (length (now (answer .entry)))) ⌝ }
     ensures buffer { λ _. ⌜ now (answer .exit) ≡ nextBufferOf (now (table .entry)) (some (now (classes .entry))) (now (pattern .entry)) (now («record» .entry)) (now (given .entry)) allowance (now (answer .entry)) ⌝ }
-    ensures demand { λ _. ⌜ NextDemanded (now (table .entry)) (some (now (classes .entry))) (now (pattern .entry)) (now («record» .entry)) (now (given .entry)) (now (answer .entry)) allowance (nextOf (now (table .entry)) (some (now (classes .entry))) (now (pattern .entry)) (now («record» .entry)) (now (given .entry)) allowance (length (now (answer .entry)))) (now (answer .exit)) ⌝ }
+    ensures demand { λ _. ⌜ NextDemandedOf (now (table .entry)) (some (now (classes .entry))) (now (pattern .entry)) (now («record» .entry)) (now (given .entry)) (now (answer .entry)) allowance (now (answer .exit)) ⌝ }
 {
     let a = matcher::next_with_classes(table, classes, pattern, record, given, allowance, answer);
     answer_shown(a)
@@ -166,9 +166,9 @@ pub extern "C" fn qonveshir_match_rules(
     allowance: u32,
     answer: &mut [u16],
 ) -> Outcome
-    ensures shown { λ r. ⌜ r ≡ rulesShown (rulesAnswer (now (table .entry)) none (now (rules .entry)) (now («record» .entry)) allowance (length (now (answer .entry)))) ⌝ }
+    ensures is { λ r. ⌜ r ≡ rulesShown (rulesAnswer (now (table .entry)) none (now (rules .entry)) (now («record» .entry)) allowance (length (now (answer .entry)))) ⌝ }
     ensures buffer { λ _. ⌜ now (answer .exit) ≡ rulesBuffer (now (table .entry)) none (now (rules .entry)) (now («record» .entry)) allowance (now (answer .entry)) ⌝ }
-    ensures demand { λ _. ⌜ RulesDemanded (now (table .entry)) none (now (rules .entry)) (now («record» .entry)) (now (answer .entry)) allowance (rulesAnswer (now (table .entry)) none (now (rules .entry)) (now («record» .entry)) allowance (length (now (answer .entry)))) (now (answer .exit)) ⌝ }
+    ensures demand { λ _. ⌜ RulesDemandedOf (now (table .entry)) none (now (rules .entry)) (now («record» .entry)) (now (answer .entry)) allowance (now (answer .exit)) ⌝ }
 {
     let a = rules::match_rules(table, rules, record, allowance, answer);
     rules_shown(a)
@@ -184,9 +184,9 @@ pub extern "C" fn qonveshir_match_rules_with_classes(
     allowance: u32,
     answer: &mut [u16],
 ) -> Outcome
-    ensures shown { λ r. ⌜ r ≡ rulesShown (rulesAnswer (now (table .entry)) (some (now (classes .entry))) (now (rules .entry)) (now («record» .entry)) allowance (length (now (answer .entry)))) ⌝ }
+    ensures is { λ r. ⌜ r ≡ rulesShown (rulesAnswer (now (table .entry)) (some (now (classes .entry))) (now (rules .entry)) (now («record» .entry)) allowance (length (now (answer .entry)))) ⌝ }
     ensures buffer { λ _. ⌜ now (answer .exit) ≡ rulesBuffer (now (table .entry)) (some (now (classes .entry))) (now (rules .entry)) (now («record» .entry)) allowance (now (answer .entry)) ⌝ }
-    ensures demand { λ _. ⌜ RulesDemanded (now (table .entry)) (some (now (classes .entry))) (now (rules .entry)) (now («record» .entry)) (now (answer .entry)) allowance (rulesAnswer (now (table .entry)) (some (now (classes .entry))) (now (rules .entry)) (now («record» .entry)) allowance (length (now (answer .entry)))) (now (answer .exit)) ⌝ }
+    ensures demand { λ _. ⌜ RulesDemandedOf (now (table .entry)) (some (now (classes .entry))) (now (rules .entry)) (now («record» .entry)) (now (answer .entry)) allowance (now (answer .exit)) ⌝ }
 {
     rules_shown(rules::match_rules_with_classes(table, classes, rules, record, allowance, answer))
 }
@@ -199,7 +199,7 @@ pub extern "C" fn qonveshir_write_sheet(
     lengths: &[u16],
     output: &mut [u8],
 ) -> Outcome
-    ensures shown { λ r. ⌜ r ≡ writingShown (writing (now (table .entry)) (now (records .entry)) (now (lengths .entry)) (length (now (output .entry)))) ⌝ }
+    ensures is { λ r. ⌜ r ≡ writingShown (writing (now (table .entry)) (now (records .entry)) (now (lengths .entry)) (length (now (output .entry)))) ⌝ }
     ensures contents { λ _. ⌜ now (output .exit) ≡ outputAfter (now (table .entry)) (now (records .entry)) (now (lengths .entry)) (now (output .entry)) ⌝ }
     ensures demand { λ r. ⌜ SheetDemanded (now (table .entry)) (now (records .entry)) (now (lengths .entry)) (now (output .entry)) (r .number) (r .count) (now (output .exit)) ⌝ }
 {
@@ -235,7 +235,7 @@ pub extern "C" fn qonveshir_check_states(table: &[u8], sheet: &[u8]) -> Outcome
 // What a pattern can cost at most.
 #[no_mangle]
 pub extern "C" fn qonveshir_cost(table: &[u8], pattern: &[u8]) -> Outcome
-    ensures shown { λ r. ⌜ r ≡ costShown (costOf (now (table .entry)) (now (pattern .entry))) ⌝ }
+    ensures is { λ r. ⌜ r ≡ costShown (costOf (now (table .entry)) (now (pattern .entry))) ⌝ }
     ensures demand { λ _. ⌜ CostDemanded (now (table .entry)) (now (pattern .entry)) (costOf (now (table .entry)) (now (pattern .entry))) ⌝ }
 {
     let c = cost::cost_of(table, pattern);

@@ -10,7 +10,7 @@ ghost use lib.Seq.{sets};
 ghost use Rattle.sheet.specs.Check.{entryCount};
 ghost use Rattle.sheet.specs.Entry.{entryOf};
 ghost use Rattle.sheet.specs.Contents.{checkContents};
-ghost use Rattle.matcher.specs.Call.{answerWidth};
+ghost use Rattle.call.specs.Call.{answerWidth};
 ghost use Rattle.rules.specs.Call.{answerOf};
 ghost use Rattle.report_lines.specs.Line.{field, line, answerLine, refusalLine};
 ghost use Rattle.report_lines.specs.Verdict.{readable, verdict, AllAccepted};
