@@ -1,4 +1,7 @@
 // The search of one pattern on one record, on their bytes: found, failed or spent, the allowance left, and what each name is assigned.
+use skips::affordable;
+use skips::extents;
+use skips::seek;
 use term::Code;
 use term::LIST;
 use term::LONGEST_PATTERN;
@@ -31,7 +34,9 @@ ghost use Rattle.search.specs.Following.{nextPass, followedOf, shownPass
 ghost use Rattle.search.specs.Inner.GivenReplies.{resuming, resumedAs, leftBy, FurtherIs, GivenFollows, GivenIs, SpreadIs};
 ghost use Rattle.search.specs.Inner.Bounds.{Short, Ready, Walks, StopsAt, Unassigned, reached};
 ghost use Rattle.search.specs.Shown.{answerWidth, numbers, shownBy, shownIn};
-ghost use Rattle.search.specs.Inner.Replies.{failure, found, turned, partsIn, setEntry, inside, Resting, Testable, Decides, RestIs, FollowIs, ComplementIs, ComplementsAre};
+ghost use Rattle.search.specs.Inner.Replies.{failure, found, turned, partsIn, setEntry, inside, Resting, Testable, Decides, DecidesInside, RestIs, FollowIs, ComplementIs, ComplementsAre};
+ghost use Rattle.search.specs.Inner.Onward.{Onward};
+ghost use Rattle.search.specs.Inner.Skips.{skipped, behindIn, SkipsTo, Skips, Lengthened, Lengthens};
 ghost use Rattle.search.specs.Inner.Halts.{haltedAs, runOf, stopIn, reportedBy, Reports, RestBy, Begun, Levels, PairsAre};
 
 // The numbers that a variable is shown with: offset, length and number of terms.
@@ -42,6 +47,9 @@ pub const ANSWER_WIDTH: usize = ENTRY_WIDTH * VARIABLES;
 
 // No node has more elements.
 const MOST_ELEMENTS: u8 = 255;
+
+// No code of a pattern: the next child pattern tells nothing of the elements that it can hold of.
+const ANYTHING: u8 = 255;
 
 // A part for each variable, and three for where a level halts.
 const PARTS: usize = VARIABLES + 3;
@@ -178,12 +186,12 @@ fn packed(p: Part) -> u64
     p.offset as u64 + 65536 * p.length as u64 + 4294967296 * p.elements as u64
 }
 
-// With one element more, of so many bytes.
-fn longer(x: u64, size: usize) -> u64
+// With n elements more, of so many bytes.
+fn longer(x: u64, n: u8, size: usize) -> u64
     requires { ⌜ (x < 2 ^ 48) × (size ≤ longestRecord) ⌝ }
-    ensures { λ r. ⌜ r ≡ x + 65536 * size + 4294967296 ⌝ }
+    ensures { λ r. ⌜ r ≡ x + 65536 * size + 4294967296 * n ⌝ }
 {
-    x + 65536 * size as u64 + 4294967296
+    x + 65536 * size as u64 + 4294967296 * n as u64
 }
 
 fn unpacked(x: u64) -> Part
@@ -573,13 +581,20 @@ fn push_complement(stack: &mut [u32; STACK], marks: Marks, place: Place, codes: 
     marks.put_by()
 }
 
-// The variable v takes the node of so many bytes.
-fn bind(parts: &mut [u64; PARTS], assigned: u64, v: u8, node: usize, size: usize) -> u64
+// The variable v takes the elements of so many bytes.
+fn bind(
+    parts: &mut [u64; PARTS],
+    assigned: u64,
+    v: u8,
+    node: usize,
+    size: usize,
+    elements: u8,
+) -> u64
     requires { ⌜ v < variables ⌝ }
-    ensures { λ r. ⌜ (r ≡ bitOr assigned (2 ^ v)) × (now (parts .exit) ≡ set (now (parts .entry)) v (packed (boundPart node size 1))) ⌝ }
+    ensures { λ r. ⌜ (r ≡ bitOr assigned (2 ^ v)) × (now (parts .exit) ≡ set (now (parts .entry)) v (packed (boundPart node size elements))) ⌝ }
 {
     let i = wide(v);
-    parts[i] = packed(Part::bound(node, size, 1));
+    parts[i] = packed(Part::bound(node, size, elements));
     also(assigned, i)
 }
 
@@ -647,7 +662,7 @@ fn walk(
             }
             Step::Binds(v, size) => {
                 left = left - 1;
-                assigned = bind(parts, assigned, v, place.node, size);
+                assigned = bind(parts, assigned, v, place.node, size, 1);
                 place = place.passed(1, 1, size);
             }
             Step::PutsBy(codes, size) => {
@@ -658,6 +673,61 @@ fn walk(
         }
     };
     Reached::of(stop, left, assigned, marks, place)
+}
+
+// The pairs of a level up to a run name that leaves a choice. One that is the last child pattern of its node takes all elements left: each shorter
+// length leaves some over, and fails. All its lengths are counted. A level that halts stops at each run name.
+fn onward(
+    table: &[u8],
+    classes: &[u8],
+    pattern: &[u8],
+    record: &[u8],
+    parts: &mut [u64; PARTS],
+    stack: &mut [u32; STACK],
+    mut assigned: u64,
+    mut left: u32,
+    halts: bool,
+    mut marks: Marks,
+    mut place: Place,
+) -> Reached
+    requires { ⌜ Holding (length (now pattern)) (length (now «record»)) assigned (now parts) (now stack) marks place × Short (now pattern) (now «record») ⌝ }
+    ensures { λ r. ⌜ Onward halts (now (table .entry)) (now (classes .entry)) (now (pattern .entry)) (now («record» .entry)) assigned left (now (parts .entry)) (now (stack .entry)) marks place (now (parts .exit)) (now (stack .exit)) r ⌝ }
+{
+    loop {
+        let w = walk(
+            table,
+            classes,
+            pattern,
+            record,
+            parts,
+            stack,
+            assigned,
+            left,
+            marks,
+            place,
+        );
+        let stop = w.stop;
+        let end = w.place;
+        let Stop::RunName(v) = stop else {
+            return w;
+        };
+        if halts {
+            return w;
+        }
+        if end.children != 1 {
+            return w;
+        }
+        let node = end.node;
+        let n = end.elements;
+        if w.left <= n as u32 {
+            return Reached::of(Stop::NoAllowance, 0, w.assigned, w.marks, end);
+        }
+        let size = extents(table, &record[node..], n);
+        left = w.left - 1 - n as u32;
+        assigned = bind(parts, w.assigned, v, node, size, n);
+        marks = w.marks;
+        place = end.passed(n, 1, size);
+    }
 }
 
 fn is_failure(stop: Stop) -> bool
@@ -798,6 +868,244 @@ impl Marks {
     }
 }
 
+// Lengths of a run name that are passed over, the byte behind the last of their elements, and whether those after them fail too.
+pub struct Skipped {
+    pub lengths: u8,
+    pub node: usize,
+    pub over: bool,
+}
+
+impl Skipped {
+    // No length is passed over.
+    fn none(node: usize) -> Skipped
+        ensures { λ r. ⌜ r ≡ skipped 0 node false ⌝ }
+    {
+        Skipped {
+            lengths: 0,
+            node: node,
+            over: false,
+        }
+    }
+}
+
+// The lengths after which the next element does not start with x; where no element is left, a plain child pattern fails.
+fn skip_to(
+    table: &[u8],
+    classes: &[u8],
+    record: &[u8],
+    x: &[u8],
+    plain: bool,
+    elements: u8,
+    node: usize,
+    left: u32,
+) -> Skipped
+    requires { ⌜ (node ≤ length (now «record»)) × (length (now «record») ≤ longestRecord) ⌝ }
+    ensures { λ r. ⌜ SkipsTo (now (table .entry)) (now (classes .entry)) (now («record» .entry)) (now (x .entry)) plain elements node left r ⌝ }
+{
+    let k = seek(
+        table,
+        classes,
+        x,
+        &record[node..],
+        affordable(elements, left),
+    );
+    Skipped {
+        lengths: k.elements,
+        node: node + k.size,
+        over: plain & (k.elements == elements),
+    }
+}
+
+// The lengths that fail at their first pair: the next child pattern is a symbol, or a name or run name that is assigned, and does not stand there.
+fn skip(
+    table: &[u8],
+    classes: &[u8],
+    pattern: &[u8],
+    record: &[u8],
+    parts: &[u64; PARTS],
+    assigned: u64,
+    children: u8,
+    elements: u8,
+    at: usize,
+    node: usize,
+    left: u32,
+) -> Skipped
+    requires { ⌜ (node ≤ length (now «record»)) × (length (now «record») ≤ longestRecord) ⌝ }
+    ensures { λ r. ⌜ Skips (now (table .entry)) (now (classes .entry)) (now (pattern .entry)) (now («record» .entry)) assigned (now (parts .entry)) (place children elements at node) left r ⌝ }
+{
+    if children == 0 {
+        return Skipped::none(node);
+    }
+    if pattern.len() <= at {
+        return Skipped::none(node);
+    }
+    let code = decode(pattern[at]);
+    match code {
+        Code::Symbol(_) => skip_to(
+            table,
+            classes,
+            record,
+            &pattern[at..at + 1],
+            true,
+            elements,
+            node,
+            left,
+        ),
+        Code::Name(v) => skip_to(
+            table,
+            classes,
+            record,
+            bytes_of(record, part_of(parts, assigned, v)),
+            true,
+            elements,
+            node,
+            left,
+        ),
+        Code::Run(v) => skip_to(
+            table,
+            classes,
+            record,
+            bytes_of(record, part_of(parts, assigned, v)),
+            false,
+            elements,
+            node,
+            left,
+        ),
+        Code::Complement => Skipped::none(node),
+        Code::Refused => Skipped::none(node),
+    }
+}
+
+// The code of the next child pattern where it tells which elements it can hold of: a symbol, or a name or run name that is assigned some bytes.
+fn wanted(pattern: &[u8], parts: &[u64; PARTS], assigned: u64, children: u8, at: usize) -> u8 {
+    if children == 0 {
+        return ANYTHING;
+    }
+    if pattern.len() <= at {
+        return ANYTHING;
+    }
+    let b = pattern[at];
+    let code = decode(b);
+    match code {
+        Code::Symbol(_) => b,
+        Code::Name(v) => wanted_part(part_of(parts, assigned, v), b),
+        Code::Run(v) => wanted_part(part_of(parts, assigned, v), b),
+        Code::Complement => ANYTHING,
+        Code::Refused => ANYTHING,
+    }
+}
+
+fn wanted_part(part: Part, b: u8) -> u8 {
+    if part.length == 0 {
+        return ANYTHING;
+    }
+    b
+}
+
+// Whether it is worth to look for lengths that fail at once: not where the symbol wanted stands at the node.
+fn scans(classes: &[u8], record: &[u8], want: u8, node: usize) -> bool {
+    if want == ANYTHING {
+        return false;
+    }
+    if record.len() <= node {
+        return true;
+    }
+    !same_symbol(classes, want, record[node])
+}
+
+// What is left of the lengths of a run name after one that failed.
+pub struct Lengthening {
+    pub place: Place,
+    pub left: u32,
+    pub over: bool,
+}
+
+// The lengths that fail at once, where it is worth to look for them.
+fn skip_where(
+    table: &[u8],
+    classes: &[u8],
+    pattern: &[u8],
+    record: &[u8],
+    parts: &[u64; PARTS],
+    assigned: u64,
+    want: u8,
+    place: Place,
+    left: u32,
+) -> Skipped
+    requires { ⌜ (place .node ≤ length (now «record»)) × (length (now «record») ≤ longestRecord) ⌝ }
+    ensures { λ r. ⌜ Skips (now (table .entry)) (now (classes .entry)) (now (pattern .entry)) (now («record» .entry)) assigned (now (parts .entry)) place left r ⌝ }
+{
+    if !scans(classes, record, want, place.node) {
+        return Skipped::none(place.node);
+    }
+    skip(
+        table,
+        classes,
+        pattern,
+        record,
+        parts,
+        assigned,
+        place.children,
+        place.elements,
+        place.at,
+        place.node,
+        left,
+    )
+}
+
+impl Place {
+    // Behind so many elements more, which end at a byte.
+    fn behind(self, elements: u8, node: usize) -> Place
+        requires { ⌜ elements ≤ self .elements ⌝ }
+        ensures { λ r. ⌜ r ≡ behindIn self elements node ⌝ }
+    {
+        Place {
+            children: self.children,
+            elements: self.elements - elements,
+            at: self.at,
+            node: node,
+        }
+    }
+}
+
+// The variable v is given one element more, and those that the lengths passed over have.
+fn lengthen(
+    table: &[u8],
+    classes: &[u8],
+    pattern: &[u8],
+    record: &[u8],
+    parts: &mut [u64; PARTS],
+    assigned: u64,
+    v: usize,
+    want: u8,
+    place: Place,
+    left: u32,
+) -> Lengthening
+    requires { ⌜ Lengthened (length (now «record»)) (now parts) v place ⌝ }
+    ensures { λ r. ⌜ Lengthens (now (table .entry)) (now (classes .entry)) (now (pattern .entry)) (now («record» .entry)) assigned (now (parts .entry)) v place left (now (parts .exit)) r ⌝ }
+{
+    let at = place.node;
+    let node = at + extent(table, &record[at..]);
+    let one = place.behind(1, node);
+    let k = skip_where(
+        table,
+        classes,
+        pattern,
+        record,
+        parts,
+        assigned,
+        want,
+        one,
+        left,
+    );
+    parts[v] = longer(parts[v], 1 + k.lengths, k.node - at);
+    Lengthening {
+        place: one.behind(k.lengths, k.node),
+        left: left - 2 * k.lengths as u32,
+        over: k.over,
+    }
+}
+
 // The variable v has a part of the elements before the place, and is given one element more while the rest of the level fails and more than `least`
 // are left. At a level's start v is `VARIABLES`, for none, and `least` `MOST_ELEMENTS`. A level that halts only reports where its pairs stop.
 fn level(
@@ -812,6 +1120,7 @@ fn level(
     v: usize,
     halts: bool,
     least: u8,
+    want: u8,
     nodes: Nodes,
     queue: Queue,
     remaining: Remaining,
@@ -822,7 +1131,8 @@ fn level(
 {
     let marks = Marks::of(nodes, queue);
     let start = Place::of(remaining, next);
-    let seen = also(*assigned, v);
+    let outside = *assigned;
+    let seen = also(outside, v);
     let mut place = start;
     let outcome = loop {
         *assigned = seen;
@@ -848,12 +1158,23 @@ fn level(
         if *left == 0 {
             break Outcome::Spent;
         }
-        *left = *left - 1;
-        let at = place.node;
-        let size = extent(table, &record[at..]);
-        place.node = at + size;
-        place.elements = place.elements - 1;
-        parts[v] = longer(parts[v], size);
+        let k = lengthen(
+            table,
+            classes,
+            pattern,
+            record,
+            parts,
+            outside,
+            v,
+            want,
+            place,
+            *left - 1,
+        );
+        *left = k.left;
+        if k.over {
+            break Outcome::Failed;
+        }
+        place = k.place;
     };
     outcome
 }
@@ -887,6 +1208,7 @@ fn start_level(
         VARIABLES,
         false,
         MOST_ELEMENTS,
+        ANYTHING,
         marks.nodes(),
         marks.queue(),
         start.remaining(),
@@ -995,7 +1317,7 @@ fn rest(
     requires { ⌜ Holding (length (now pattern)) (length (now «record»)) (now assigned) (now parts) (now stack) marks start × Short (now pattern) (now «record») ⌝ }
     ensures { λ r. ⌜ RestBy halts (now (table .entry)) (now (classes .entry)) (now (pattern .entry)) (now («record» .entry)) (now (assigned .entry)) (now (left .entry)) (now (parts .entry)) (now (stack .entry)) marks start r (now (assigned .exit)) (now (left .exit)) (now (parts .exit)) (now (stack .exit)) ⌝ }
 {
-    let w = walk(
+    let w = onward(
         table,
         classes,
         pattern,
@@ -1004,6 +1326,7 @@ fn rest(
         stack,
         *assigned,
         *left,
+        halts,
         marks,
         start,
     );
@@ -1100,10 +1423,26 @@ fn lengths(
     if *left == 0 {
         return Outcome::Spent;
     }
-    *left -= 1;
     let past = place.passed(0, 1, 0);
+    let want = wanted(pattern, parts, *assigned, past.children, past.at);
+    let k = skip_where(
+        table,
+        classes,
+        pattern,
+        record,
+        parts,
+        *assigned,
+        want,
+        past,
+        *left - 1,
+    );
+    *left = *left - 1 - 2 * k.lengths as u32;
+    if k.over {
+        return Outcome::Failed;
+    }
+    let first = past.behind(k.lengths, k.node);
     let i = wide(v);
-    parts[i] = packed(Part::bound(place.node, 0, 0));
+    parts[i] = packed(Part::bound(place.node, k.node - place.node, k.lengths));
     level(
         table,
         classes,
@@ -1116,10 +1455,11 @@ fn lengths(
         i,
         false,
         0,
+        want,
         marks.nodes(),
         marks.queue(),
-        past.remaining(),
-        past.next(),
+        first.remaining(),
+        first.next(),
     )
 }
 
@@ -1156,6 +1496,65 @@ fn first_pair(
     First::Unsure
 }
 
+// So does a name, where a complement drops what it is assigned: an unassigned one takes the node, an assigned one must equal it.
+fn name_pair(
+    table: &[u8],
+    classes: &[u8],
+    pattern: &[u8],
+    record: &[u8],
+    parts: &[u64; PARTS],
+    assigned: u64,
+    node: usize,
+    left: u32,
+) -> First
+    ensures { λ r. ⌜ DecidesInside (now (table .entry)) (now (classes .entry)) (now (pattern .entry)) (now («record» .entry)) assigned (now (parts .entry)) node left r ⌝ }
+{
+    if left == 0 {
+        return First::Unsure;
+    }
+    if pattern.len() == 0 {
+        return First::Unsure;
+    }
+    if record.len() <= node {
+        return First::Unsure;
+    }
+    let code = decode(pattern[0]);
+    let Code::Name(v) = code else {
+        return First::Unsure;
+    };
+    let part = part_of(parts, assigned, v);
+    if part.is_absent() {
+        return First::Decided(Outcome::Found);
+    }
+    if part.elements != 1 {
+        return First::Unsure;
+    }
+    if stands(table, classes, record, part, &record[node..]) {
+        return First::Decided(Outcome::Found);
+    }
+    First::Decided(Outcome::Failed)
+}
+
+// How the inside of a complement ends, where its first pair alone decides that.
+fn at_once(
+    table: &[u8],
+    classes: &[u8],
+    pattern: &[u8],
+    record: &[u8],
+    parts: &[u64; PARTS],
+    assigned: u64,
+    node: usize,
+    left: u32,
+) -> First
+    ensures { λ r. ⌜ DecidesInside (now (table .entry)) (now (classes .entry)) (now (pattern .entry)) (now («record» .entry)) assigned (now (parts .entry)) node left r ⌝ }
+{
+    let first = first_pair(table, classes, pattern, record, node, left);
+    if let First::Decided(outcome) = first {
+        return First::Decided(outcome);
+    }
+    name_pair(table, classes, pattern, record, parts, assigned, node, left)
+}
+
 // The inside of a complement is a level of its own, that starts from the assignments made so far.
 fn complement(
     table: &[u8],
@@ -1176,7 +1575,16 @@ fn complement(
     let stop = from + (c / 256 % 256) as usize;
     let node = (c / 65536) as usize;
     let inside = &pattern[from..stop];
-    let first = first_pair(table, classes, inside, record, node, *left);
+    let first = at_once(
+        table,
+        classes,
+        inside,
+        record,
+        parts,
+        *assigned,
+        node,
+        *left,
+    );
     if let First::Decided(outcome) = first {
         *left = *left - 1;
         return opposite(outcome);
@@ -1317,6 +1725,7 @@ fn further(
         v,
         false,
         0,
+        wanted(pattern, parts, *assigned, next.children, next.at),
         marks.nodes(),
         marks.queue(),
         next.remaining(),
@@ -1354,6 +1763,7 @@ fn pairs(
         VARIABLES,
         true,
         MOST_ELEMENTS,
+        ANYTHING,
         marks.nodes(),
         marks.queue(),
         start.remaining(),
