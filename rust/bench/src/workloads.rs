@@ -27,6 +27,10 @@ pub fn all() -> Vec<Workload> {
     let mut all = vec![smallest_call()];
     all.extend(lists.map(all_different).map(Match::search));
     all.extend(lists.map(list_search).map(Match::search));
+    all.extend(STEPS.map(all_alike).map(Match::search));
+    all.extend(STEPS.map(last_differs).map(Match::search));
+    all.extend([10, 40, 120].map(terms_of_five).map(Match::search));
+    all.extend([10, 40, 120].map(three_runs).map(Match::search));
     all.extend([4, 8, 16, 31].map(deep_term).map(Match::search));
     all.extend([4, 8, 16, 31, 255].map(deep_complement).map(Match::search));
     all.extend([1, 32, 255].map(long_record_complement));
@@ -59,11 +63,13 @@ fn with_classes() -> Vec<Workload> {
     all
 }
 
-/// The start of the matches on lists of those lengths between which the time of a step is compared.
+/// The lengths of lists between which the time of a step is compared.
+const STEPS: [usize; 4] = [10, 40, 120, 255];
+
+/// The start of the matches on lists of those lengths.
 pub fn starts() -> Vec<Workload> {
-    let lists = [10, 40, 120];
-    let matches = lists.map(all_different).into_iter().chain(lists.map(list_search));
-    matches.map(Match::start).collect()
+    let matches = [all_different, list_search, all_alike, last_differs].map(|of| STEPS.map(of));
+    matches.into_iter().flatten().map(Match::start).collect()
 }
 
 fn symbols() -> Symbols {
@@ -169,6 +175,27 @@ fn all_different(n: usize) -> Match {
 fn list_search(n: usize) -> Match {
     let record = format!("gates({}shut)", "open, ".repeat(n - 1));
     Match::of("list search with a complement", n, "gates(@0, !open, @1)", &record)
+}
+
+fn all_alike(n: usize) -> Match {
+    let record = format!("gates({})", vec!["open"; n].join(", "));
+    Match::of("list search, all alike", n, "gates(@0, shut, @1)", &record)
+}
+
+fn last_differs(n: usize) -> Match {
+    let record = format!("gates({}shut)", "open, ".repeat(n - 1));
+    Match::of("list search, the last differs", n, "gates(@0, shut, @1)", &record)
+}
+
+/// The same with terms of five nodes before the last.
+fn terms_of_five(n: usize) -> Match {
+    let record = format!("gates({}shut)", "row(gate(open), gate(held)), ".repeat(n - 1));
+    Match::of("list search in terms of 5", n, "gates(@0, shut, @1)", &record)
+}
+
+fn three_runs(n: usize) -> Match {
+    let record = format!("gates({})", vec!["open"; n].join(", "));
+    Match::of("three runs", n, "gates(@0, @1, shut, @2)", &record)
 }
 
 fn deep_term(n: usize) -> Match {

@@ -71,6 +71,19 @@ pub enum Kind {
     OneLengthLess,
     OneLengthMore,
     AnotherLength,
+    NoneUnder,
+    NoneAt,
+    NoneOver,
+    OneUnder,
+    OneAt,
+    OneOver,
+    ManyUnder,
+    ManyAt,
+    ManyOver,
+    BeforeASymbol,
+    BeforeAName,
+    BeforeARun,
+    BeforeNothing,
 }
 
 /// A call and its inputs.

@@ -5,12 +5,13 @@ use crate::classes::Classes;
 use crate::make::{damaged_sheet, table, Maker};
 use crate::nexts::Search;
 use crate::rng::Rng;
+use crate::skips::skip_case;
 use interface::{sheet_of, Library, Outcome, Word, ANSWER, SHEET_LIMIT};
 
 /// A case; `library` gives the count that allowances are taken around.
 pub fn case(rng: &mut Rng, library: &dyn Library) -> Case {
     let table = table(rng);
-    match rng.below(104) {
+    match rng.below(120) {
         0..=22 => match_case(rng, table, library),
         23..=38 => match_with_classes_case(rng, table, library),
         39..=49 => next_case(rng, table, library),
@@ -29,10 +30,14 @@ pub fn case(rng: &mut Rng, library: &dyn Library) -> Case {
             let sheet = perhaps_damaged(rng, sheet_of(&records));
             Case::new(Call::CheckStates, vec![table, sheet])
         }
-        _ => {
+        100..=103 => {
             let (pattern, _) = pair(rng, &table, library);
             Case::new(Call::Cost, vec![table, pattern])
         }
+        _ => match skip_case(rng, table.clone()) {
+            Some(case) => case,
+            None => match_case(rng, table, library),
+        },
     }
 }
 
@@ -266,7 +271,7 @@ fn perhaps_damaged(rng: &mut Rng, sheet: Vec<u8>) -> Vec<u8> {
 }
 
 /// The length of an answer buffer.
-fn room(rng: &mut Rng) -> usize {
+pub fn room(rng: &mut Rng) -> usize {
     match rng.below(40) {
         0 => rng.below(ANSWER),
         1 => ANSWER - 1,

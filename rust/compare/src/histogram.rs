@@ -5,7 +5,6 @@ use interface::{Word, COMPLEMENT};
 use std::fmt;
 
 /// Cases by word and call, and by kind and call.
-#[derive(Default)]
 pub struct Histogram {
     cases: u64,
     words: [[u64; CALLS.len()]; Word::ALL.len()],
@@ -13,7 +12,7 @@ pub struct Histogram {
 }
 
 /// The kinds in their order, the words with which they count, and the calls that must have them.
-const KINDS: [(&str, &[Word], &[Call]); 27] = [
+const KINDS: [(&str, &[Word], &[Call]); 40] = [
     ("record over 1,000 bytes, not spent", &ENDED, &SEARCHES),
     ("pattern over 100 bytes, not spent", &ENDED, &PATTERNS),
     ("count over 1,000, not spent", &ENDED, &SEARCHES),
@@ -41,7 +40,57 @@ const KINDS: [(&str, &[Word], &[Call]); 27] = [
     ("one given length less", &[Word::Unknown], &NEXTS),
     ("one given length more", &[Word::Unknown], &NEXTS),
     ("another given length", &[Word::Unknown], &NEXTS),
+    (
+        "row of no lengths that cannot hold, allowance under the count after it",
+        &SPENT,
+        &WITH_AN_ANSWER,
+    ),
+    (
+        "row of no lengths that cannot hold, allowance at the count after it",
+        &SPENT,
+        &WITH_AN_ANSWER,
+    ),
+    (
+        "row of no lengths that cannot hold, allowance over the count after it",
+        &ACCEPTED,
+        &WITH_AN_ANSWER,
+    ),
+    (
+        "row of one length that cannot hold, allowance under the count after it",
+        &SPENT,
+        &WITH_AN_ANSWER,
+    ),
+    (
+        "row of one length that cannot hold, allowance at the count after it",
+        &SPENT,
+        &WITH_AN_ANSWER,
+    ),
+    (
+        "row of one length that cannot hold, allowance over the count after it",
+        &ACCEPTED,
+        &WITH_AN_ANSWER,
+    ),
+    (
+        "row of 2 to 70 lengths that cannot hold, allowance under the count after it",
+        &SPENT,
+        &WITH_AN_ANSWER,
+    ),
+    (
+        "row of 2 to 70 lengths that cannot hold, allowance at the count after it",
+        &SPENT,
+        &WITH_AN_ANSWER,
+    ),
+    (
+        "row of 2 to 70 lengths that cannot hold, allowance over the count after it",
+        &ACCEPTED,
+        &WITH_AN_ANSWER,
+    ),
+    ("lengths before a symbol that cannot hold", &ACCEPTED, &WITH_AN_ANSWER),
+    ("lengths before an assigned name that cannot hold", &ACCEPTED, &WITH_AN_ANSWER),
+    ("lengths before an assigned run name that cannot hold", &ACCEPTED, &WITH_AN_ANSWER),
+    ("lengths of a last run name that cannot hold", &ACCEPTED, &MATCHES),
 ];
+const SPENT: [Word; 1] = [Word::Spent];
 const ENDED: [Word; 2] = [Word::Bound, Word::None];
 const ACCEPTED: [Word; 3] = [Word::Bound, Word::None, Word::Spent];
 const SEARCHED: [Word; 4] = [Word::Bound, Word::None, Word::Spent, Word::Unknown];
@@ -59,10 +108,20 @@ const WITH_AN_ANSWER: [Call; 6] = [
     Call::Rules,
     Call::RulesWithClasses,
 ];
+const MATCHES: [Call; 4] =
+    [Call::Match, Call::MatchWithClasses, Call::Rules, Call::RulesWithClasses];
 const WITH_CLASSES: [Call; 3] =
     [Call::MatchWithClasses, Call::NextWithClasses, Call::RulesWithClasses];
 
 impl Histogram {
+    pub(crate) fn new() -> Self {
+        Histogram {
+            cases: 0,
+            words: [[0; CALLS.len()]; Word::ALL.len()],
+            kinds: [[0; CALLS.len()]; KINDS.len()],
+        }
+    }
+
     pub(crate) fn add(&mut self, case: &Case, shown: &Shown) {
         let [number, _, count] = shown.result;
         let word = Word::of(number as u32).expect("a number that has a word");

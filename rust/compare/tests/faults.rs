@@ -141,7 +141,7 @@ impl Library for Faulty {
 
 fn differs(library: Faulty) -> bool {
     let cases = compare::Cases { seed: 7, first: 0, number: 5_000, margin: 24 };
-    compare::compare(&library, &Reference, cases).is_err()
+    compare::compare(&library, &[&Reference], cases).is_err()
 }
 
 #[test]
@@ -214,7 +214,7 @@ fn faults_of_costs_are_found() {
     }
     let cases = compare::Cases { seed: 7, first: 0, number: 5_000, margin: 24 };
     let both = Faulty { cost: less, ..SOUND };
-    let over = compare::compare(&both, &both, cases).err().expect("a count over the bound");
+    let over = compare::compare(&both, &[&both], cases).err().expect("a count over the bound");
     assert!(over.contains(" over "), "{over}");
 }
 

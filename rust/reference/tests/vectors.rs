@@ -2,7 +2,7 @@
 //! is answered with the outcome that the line states. `QONVESHIR_VECTORS` names another folder.
 
 use interface::{Library, Outcome, Word, ABSENT, ANSWER, ENTRY, NAMES, RUNS};
-use reference::Reference;
+use reference::{Independent, Reference, Shortcuts};
 use std::{collections::BTreeMap, env, fs, path::PathBuf};
 
 const FILES: [&str; 7] = [
@@ -17,6 +17,15 @@ const FILES: [&str; 7] = [
 
 #[test]
 fn every_vector_has_its_outcome() {
+    every_vector_by(Reference);
+}
+
+#[test]
+fn every_vector_has_its_outcome_with_shortcuts() {
+    every_vector_by(Shortcuts);
+}
+
+fn every_vector_by(variant: Independent) {
     let folder = env::var_os("QONVESHIR_VECTORS").map_or_else(
         || PathBuf::from(env!("CARGO_MANIFEST_DIR")).join("../../crates/vectors/data"),
         PathBuf::from,
@@ -28,7 +37,7 @@ fn every_vector_has_its_outcome() {
         for line in text.lines().filter(|line| !line.is_empty() && !line.starts_with('#')) {
             let (call, stated) = line.split_once(" = ").expect(line);
             let words: Vec<&str> = call.split(' ').collect();
-            if let Some(answered) = outcome(words[1], &words[2..], stated) {
+            if let Some(answered) = outcome(variant, words[1], &words[2..], stated) {
                 assert_eq!(answered, stated, "{line}");
                 let fields = if words[1] == "next" { 6 } else { 5 };
                 let classes = if words.len() > 2 + fields { " with classes" } else { "" };
@@ -54,30 +63,30 @@ fn every_vector_has_its_outcome() {
 }
 
 /// What is answered, as a line states it, or nothing where it is none of the calls.
-fn outcome(call: &str, fields: &[&str], stated: &str) -> Option<String> {
+fn outcome(variant: Independent, call: &str, fields: &[&str], stated: &str) -> Option<String> {
     Some(match (call, fields) {
         ("match_one" | "match_rules", [inputs @ .., allowance, width]) => {
-            found(call, inputs, &[], number(allowance), number(width))
+            found(variant, call, inputs, &[], number(allowance), number(width))
         }
         ("next", [inputs @ .., given, allowance, width]) => {
-            found(call, inputs, &list(given), number(allowance), number(width))
+            found(variant, call, inputs, &list(given), number(allowance), number(width))
         }
-        ("cost_of", [table, pattern]) => cost(Reference.cost(&bytes(table), &bytes(pattern))),
+        ("cost_of", [table, pattern]) => cost(variant.cost(&bytes(table), &bytes(pattern))),
         ("check_rules", [table, sheet]) => {
-            checked(&bytes(sheet), |sheet| Reference.check_rules(&bytes(table), sheet))
+            checked(&bytes(sheet), |sheet| variant.check_rules(&bytes(table), sheet))
         }
         ("check_states", [table, sheet]) => {
-            checked(&bytes(sheet), |sheet| Reference.check_states(&bytes(table), sheet))
+            checked(&bytes(sheet), |sheet| variant.check_states(&bytes(table), sheet))
         }
         ("place_of", [sheet, index]) => {
-            let part = Reference.entry(&bytes(sheet), number(index));
+            let part = variant.entry(&bytes(sheet), number(index));
             match part.number {
                 0 => format!("at {} {}", part.offset, part.length),
                 number => format!("refused {number}"),
             }
         }
         ("write_sheet", [table, records, lengths, room]) => {
-            written(&bytes(table), &bytes(records), &list(lengths), number(room), stated)
+            written(variant, &bytes(table), &bytes(records), &list(lengths), number(room), stated)
         }
         _ => return None,
     })
@@ -85,18 +94,25 @@ fn outcome(call: &str, fields: &[&str], stated: &str) -> Option<String> {
 
 /// The outcome of a search of a table, a class list if there is one, a pattern or rules (p), and a
 /// record.
-fn found(call: &str, inputs: &[&str], given: &[u16], allowance: u32, width: u32) -> String {
+fn found(
+    variant: Independent,
+    call: &str,
+    inputs: &[&str],
+    given: &[u16],
+    allowance: u32,
+    width: u32,
+) -> String {
     let inputs: Vec<Vec<u8>> = inputs.iter().map(|text| bytes(text)).collect();
     let find = |answer: &mut [u16]| match (call, &inputs[..]) {
-        ("match_one", [t, p, r]) => Reference.match_one(t, p, r, allowance, answer),
+        ("match_one", [t, p, r]) => variant.match_one(t, p, r, allowance, answer),
         ("match_one", [t, c, p, r]) => {
-            Reference.match_one_with_classes(t, c, p, r, allowance, answer)
+            variant.match_one_with_classes(t, c, p, r, allowance, answer)
         }
-        ("next", [t, p, r]) => Reference.next(t, p, r, given, allowance, answer),
-        ("next", [t, c, p, r]) => Reference.next_with_classes(t, c, p, r, given, allowance, answer),
-        ("match_rules", [t, p, r]) => Reference.match_rules(t, p, r, allowance, answer),
+        ("next", [t, p, r]) => variant.next(t, p, r, given, allowance, answer),
+        ("next", [t, c, p, r]) => variant.next_with_classes(t, c, p, r, given, allowance, answer),
+        ("match_rules", [t, p, r]) => variant.match_rules(t, p, r, allowance, answer),
         ("match_rules", [t, c, p, r]) => {
-            Reference.match_rules_with_classes(t, c, p, r, allowance, answer)
+            variant.match_rules_with_classes(t, c, p, r, allowance, answer)
         }
         _ => panic!("{call}: a wrong number of inputs"),
     };
@@ -143,10 +159,17 @@ fn checked(sheet: &[u8], check: impl Fn(&[u8]) -> Outcome) -> String {
 }
 
 /// The outcome of a writing. The sheet is shown as stated where that stands for it.
-fn written(table: &[u8], records: &[u8], lengths: &[u16], room: u32, stated: &str) -> String {
+fn written(
+    variant: Independent,
+    table: &[u8],
+    records: &[u8],
+    lengths: &[u16],
+    room: u32,
+    stated: &str,
+) -> String {
     let before = vec![250; room as usize];
     let mut output = before.clone();
-    let outcome = Reference.write_sheet(table, records, lengths, &mut output);
+    let outcome = variant.write_sheet(table, records, lengths, &mut output);
     let size = outcome.count as usize;
     assert_eq!(output[size..], before[size..], "bytes that must stay");
     if outcome.number != 0 {
