@@ -38,7 +38,8 @@ enum {
   QONVESHIR_SPENT = 11,     /* the count is over the allowance */
   QONVESHIR_FULL = 12,      /* output too short for the sheet */
   QONVESHIR_CLASS = 14,     /* a class list breaks its rules, see below */
-  QONVESHIR_UNKNOWN = 15    /* the given run lengths belong to no answer, see below */
+  QONVESHIR_UNKNOWN = 15,   /* the given run lengths belong to no answer, see below */
+  QONVESHIR_NOT_PLAIN = 23  /* a pattern that the plain tier does not take, see below */
 };
 
 /* Limits, in bytes; of a rule sheet in patterns, of nesting in nodes from the
@@ -155,6 +156,31 @@ qonveshir_outcome qonveshir_next_with_classes(const uint8_t *table, size_t table
                                               const uint16_t *given, size_t given_length,
                                               uint32_t allowance,
                                               uint16_t *answer, size_t answer_length);
+
+/* Matches one plain pattern against one record, without an allowance: it is
+   never spent. A pattern is plain if it has no complement, no name or run name
+   twice, and at most one run name in a list; any other is refused with 23.
+   Nothing is tried twice, since a run's length follows from the numbers of
+   children: a list whose number of elements can't come out fails at once.
+
+   Number and answer are those of qonveshir_match wherever that is not spent;
+   the answer is written as by it. The count is another: one for each pattern
+   node set against a record node or run, up to and with the first that fails;
+   at most the pattern's length in bytes.
+
+   Checks: 8, 1, the pattern, 23, the record. 23 shows count 0. */
+qonveshir_outcome qonveshir_match_plain(const uint8_t *table, size_t table_length,
+                                        const uint8_t *pattern, size_t pattern_length,
+                                        const uint8_t *record, size_t record_length,
+                                        uint16_t *answer, size_t answer_length);
+
+/* The same up to class, with a class list as for qonveshir_match_with_classes.
+   Checks: 8, 1, 14, the pattern, 23, the record. */
+qonveshir_outcome qonveshir_match_plain_with_classes(const uint8_t *table, size_t table_length,
+                                                     const uint8_t *classes, size_t classes_length,
+                                                     const uint8_t *pattern, size_t pattern_length,
+                                                     const uint8_t *record, size_t record_length,
+                                                     uint16_t *answer, size_t answer_length);
 
 /* Tries the rules of a sheet in order, each with the whole allowance, up to the
    first that is bound or spent, whose index is shown. The count is the sum so

@@ -12,6 +12,8 @@ ghost use Rattle.cost.specs.Demands.{Demanded as CostDemanded};
 ghost use Rattle.matcher.specs.Call.{answerOf, bufferOf};
 ghost use Rattle.matcher.specs.Demands.{Demanded, NextDemanded};
 ghost use Rattle.matcher.specs.Next.{nextOf, nextBufferOf};
+ghost use Rattle.plain.specs.Call.{plainOf, plainBufferOf};
+ghost use Rattle.plain.specs.Demands.{PlainDemanded};
 ghost use Rattle.rules.specs.Answer.{ruleIndex};
 ghost use Rattle.rules.specs.Call.{answerOf as rulesAnswer, bufferOf as rulesBuffer};
 ghost use Rattle.rules.specs.Demands.{Demanded as RulesDemanded};
@@ -154,6 +156,39 @@ pub extern "C" fn qonveshir_next_with_classes(
     ensures demand { λ _. ⌜ NextDemanded (now (table .entry)) (some (now (classes .entry))) (now (pattern .entry)) (now («record» .entry)) (now (given .entry)) (now (answer .entry)) allowance (nextOf (now (table .entry)) (some (now (classes .entry))) (now (pattern .entry)) (now («record» .entry)) (now (given .entry)) allowance (length (now (answer .entry)))) (now (answer .exit)) ⌝ }
 {
     let a = matcher::next_with_classes(table, classes, pattern, record, given, allowance, answer);
+    answer_shown(a)
+}
+
+// One plain pattern against one record, without an allowance.
+#[no_mangle]
+pub extern "C" fn qonveshir_match_plain(
+    table: &[u8],
+    pattern: &[u8],
+    record: &[u8],
+    answer: &mut [u16],
+) -> Outcome
+    ensures shown { λ r. ⌜ r ≡ answerShown (plainOf (now (table .entry)) none (now (pattern .entry)) (now («record» .entry)) (length (now (answer .entry)))) ⌝ }
+    ensures buffer { λ _. ⌜ now (answer .exit) ≡ plainBufferOf (now (table .entry)) none (now (pattern .entry)) (now («record» .entry)) (now (answer .entry)) ⌝ }
+    ensures demand { λ _. ⌜ PlainDemanded (now (table .entry)) none (now (pattern .entry)) (now («record» .entry)) (now (answer .entry)) (plainOf (now (table .entry)) none (now (pattern .entry)) (now («record» .entry)) (length (now (answer .entry)))) (now (answer .exit)) ⌝ }
+{
+    let a = plain::match_plain(table, pattern, record, answer);
+    answer_shown(a)
+}
+
+// One plain pattern against one record, up to class.
+#[no_mangle]
+pub extern "C" fn qonveshir_match_plain_with_classes(
+    table: &[u8],
+    classes: &[u8],
+    pattern: &[u8],
+    record: &[u8],
+    answer: &mut [u16],
+) -> Outcome
+    ensures shown { λ r. ⌜ r ≡ answerShown (plainOf (now (table .entry)) (some (now (classes .entry))) (now (pattern .entry)) (now («record» .entry)) (length (now (answer .entry)))) ⌝ }
+    ensures buffer { λ _. ⌜ now (answer .exit) ≡ plainBufferOf (now (table .entry)) (some (now (classes .entry))) (now (pattern .entry)) (now («record» .entry)) (now (answer .entry)) ⌝ }
+    ensures demand { λ _. ⌜ PlainDemanded (now (table .entry)) (some (now (classes .entry))) (now (pattern .entry)) (now («record» .entry)) (now (answer .entry)) (plainOf (now (table .entry)) (some (now (classes .entry))) (now (pattern .entry)) (now («record» .entry)) (length (now (answer .entry)))) (now (answer .exit)) ⌝ }
+{
+    let a = plain::match_plain_with_classes(table, classes, pattern, record, answer);
     answer_shown(a)
 }
 

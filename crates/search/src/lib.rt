@@ -44,7 +44,7 @@ pub const ANSWER_WIDTH: usize = ENTRY_WIDTH * VARIABLES;
 const MOST_ELEMENTS: u8 = 255;
 
 // A part for each variable, and three for where a level halts.
-const PARTS: usize = VARIABLES + 3;
+pub const PARTS: usize = VARIABLES + 3;
 
 // A place in the stack for each byte of the longest pattern.
 const STACK: usize = LONGEST_PATTERN;
@@ -172,7 +172,7 @@ fn also(assigned: u64, v: usize) -> u64
 }
 
 // A part as one number, and back.
-fn packed(p: Part) -> u64
+pub fn packed(p: Part) -> u64
     ensures { λ r. ⌜ r ≡ packed p ⌝ }
 {
     p.offset as u64 + 65536 * p.length as u64 + 4294967296 * p.elements as u64
@@ -1600,7 +1600,7 @@ fn show_absent(end: Outcome, answer: &mut [u16])
 
 // What is found is shown in a buffer of `ANSWER_WIDTH` numbers or more: an entry for each name and run name, absent marks for those that are
 // not assigned. All else stays.
-fn show(outcome: Outcome, parts: &[u64; PARTS], assigned: u64, answer: &mut [u16])
+pub fn show(outcome: Outcome, parts: &[u64; PARTS], assigned: u64, answer: &mut [u16])
     ensures { λ _. ⌜ now (answer .exit) ≡ shownBy outcome (partsIn assigned (now (parts .entry)) 0 variables) (now (answer .entry)) ⌝ }
 {
     if !is_found(outcome) {

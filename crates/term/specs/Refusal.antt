@@ -3,7 +3,7 @@ use Prim.Native.Nat.{ℕ}
 use Rattle.term.specs.declared.Read.{Read}
 use Rattle.term.specs.declared.Read.the-variants.{Ends}
 use Rattle.term.specs.declared.Refusal.{Refusal}
-use Rattle.term.specs.declared.Refusal.the-variants.{Table, Short, Spare, BadCode, Deep, Long, Stray, Narrow, Directory, Full, Unread, Class, Unknown}
+use Rattle.term.specs.declared.Refusal.the-variants.{Table, Short, Spare, BadCode, Deep, Long, Stray, Narrow, Directory, Full, Unread, Class, Unknown, NotPlain}
 
 abbrev pub numberOf : Refusal → ℕ
 numberOf Table = 1
@@ -19,6 +19,7 @@ numberOf Full = 12
 numberOf Unread = 13
 numberOf Class = 14
 numberOf Unknown = 15
+numberOf NotPlain = 23
 
 -- what is read has 0 for a number, and its length in bytes; a refusal has length 0
 abbrev pub readNumber : Read → ℕ

@@ -73,6 +73,7 @@ pub enum Refusal {
     Unread,
     Class,
     Unknown,
+    NotPlain,
 }
 
 // The checks of one node: its own bytes, its number of children, whether it is a list, and the nesting left for its children.
@@ -137,6 +138,7 @@ impl Refusal {
             Refusal::Unread => 13,
             Refusal::Class => 14,
             Refusal::Unknown => 15,
+            Refusal::NotPlain => 23,
         }
     }
 }

@@ -9,6 +9,7 @@ use crate::shown::Shown;
 use crate::text;
 use matcher::match_one_with_classes;
 use matcher::next_with_classes;
+use plain::match_plain_with_classes;
 use rules::match_rules_with_classes;
 use sheet::Writing;
 
@@ -25,6 +26,8 @@ const MATCH_CHECKED: usize = 2;
 const MATCH_RULES_CHECKED: usize = 3;
 
 const NEXT: usize = 4;
+
+const MATCH_PLAIN: usize = 5;
 
 fn of_part(name: &[u8], part: &[u8]) -> Shown {
     let call = text::place_among(b"check_table check_sheet", name);
@@ -93,7 +96,7 @@ fn match_checked(
 }
 
 // A call of the match that brings no class list. The given lengths are those of the call for the next answer.
-fn match_plain(
+fn match_by_symbol(
     call: usize,
     table: &[u8],
     rule: &[u8],
@@ -114,6 +117,10 @@ fn match_plain(
         MATCH_RULES => {
             let first = rules::match_rules(table, rule, record, allowance, answer);
             Answered::BySheet(first)
+        }
+        MATCH_PLAIN => {
+            let one = plain::match_plain(table, rule, record, answer);
+            Answered::ByRule(one)
         }
         _ => match_checked(call, table, &table[..0], rule, record, allowance, answer),
     }
@@ -143,6 +150,10 @@ fn match_by_class(
             let first = match_rules_with_classes(table, classes, rule, record, allowance, answer);
             Answered::BySheet(first)
         }
+        MATCH_PLAIN => {
+            let one = match_plain_with_classes(table, classes, rule, record, answer);
+            Answered::ByRule(one)
+        }
         _ => match_checked(call, table, classes, rule, record, allowance, answer),
     }
 }
@@ -162,11 +173,19 @@ fn match_brought(
     if brings {
         return match_by_class(call, table, classes, rule, record, given, allowance, answer);
     }
-    match_plain(call, table, rule, record, given, allowance, answer)
+    match_by_symbol(call, table, rule, record, given, allowance, answer)
 }
 
 fn allowance(field: &[u8]) -> u32 {
     (text::number(field) % text::UNREAD) as u32
+}
+
+// Where the width of the buffer stands among a call's numbers: the plain tier takes no allowance.
+fn width_place(call: usize) -> usize {
+    if call == MATCH_PLAIN {
+        return 0;
+    }
+    1
 }
 
 // The same with an answer buffer. The numbers are the allowance and the width of the buffer.
@@ -182,7 +201,7 @@ fn of_match(
 ) -> Shown {
     let mut buffer = [shown::UNTOUCHED; shown::BUFFER];
     let allowance = allowance(text::field(numbers, 0));
-    let width = text::number(text::field(numbers, 1));
+    let width = text::number(text::field(numbers, width_place(call)));
     if shown::BUFFER < width {
         return shown::nothing();
     }
@@ -299,13 +318,27 @@ fn without_given(call: usize, fields: &[u8]) -> Shown {
     shown::nothing()
 }
 
+// A call of the plain tier has the width alone after the record.
+fn without_allowance(fields: &[u8]) -> Shown {
+    if text::fits(fields, b"bbbn") {
+        return with_bytes(MATCH_PLAIN, false, fields, &[], text::after(fields, 3));
+    }
+    if text::fits(fields, b"bbbbn") {
+        return with_bytes(MATCH_PLAIN, true, fields, &[], text::after(fields, 4));
+    }
+    shown::nothing()
+}
+
 fn with_match(name: &[u8], fields: &[u8]) -> Shown {
     let call = text::place_among(
-        b"match_one match_rules match_checked match_rules_checked next",
+        b"match_one match_rules match_checked match_rules_checked next match_plain",
         name,
     );
     if call == NEXT {
         return with_given(fields);
+    }
+    if call == MATCH_PLAIN {
+        return without_allowance(fields);
     }
     without_given(call, fields)
 }

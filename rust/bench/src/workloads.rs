@@ -40,6 +40,7 @@ pub fn all() -> Vec<Workload> {
     all.extend(bytes.map(read_entry));
     all.extend(bytes.map(write_sheet));
     all.extend(with_classes());
+    all.extend(plains());
     all
 }
 
@@ -57,6 +58,28 @@ fn with_classes() -> Vec<Workload> {
     all.extend(bytes.map(record_search).map(shared("list within a list, shared classes")));
     all.extend([4, 64].map(|n| rule_sheet("rule sheet, shared classes", n, true)));
     all
+}
+
+/// Plain rules by the plain tier, each beside the full search on the same input.
+fn plains() -> Vec<Workload> {
+    let lists = [10, 20, 80, 250];
+    let mut pairs: Vec<[Workload; 2]> = Vec::new();
+    let symbol = Match::of("", 1, "open", "shut");
+    pairs.push(symbol.beside(["plain: a symbol that differs", "full: a symbol that differs"]));
+    let row = Match::of("", 3, "row(?0, open)", "row(held, open)");
+    pairs.push(row.beside(["plain: row(?0, open)", "full: row(?0, open)"]));
+    for n in lists {
+        let list = |last: &str| format!("gates({}{last})", "open, ".repeat(n - 1));
+        let one = Match::of("", n, "gates(@0, held)", &list("held"));
+        pairs.push(one.beside(["plain: run name, then a symbol", "full: run name, then a symbol"]));
+        let one = Match::of("", n, "gates(held, @0)", &list("held"));
+        pairs.push(one.beside(["plain: first symbol differs", "full: first symbol differs"]));
+        let one = Match::of("", n, &list("?0"), &list("held"));
+        pairs.push(one.beside(["plain: a child pattern each", "full: a child pattern each"]));
+        let one = Match::of("", n, "gates(open, shut)", &list("held"));
+        pairs.push(one.beside(["plain: another number", "full: another number"]));
+    }
+    pairs.into_iter().flatten().collect()
 }
 
 /// The start of the matches on lists of those lengths between which the time of a step is compared.
@@ -112,6 +135,19 @@ impl Match {
             Some(classes) => Reference.find_with_classes(table, classes, pattern, record, u32::MAX),
         };
         self.call(u32::MAX, ("step", outcome.count))
+    }
+
+    /// The call of the plain tier, and that of the full search on the same input.
+    fn beside(self, [plain, full]: [&'static str; 2]) -> [Workload; 2] {
+        let Match { n, table, pattern, record, .. } = &self;
+        let (n, answer) = (*n, RefCell::new([0; ANSWER]));
+        let (table, pattern, record) = (table.clone(), pattern.clone(), record.clone());
+        let run = Box::new(move |library: &dyn Library| {
+            library.match_plain(&table, &pattern, &record, &mut *answer.borrow_mut());
+        });
+        let call = "qonveshir_match_plain";
+        let tier = Workload { name: plain, n, call, unit: "call", units: 1, run };
+        [tier, Match { name: full, ..self }.call(u32::MAX, ("call", 1))]
     }
 
     /// Every check and the start of the search, which has no allowance for a step.

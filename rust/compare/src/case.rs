@@ -11,6 +11,8 @@ pub enum Call {
     MatchWithClasses,
     Next,
     NextWithClasses,
+    Plain,
+    PlainWithClasses,
     Rules,
     RulesWithClasses,
     Write,
@@ -21,11 +23,13 @@ pub enum Call {
 }
 
 /// The calls in their order, with their names.
-pub const CALLS: [(Call, &str); 11] = [
+pub const CALLS: [(Call, &str); 13] = [
     (Call::Match, "match"),
     (Call::MatchWithClasses, "match_with_classes"),
     (Call::Next, "next"),
     (Call::NextWithClasses, "next_with_classes"),
+    (Call::Plain, "match_plain"),
+    (Call::PlainWithClasses, "match_plain_with_classes"),
     (Call::Rules, "match_rules"),
     (Call::RulesWithClasses, "match_rules_with_classes"),
     (Call::Write, "write_sheet"),
@@ -71,6 +75,11 @@ pub enum Kind {
     OneLengthLess,
     OneLengthMore,
     AnotherLength,
+    ManyElements,
+    EmptyRun,
+    SameAsFull,
+    TwiceOrTwo,
+    Complements,
 }
 
 /// A call and its inputs.
@@ -155,6 +164,10 @@ impl Case {
             (Call::Next, [t, p, r]) => library.next(t, p, r, lengths, n, answer),
             (Call::NextWithClasses, [t, c, p, r]) => {
                 library.next_with_classes(t, c, p, r, lengths, n, answer)
+            }
+            (Call::Plain, [t, p, r]) => library.match_plain(t, p, r, answer),
+            (Call::PlainWithClasses, [t, c, p, r]) => {
+                library.match_plain_with_classes(t, c, p, r, answer)
             }
             (Call::Rules, [t, s, r]) => library.match_rules(t, s, r, n, answer),
             (Call::RulesWithClasses, [t, c, s, r]) => {

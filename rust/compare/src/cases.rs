@@ -4,13 +4,14 @@ use crate::case::{Call, Case, Kind};
 use crate::classes::Classes;
 use crate::make::{damaged_sheet, table, Maker};
 use crate::nexts::Search;
+use crate::plains;
 use crate::rng::Rng;
 use interface::{sheet_of, Library, Outcome, Word, ANSWER, SHEET_LIMIT};
 
 /// A case; `library` gives the count that allowances are taken around.
 pub fn case(rng: &mut Rng, library: &dyn Library) -> Case {
     let table = table(rng);
-    match rng.below(104) {
+    match rng.below(120) {
         0..=22 => match_case(rng, table, library),
         23..=38 => match_with_classes_case(rng, table, library),
         39..=49 => next_case(rng, table, library),
@@ -29,10 +30,12 @@ pub fn case(rng: &mut Rng, library: &dyn Library) -> Case {
             let sheet = perhaps_damaged(rng, sheet_of(&records));
             Case::new(Call::CheckStates, vec![table, sheet])
         }
-        _ => {
+        100..=103 => {
             let (pattern, _) = pair(rng, &table, library);
             Case::new(Call::Cost, vec![table, pattern])
         }
+        104..=111 => plain_case(rng, table, library),
+        _ => plain_with_classes_case(rng, table, library),
     }
 }
 
@@ -49,6 +52,24 @@ fn match_with_classes_case(rng: &mut Rng, table: Vec<u8>, library: &dyn Library)
     let UpToClass { classes, pattern, record, kinds, .. } = made.damaged(rng, kinds);
     let inputs = vec![classes.table, classes.list, pattern, record];
     Case { number, kinds, room: room(rng), ..Case::new(Call::MatchWithClasses, inputs) }
+}
+
+fn plain_case(rng: &mut Rng, table: Vec<u8>, library: &dyn Library) -> Case {
+    let (pattern, record) = plains::pair(rng, &table, library);
+    let full = library.find(&table, &pattern, &record, MOST);
+    let kinds = plains::kinds(&table, &pattern, &record, full);
+    let case = Case::new(Call::Plain, vec![table, pattern, record]);
+    Case { kinds, room: room(rng), ..case }
+}
+
+fn plain_with_classes_case(rng: &mut Rng, table: Vec<u8>, library: &dyn Library) -> Case {
+    let made = up_to_class(rng, table, library, plains::pair);
+    let Classes { table, list } = &made.classes;
+    let full = library.find_with_classes(table, list, &made.pattern, &made.record, MOST);
+    let kinds = plains::kinds(table, &made.pattern, &made.record, full);
+    let UpToClass { classes, pattern, record, kinds, .. } = made.damaged(rng, kinds);
+    let inputs = vec![classes.table, classes.list, pattern, record];
+    Case { kinds, room: room(rng), ..Case::new(Call::PlainWithClasses, inputs) }
 }
 
 fn next_case(rng: &mut Rng, table: Vec<u8>, library: &dyn Library) -> Case {
@@ -95,7 +116,7 @@ impl UpToClass {
 }
 
 /// A pattern and a record over a table.
-type Pair = (Vec<u8>, Vec<u8>);
+pub type Pair = (Vec<u8>, Vec<u8>);
 
 /// A match up to class, of a pair that is made so.
 fn up_to_class(
@@ -123,7 +144,7 @@ fn up_to_class(
 }
 
 /// A pattern and a record, any.
-fn pair(rng: &mut Rng, table: &[u8], library: &dyn Library) -> Pair {
+pub fn pair(rng: &mut Rng, table: &[u8], library: &dyn Library) -> Pair {
     if rng.chance(4) {
         return long_search(rng, table, library);
     }

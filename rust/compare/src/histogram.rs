@@ -13,8 +13,8 @@ pub struct Histogram {
 }
 
 /// The kinds in their order, the words with which they count, and the calls that must have them.
-const KINDS: [(&str, &[Word], &[Call]); 27] = [
-    ("record over 1,000 bytes, not spent", &ENDED, &SEARCHES),
+const KINDS: [(&str, &[Word], &[Call]); 32] = [
+    ("record over 1,000 bytes, not spent", &ENDED, &RECORDS),
     ("pattern over 100 bytes, not spent", &ENDED, &PATTERNS),
     ("count over 1,000, not spent", &ENDED, &SEARCHES),
     ("over 32 complements in a row, not spent", &ENDED, &WITH_A_PATTERN),
@@ -22,45 +22,65 @@ const KINDS: [(&str, &[Word], &[Call]); 27] = [
     ("allowance one below the count", &SEARCHED, &SEARCHES),
     ("allowance at the count", &SEARCHED, &SEARCHES),
     ("allowance far above the count", &SEARCHED, &SEARCHES),
-    ("each symbol its own class", &ACCEPTED, &WITH_CLASSES),
-    ("symbols that share a class", &ACCEPTED, &WITH_CLASSES),
-    ("another answer than without classes", &ACCEPTED, &WITH_CLASSES),
+    ("each symbol its own class", &ACCEPTED, &BRINGING),
+    ("symbols that share a class", &ACCEPTED, &BRINGING),
+    ("another answer than without classes", &ACCEPTED, &BRINGING),
     ("a name's parts the same up to class, of unlike bytes", &ACCEPTED, &WITH_CLASSES),
     ("a run name's parts the same up to class, of unlike bytes", &ACCEPTED, &WITH_CLASSES),
     ("a name's parts with unlike numbers of children of one class", &ACCEPTED, &WITH_CLASSES),
     ("a run name's parts with unlike numbers of children of one class", &ACCEPTED, &WITH_CLASSES),
-    ("class list that is empty", &[Word::Class], &WITH_CLASSES),
-    ("class list one short", &[Word::Class], &WITH_CLASSES),
-    ("class list one long", &[Word::Class], &WITH_CLASSES),
-    ("class above its own index", &[Word::Class], &WITH_CLASSES),
-    ("class that is not its own", &[Word::Class], &WITH_CLASSES),
-    ("class with unlike table bytes", &[Word::Class], &WITH_CLASSES),
+    ("class list that is empty", &[Word::Class], &BRINGING),
+    ("class list one short", &[Word::Class], &BRINGING),
+    ("class list one long", &[Word::Class], &BRINGING),
+    ("class above its own index", &[Word::Class], &BRINGING),
+    ("class that is not its own", &[Word::Class], &BRINGING),
+    ("class with unlike table bytes", &[Word::Class], &BRINGING),
     ("after the only answer, which has no run names, not spent", &ENDED, &NEXTS),
     ("after the first answer by its run lengths, not spent", &ENDED, &NEXTS),
     ("after a later answer by its run lengths, not spent", &ENDED, &NEXTS),
     ("one given length less", &[Word::Unknown], &NEXTS),
     ("one given length more", &[Word::Unknown], &NEXTS),
     ("another given length", &[Word::Unknown], &NEXTS),
+    ("a list of 20 elements or more, plain", &ENDED, &PLAINS),
+    ("an empty run, plain", &[Word::Bound], &PLAINS),
+    ("plain, where the full search is not spent", &ENDED, &PLAINS),
+    ("a name or run name twice, or two run names in a list", &[Word::NotPlain], &PLAINS),
+    ("a complement, for the plain tier", &[Word::NotPlain], &PLAINS),
 ];
 const ENDED: [Word; 2] = [Word::Bound, Word::None];
 const ACCEPTED: [Word; 3] = [Word::Bound, Word::None, Word::Spent];
 const SEARCHED: [Word; 4] = [Word::Bound, Word::None, Word::Spent, Word::Unknown];
-const PATTERNS: [Call; 3] = [Call::Match, Call::MatchWithClasses, Call::Cost];
-const WITH_A_PATTERN: [Call; 5] =
-    [Call::Match, Call::MatchWithClasses, Call::Next, Call::NextWithClasses, Call::Cost];
-const NEXTS: [Call; 2] = [Call::Next, Call::NextWithClasses];
-const SEARCHES: [Call; 4] =
-    [Call::Match, Call::MatchWithClasses, Call::Next, Call::NextWithClasses];
-const WITH_AN_ANSWER: [Call; 6] = [
+const PATTERNS: [Call; 5] =
+    [Call::Match, Call::MatchWithClasses, Call::Plain, Call::PlainWithClasses, Call::Cost];
+const RECORDS: [Call; 6] = [
     Call::Match,
     Call::MatchWithClasses,
     Call::Next,
     Call::NextWithClasses,
+    Call::Plain,
+    Call::PlainWithClasses,
+];
+const WITH_A_PATTERN: [Call; 5] =
+    [Call::Match, Call::MatchWithClasses, Call::Next, Call::NextWithClasses, Call::Cost];
+const PLAINS: [Call; 2] = [Call::Plain, Call::PlainWithClasses];
+const NEXTS: [Call; 2] = [Call::Next, Call::NextWithClasses];
+const SEARCHES: [Call; 4] =
+    [Call::Match, Call::MatchWithClasses, Call::Next, Call::NextWithClasses];
+const WITH_AN_ANSWER: [Call; 8] = [
+    Call::Match,
+    Call::MatchWithClasses,
+    Call::Next,
+    Call::NextWithClasses,
+    Call::Plain,
+    Call::PlainWithClasses,
     Call::Rules,
     Call::RulesWithClasses,
 ];
 const WITH_CLASSES: [Call; 3] =
     [Call::MatchWithClasses, Call::NextWithClasses, Call::RulesWithClasses];
+
+const BRINGING: [Call; 4] =
+    [Call::MatchWithClasses, Call::NextWithClasses, Call::PlainWithClasses, Call::RulesWithClasses];
 
 impl Histogram {
     pub(crate) fn add(&mut self, case: &Case, shown: &Shown) {
@@ -68,7 +88,7 @@ impl Histogram {
         let word = Word::of(number as u32).expect("a number that has a word");
         let call = case.call as usize;
         self.cases += 1;
-        self.words[word as usize][call] += 1;
+        self.words[place(word)][call] += 1;
         let terms = shown.has_other_bytes_than_terms().then_some(Kind::OtherBytesThanTerms);
         for kind in sizes(case, count).chain(terms).chain(case.kinds.iter().copied()) {
             let counts = KINDS[kind as usize].1.contains(&word);
@@ -98,7 +118,7 @@ impl Histogram {
 fn sizes(case: &Case, count: u64) -> impl Iterator<Item = Kind> {
     let (pattern, record): (&[u8], &[u8]) = match (case.call, &case.inputs[..]) {
         (Call::Cost, [_, pattern]) => (pattern, &[]),
-        (call, [.., pattern, record]) if SEARCHES.contains(&call) => (pattern, record),
+        (call, [.., pattern, record]) if RECORDS.contains(&call) => (pattern, record),
         _ => (&[], &[]),
     };
     let complements = pattern.split(|&code| code != COMPLEMENT).any(|row| row.len() > 32);
@@ -106,6 +126,11 @@ fn sizes(case: &Case, count: u64) -> impl Iterator<Item = Kind> {
     let sizes = [record.len() > 1_000, pattern.len() > 100, long_search, complements];
     let kinds = [Kind::LongRecord, Kind::LongPattern, Kind::LongSearch, Kind::ManyComplements];
     kinds.into_iter().zip(sizes).filter_map(|(kind, has)| has.then_some(kind))
+}
+
+/// The place of a word among all.
+fn place(word: Word) -> usize {
+    Word::ALL.iter().position(|&other| other == word).expect("a word")
 }
 
 /// Whether a call can give a word.
@@ -116,14 +141,14 @@ fn can_give(call: Call, word: Word) -> bool {
         Word::Table | Word::Short | Word::Spare | Word::Code | Word::Deep => call != Entry,
         Word::Stray => !matches!(call, Write | Entry | CheckStates),
         Word::None => !matches!(call, Write | Entry | CheckRules | CheckStates),
-        Word::Narrow | Word::Spent => {
-            !matches!(call, Write | Entry | CheckRules | CheckStates | Cost)
-        }
-        Word::Directory => !WITH_A_PATTERN.contains(&call),
+        Word::Narrow => !matches!(call, Write | Entry | CheckRules | CheckStates | Cost),
+        Word::Spent => can_give(call, Word::Narrow) && !PLAINS.contains(&call),
+        Word::Directory => !WITH_A_PATTERN.contains(&call) && !PLAINS.contains(&call),
         Word::Full => call == Write,
         Word::Unread => false,
-        Word::Class => WITH_CLASSES.contains(&call),
+        Word::Class => BRINGING.contains(&call),
         Word::Unknown => NEXTS.contains(&call),
+        Word::NotPlain => PLAINS.contains(&call),
     }
 }
 

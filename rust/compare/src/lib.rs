@@ -7,6 +7,7 @@ mod classes;
 mod histogram;
 mod make;
 mod nexts;
+mod plains;
 mod rng;
 
 pub use histogram::Histogram;

@@ -19,6 +19,7 @@ struct Faulty {
     output: fn(&Outcome, &mut [u8]),
     part: fn(&mut Part),
     cost: fn(&mut Outcome),
+    plain: fn(&mut Outcome),
 }
 
 const SOUND: Faulty = Faulty {
@@ -29,6 +30,7 @@ const SOUND: Faulty = Faulty {
     output: |_, _| (),
     part: |_| (),
     cost: |_| (),
+    plain: |_| (),
 };
 
 impl Faulty {
@@ -88,6 +90,28 @@ impl Library for Faulty {
         let (classes, given) = ((self.classes)(t, classes), (self.given)(given));
         let outcome = Reference.next_with_classes(t, &classes, p, r, &given, allowance, a);
         (self.answer)(&outcome, a);
+        self.spoil(outcome)
+    }
+
+    fn match_plain(&self, t: &[u8], p: &[u8], r: &[u8], a: &mut [u16]) -> Outcome {
+        let mut outcome = Reference.match_plain(t, p, r, a);
+        (self.answer)(&outcome, a);
+        (self.plain)(&mut outcome);
+        self.spoil(outcome)
+    }
+
+    fn match_plain_with_classes(
+        &self,
+        t: &[u8],
+        classes: &[u8],
+        p: &[u8],
+        r: &[u8],
+        a: &mut [u16],
+    ) -> Outcome {
+        let classes = (self.classes)(t, classes);
+        let mut outcome = Reference.match_plain_with_classes(t, &classes, p, r, a);
+        (self.answer)(&outcome, a);
+        (self.plain)(&mut outcome);
         self.spoil(outcome)
     }
 
@@ -216,6 +240,16 @@ fn faults_of_costs_are_found() {
     let both = Faulty { cost: less, ..SOUND };
     let over = compare::compare(&both, &both, cases).err().expect("a count over the bound");
     assert!(over.contains(" over "), "{over}");
+}
+
+#[test]
+fn faults_of_the_plain_tier_are_found() {
+    let without_failing = |outcome: &mut Outcome| outcome.count -= u64::from(outcome.number == 10);
+    let taken = |outcome: &mut Outcome| outcome.number -= outcome.number & 23 & 13;
+    let counted = |outcome: &mut Outcome| outcome.count += u64::from(outcome.number == 23);
+    for (i, plain) in [without_failing, taken, counted].into_iter().enumerate() {
+        assert!(differs(Faulty { plain, ..SOUND }), "fault {i}");
+    }
 }
 
 #[test]

@@ -62,15 +62,16 @@ pub enum Word {
     Unread,
     Class,
     Unknown,
+    NotPlain = 23,
 }
 
 impl Word {
     /// Every word, in the order of the numbers.
-    pub const ALL: [Word; 16] = {
+    pub const ALL: [Word; 17] = {
         use Word::*;
         [
             Bound, Table, Short, Spare, Code, Deep, Long, Stray, Narrow, Directory, None, Spent,
-            Full, Unread, Class, Unknown,
+            Full, Unread, Class, Unknown, NotPlain,
         ]
     };
 
@@ -81,7 +82,7 @@ impl Word {
 
     /// The word of a number.
     pub fn of(number: u32) -> Option<Word> {
-        Self::ALL.get(number as usize).copied()
+        Self::ALL.into_iter().find(|word| word.number() == number)
     }
 
     /// The word as it is written.
@@ -103,6 +104,7 @@ impl Word {
             Word::Unread => "unread",
             Word::Class => "class",
             Word::Unknown => "unknown",
+            Word::NotPlain => "not plain",
         }
     }
 
@@ -132,6 +134,10 @@ impl Word {
             }
             Word::Unknown => {
                 "the given run lengths are not one for each free run name, or belong to no answer"
+            }
+            Word::NotPlain => {
+                "a pattern for the plain tier with a complement, a name or run name twice, or two \
+                 run names in a list"
             }
         }
     }
@@ -278,6 +284,25 @@ pub trait Library {
         answer: &mut [u16],
     ) -> Outcome;
 
+    /// Matches one plain pattern against one record; never spent.
+    fn match_plain(
+        &self,
+        table: &[u8],
+        pattern: &[u8],
+        record: &[u8],
+        answer: &mut [u16],
+    ) -> Outcome;
+
+    /// [`match_plain`](Self::match_plain) up to class.
+    fn match_plain_with_classes(
+        &self,
+        table: &[u8],
+        classes: &[u8],
+        pattern: &[u8],
+        record: &[u8],
+        answer: &mut [u16],
+    ) -> Outcome;
+
     /// Tries the rules of a sheet up to the first that is bound or spent.
     fn match_rules(
         &self,
@@ -348,5 +373,26 @@ pub trait Library {
         let outcome =
             self.match_one_with_classes(table, classes, pattern, record, allowance, buffer);
         (outcome, answer)
+    }
+
+    /// [`match_plain_with_classes`](Self::match_plain_with_classes) with a buffer of its own, as
+    /// [`find`](Self::find) has.
+    fn find_plain_with_classes(
+        &self,
+        table: &[u8],
+        classes: &[u8],
+        pattern: &[u8],
+        record: &[u8],
+    ) -> (Outcome, Answer) {
+        let mut answer = Answer([ABSENT; ANSWER]);
+        let outcome = self.match_plain_with_classes(table, classes, pattern, record, &mut answer.0);
+        (outcome, answer)
+    }
+
+    /// Whether an accepted pattern is plain. The record's checks come after 23, so an empty record
+    /// tells it.
+    fn is_plain(&self, table: &[u8], pattern: &[u8]) -> bool {
+        let outcome = self.match_plain(table, pattern, &[], &mut [ABSENT; ANSWER]);
+        outcome.word() != Some(Word::NotPlain)
     }
 }

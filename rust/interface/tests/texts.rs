@@ -10,7 +10,7 @@ fn read(file: &str) -> String {
 
 /// The code of the proved crates, without comments.
 fn rattle() -> String {
-    let crates = ["term", "search", "matcher", "cost", "sheet", "rules", "qonveshir"];
+    let crates = ["term", "search", "matcher", "plain", "cost", "sheet", "rules", "qonveshir"];
     let code = crates.map(|name| read(&format!("crates/{name}/src/lib.rt"))).concat();
     let lines = code.lines().filter(|line| !line.trim_start().starts_with("//"));
     lines.map(|line| format!("{line}\n")).collect()
@@ -29,7 +29,7 @@ fn numbers_of_the_header() {
     let words = Word::ALL.iter().filter(|&&word| word != Word::Unread);
     let words = words.map(|word| match word {
         Word::Bound => "done = 0".into(),
-        _ => format!("{} = {}", word.text(), word.number()),
+        _ => format!("{} = {}", word.text().replace(' ', "_"), word.number()),
     });
     assert_eq!(numbers.collect::<Vec<_>>(), words.collect::<Vec<_>>());
 }
@@ -44,7 +44,7 @@ fn numbers_of_the_proved_crates() {
         .filter_map(|(name, number)| Some((variant(name), number.parse().ok()?)))
         .collect();
     for word in Word::ALL {
-        let name = if word == Word::Code { "badcode" } else { word.text() };
+        let name = if word == Word::Code { "badcode".into() } else { word.text().replace(' ', "") };
         let numbers: Vec<u32> =
             arms.iter().filter(|arm| arm.0 == name).map(|&(_, number)| number).collect();
         assert!(!numbers.is_empty(), "{name} has no number");
@@ -158,7 +158,7 @@ type Call = (String, Vec<String>, String);
 #[test]
 fn calls() {
     let header = header_calls(&read("include/qonveshir.h"));
-    assert_eq!(header.len(), 11);
+    assert_eq!(header.len(), 13);
     assert_eq!(rattle_calls(&rattle()), header);
     assert_eq!(rust_calls(&read("rust/proved/src/link.rs")), header);
 }

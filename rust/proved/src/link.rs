@@ -19,6 +19,10 @@ macro_rules! library {
             next_with_classes = qonveshir_next_with_classes(
                 table: u8, classes: u8, pattern: u8, record: u8,
                 given: u16; allowance; answer: u16) -> Outcome;
+            match_plain = qonveshir_match_plain(
+                table: u8, pattern: u8, record: u8; ; answer: u16) -> Outcome;
+            match_plain_with_classes = qonveshir_match_plain_with_classes(
+                table: u8, classes: u8, pattern: u8, record: u8; ; answer: u16) -> Outcome;
             match_rules = qonveshir_match_rules(
                 table: u8, rules: u8, record: u8; allowance; answer: u16) -> Outcome;
             match_rules_with_classes = qonveshir_match_rules_with_classes(

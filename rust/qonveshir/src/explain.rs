@@ -41,7 +41,7 @@ pub fn explain(arguments: &[&str]) -> Reply {
 fn meaning(number: u32) -> Reply {
     match Word::of(number) {
         Some(word) => Ok(format!("{number} {}: {}\n", word.text(), word.meaning())),
-        None => trouble(format!("{number}: numbers are 0 to {}", Word::ALL.len() - 1)),
+        None => trouble(format!("{number}: numbers are 0 to 15, and 23")),
     }
 }
 

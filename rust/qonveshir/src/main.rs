@@ -23,8 +23,14 @@ usage:
                                             match a rule against a state, both given as text, and
                                             show the first answer, or all of them; N, 100,000 if
                                             not given, is the allowance of each answer
+  qonveshir match --plain SYMBOLS RULE STATE
+                                            match a plain rule against a state by the plain tier,
+                                            which needs no allowance: a rule without complements,
+                                            with no name or run name twice and at most one run
+                                            name in a list
   qonveshir cost SYMBOLS SHEET              print how much each rule of a sheet can cost at most, a
-                                            line for each: an allowance that is never spent on it
+                                            line for each: an allowance that is never spent on it;
+                                            and whether it is plain
   qonveshir explain TABLE [--classes CLASSES] [--rules SHEET] [--states SHEET]
                     [--pattern FILE] [--record FILE]
                                             say why an input is refused
@@ -101,6 +107,7 @@ fn reply(arguments: &[&str]) -> Reply {
         ["unpack", "rules", symbols, sheet] => sheets::unpack_rules(symbols, sheet),
         ["unpack", "states", symbols, sheet] => sheets::unpack_states(symbols, sheet),
         ["cost", symbols, sheet] => sheets::cost(symbols, sheet),
+        ["match", "--plain", symbols, rule, state] => matching::find_plain(symbols, rule, state),
         ["match", rest @ ..] => matched(rest),
         ["explain", rest @ ..] if !rest.is_empty() => explain::explain(rest),
         _ => wrong_call(),

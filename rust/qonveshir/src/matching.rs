@@ -17,6 +17,19 @@ pub fn find(symbols: &str, rule: &str, state: &str, allowance: u32) -> Reply {
     }
 }
 
+/// The same by the plain tier, which takes no allowance.
+pub fn find_plain(symbols: &str, rule: &str, state: &str) -> Reply {
+    let asked = Asked::read(symbols, rule, state)?;
+    let (table, classes) = (asked.symbols.table(), asked.symbols.classes());
+    let (outcome, answer) =
+        ENGINE.0.find_plain_with_classes(table, classes, &asked.pattern, &asked.record);
+    match outcome.word() {
+        Some(Word::Bound) => asked.bound(&answer, outcome.count),
+        Some(Word::None) => Err(Stop::No(none(outcome.count))),
+        _ => Err(Stop::No(stopped(outcome))),
+    }
+}
+
 /// The same for every answer, in order, each with the whole allowance and printed when it is found.
 pub fn find_all(symbols: &str, rule: &str, state: &str, allowance: u32) -> Reply {
     let asked = Asked::read(symbols, rule, state)?;

@@ -58,9 +58,10 @@ pub fn cost(symbols: &str, path: &str) -> Reply {
     lines(path, &sheet, |rule| {
         let cost = ENGINE.0.cost(symbols.table(), rule);
         let text = symbols.show_pattern(rule)?;
+        let plain = if ENGINE.0.is_plain(symbols.table(), rule) { ", plain" } else { "" };
         Ok(match cost.word() {
-            Some(Word::Bound) => format!("at most {}: {text}", cost.count),
-            _ => format!("no bound: {text}"),
+            Some(Word::Bound) => format!("at most {}{plain}: {text}", cost.count),
+            _ => format!("no bound{plain}: {text}"),
         })
     })
 }

@@ -111,6 +111,25 @@ fn options_of_a_match() {
 }
 
 #[test]
+fn matches_by_the_plain_tier() {
+    let folder = folder("plain");
+    fs::write(folder.join("classes"), "open held gates/* stopped=held").unwrap();
+    let find = |rule, state| run(&folder, &["match", "--plain", "classes", rule, state]);
+    let bound = "bound 3\n@0 = open, held  (offset 2, length 2, terms 2)\n";
+    assert_eq!(find("gates(@0, held)", "gates(open, held, stopped)"), (0, bound.into()));
+    assert_eq!(find("gates(@0, held)", "gates()"), (1, "none 1\n".into()));
+    assert_eq!(find("gates(@0, held)", "gates(held, open)"), (1, "none 3\n".into()));
+    for rule in ["!held", "gates(?0, ?0)", "gates(@0, @1)"] {
+        assert_eq!(find(rule, "open"), (1, "refused 23\n".into()), "{rule}");
+    }
+    let (status, text) = run(&folder, &["explain", "23"]);
+    assert_eq!((status, &text[..12]), (0, "23 not plain"));
+    let wrong = (2, "qonveshir: a wrong call; see qonveshir --help\n".into());
+    assert_eq!(run(&folder, &["match", "--plain", "--all", "classes", "open", "open"]), wrong);
+    fs::remove_dir_all(folder).unwrap();
+}
+
+#[test]
 fn matches_up_to_class() {
     let folder = folder("classes");
     let text = "open held gate/1 row/2 gates/* stopped=held door=gate";
@@ -162,10 +181,12 @@ fn packs_and_unpacks() {
 fn shows_what_rules_cost() {
     let folder = folder("cost");
     let rules = ["row(!?0, ?0)", "gates(@0, !open)", "!!gates(gates(), !gate(?1))", "!gates(@0)"];
+    let rules = [&rules[..], &["row(?0, open)", "gates(@0, open)", "gates(@0, @1)"]].concat();
     fs::write(folder.join("rules"), rules.join("\n")).unwrap();
     let command = |text: &str| run(&folder, &text.split(' ').collect::<Vec<_>>());
-    assert_eq!(command("pack rules symbols rules r"), (0, "r: 40 bytes\n".into()));
+    assert_eq!(command("pack rules symbols rules r"), (0, "r: 63 bytes\n".into()));
     let costs = ["at most 4", "no bound", "at most 7", "no bound"];
+    let costs = [&costs[..], &["at most 3, plain", "no bound, plain", "no bound"]].concat();
     let lines = costs.iter().zip(rules).map(|(cost, rule)| format!("{cost}: {rule}\n"));
     assert_eq!(command("cost symbols r"), (0, lines.collect()));
     fs::write(folder.join("r"), [1, 0, 6, 0, 1, 0, 232]).unwrap();

@@ -9,6 +9,7 @@
 pub mod classes;
 pub mod fault;
 pub mod pattern;
+pub mod plain;
 pub mod record;
 pub mod search;
 pub mod sheet;
@@ -74,6 +75,27 @@ impl Library for Reference {
         answer: &mut [u16],
     ) -> Outcome {
         shown(next(table, Some(classes), pattern, record, given, allowance, answer))
+    }
+
+    fn match_plain(
+        &self,
+        table: &[u8],
+        pattern: &[u8],
+        record: &[u8],
+        answer: &mut [u16],
+    ) -> Outcome {
+        shown(match_plain(table, None, pattern, record, answer))
+    }
+
+    fn match_plain_with_classes(
+        &self,
+        table: &[u8],
+        classes: &[u8],
+        pattern: &[u8],
+        record: &[u8],
+        answer: &mut [u16],
+    ) -> Outcome {
+        shown(match_plain(table, Some(classes), pattern, record, answer))
     }
 
     fn match_rules(
@@ -240,6 +262,24 @@ fn next(
         }
         Ok(Outcome::counted(found.word(), 0, count))
     })
+}
+
+/// Matches one plain pattern, up to class if a class list is brought.
+fn match_plain(
+    table: &[u8],
+    brought: Option<&[u8]>,
+    pattern: &[u8],
+    record: &[u8],
+    answer: &mut [u16],
+) -> Result<Outcome, Refusal> {
+    let answer = wide(answer)?;
+    let table = Table::read(table)?;
+    let classes = read_classes(table, brought)?;
+    Steps::new().read(table, pattern)?;
+    let rule = plain::read(table, pattern).ok_or(Fault::new(Word::NotPlain, 0))?;
+    let ends = &mut Vec::new();
+    let record = Record::read(table, record, ends)?;
+    Ok(plain::run(table, classes, &rule, record, answer))
 }
 
 /// Tries the patterns of a sheet, up to class if a class list is brought.
