@@ -3,6 +3,7 @@ use cost::Cost;
 use matcher::Answer;
 use rules::RuleAnswer;
 use sheet::Checked;
+use stored::Move;
 ghost use mathlib.Core.Path.{_≡_};
 ghost use mathlib.Core.Option.{none, some};
 ghost use Prim.Native.Nat.{_≤_};
@@ -20,7 +21,9 @@ ghost use Rattle.sheet.specs.Entry.{placeOf};
 ghost use Rattle.sheet.specs.Contents.{checkRules, checkStates};
 ghost use Rattle.sheet.specs.Writing.{writing, outputAfter};
 ghost use Rattle.sheet.specs.Demands.{Demanded as SheetDemanded};
-ghost use Rattle.qonveshir.specs.Shown.{largest, outcome, part, answerShown, rulesShown, writingShown, checkShown, placeShown, costShown};
+ghost use Rattle.stored.specs.Move.{storing, restoring, moved, outputAfter as outputMoved};
+ghost use Rattle.stored.specs.Demands.{RecordOf, StoredOf, Demanded as MoveDemanded};
+ghost use Rattle.qonveshir.specs.Shown.{largest, outcome, part, answerShown, rulesShown, writingShown, checkShown, placeShown, costShown, moveShown};
 
 // Document 01's number, 0 where nothing is refused; the index of the rule shown or of the entry at fault, else 0; and the count.
 #[repr(C)]
@@ -83,6 +86,12 @@ fn cost_shown(c: Cost) -> Outcome
     ensures { λ r. ⌜ r ≡ costShown c ⌝ }
 {
     shown(c.number(), 0, c.count() as u64)
+}
+
+fn move_shown(m: Move) -> Outcome
+    ensures { λ r. ⌜ r ≡ moveShown m ⌝ }
+{
+    shown(m.number(), 0, m.length() as u64)
 }
 
 // One pattern against one record.
@@ -240,4 +249,26 @@ pub extern "C" fn qonveshir_cost(table: &[u8], pattern: &[u8]) -> Outcome
 {
     let c = cost::cost_of(table, pattern);
     cost_shown(c)
+}
+
+// Writes the stored form of a record.
+#[no_mangle]
+pub extern "C" fn qonveshir_store(table: &[u8], record: &[u8], output: &mut [u8]) -> Outcome
+    ensures shown { λ r. ⌜ r ≡ moveShown (moved (storing (now (table .entry)) (now («record» .entry))) (length (now (output .entry)))) ⌝ }
+    ensures contents { λ _. ⌜ now (output .exit) ≡ outputMoved (storing (now (table .entry)) (now («record» .entry))) (now (output .entry)) ⌝ }
+    ensures demand { λ r. ⌜ MoveDemanded (RecordOf (now (table .entry))) (StoredOf (now (table .entry))) (restoring (now (table .entry))) (now («record» .entry)) (now (output .entry)) (r .number) (r .count) (now (output .exit)) ⌝ }
+{
+    let m = stored::store(table, record, output);
+    move_shown(m)
+}
+
+// Writes the old form of a stored record.
+#[no_mangle]
+pub extern "C" fn qonveshir_restore(table: &[u8], stored: &[u8], output: &mut [u8]) -> Outcome
+    ensures shown { λ r. ⌜ r ≡ moveShown (moved (restoring (now (table .entry)) (now (stored .entry))) (length (now (output .entry)))) ⌝ }
+    ensures contents { λ _. ⌜ now (output .exit) ≡ outputMoved (restoring (now (table .entry)) (now (stored .entry))) (now (output .entry)) ⌝ }
+    ensures demand { λ r. ⌜ MoveDemanded (StoredOf (now (table .entry))) (RecordOf (now (table .entry))) (storing (now (table .entry))) (now (stored .entry)) (now (output .entry)) (r .number) (r .count) (now (output .exit)) ⌝ }
+{
+    let m = stored::restore(table, stored, output);
+    move_shown(m)
 }

@@ -152,7 +152,7 @@ fn symbol_node(table: &[u8], s: &[u8], left: u8, b: u8) -> Node
     plain_node(entry, left)
 }
 
-fn node_at(table: &[u8], s: &[u8], records: bool, in_list: bool, left: u8) -> Node
+pub fn node_at(table: &[u8], s: &[u8], records: bool, in_list: bool, left: u8) -> Node
     ensures { λ r. ⌜ r ≡ nodeAt (now (table .entry)) records «in_list» left (now (s .entry)) ⌝ }
 {
     if s.len() == 0 {
@@ -192,7 +192,7 @@ impl Frame {
 }
 
 // A refused node's refusal; an open node has none, and is never asked.
-fn node_refusal(n: Node) -> Read
+pub fn node_refusal(n: Node) -> Read
     ensures { λ r. ⌜ HandsOn n r ⌝ }
 {
     match n {

@@ -63,6 +63,7 @@ pub enum Refusal {
     Unread,
     Class,
     Unknown,
+    Length,
 }
 
 // A part of a record: offset and length in bytes, and the number of its elements.
@@ -103,6 +104,7 @@ impl Refusal {
             Refusal::Unread => 13,
             Refusal::Class => 14,
             Refusal::Unknown => 15,
+            Refusal::Length => 17,
         }
     }
 }
@@ -267,7 +269,7 @@ fn same_byte(classes: &[u8], counting: bool, x: u8, y: u8) -> bool
 }
 
 // Whether the byte after x is a list's number of children, where x is one or not.
-fn count_next(table: &[u8], counting: bool, x: u8) -> bool
+pub fn count_next(table: &[u8], counting: bool, x: u8) -> bool
     ensures { λ r. ⌜ r ≡ countNext (now (table .entry)) counting x ⌝ }
 {
     if counting {

@@ -394,6 +394,38 @@ fn with_output(name: &[u8], fields: &[u8], stated: &[u8]) -> Shown {
     of_output(fields, text::field(stated, 3))
 }
 
+// Moves bytes to the other form into an output of so many bytes, and compares it with what is stated.
+fn of_move(name: &[u8], table: &[u8], bytes: &[u8], room: usize, stated: &[u8]) -> Shown {
+    let mut output = shown::blank();
+    if text::ROOM < room {
+        return shown::nothing();
+    }
+    let call = text::place_among(b"store restore", name);
+    match call {
+        0 => {
+            let there = stored::store(table, bytes, &mut output[0..room]);
+            shown::show_move(there, &output, stated)
+        }
+        1 => {
+            let back = stored::restore(table, bytes, &mut output[0..room]);
+            shown::show_move(back, &output, stated)
+        }
+        _ => shown::nothing(),
+    }
+}
+
+fn with_move(name: &[u8], fields: &[u8], stated: &[u8]) -> Shown {
+    let mut table_space = text::space();
+    let mut space = text::space();
+    if !text::fits(fields, b"bbn") {
+        return shown::nothing();
+    }
+    let table = text::bytes(fields, 0, &mut table_space);
+    let bytes = text::bytes(fields, 1, &mut space);
+    let room = text::number(text::field(fields, 2));
+    of_move(name, table, bytes, room, text::field(stated, 3))
+}
+
 // A call on one part or several.
 fn with_any_parts(name: &[u8], fields: &[u8]) -> Shown {
     let part = with_part(name, fields);
@@ -420,6 +452,10 @@ pub fn answer(name: &[u8], fields: &[u8], stated: &[u8]) -> Shown {
     let found = with_match(name, fields);
     if 0 < found.length {
         return found;
+    }
+    let moved = with_move(name, fields, stated);
+    if 0 < moved.length {
+        return moved;
     }
     with_output(name, fields, stated)
 }

@@ -1,6 +1,6 @@
 //! The named workloads.
 
-use interface::{sheet_of, Answers, Library, Word, ANSWER, LIST, RECORD_LIMIT};
+use interface::{sheet_of, Answers, Library, Word, ANSWER, LIST, RECORD_LIMIT, STORED_LIMIT};
 use notation::Symbols;
 use reference::Reference;
 use std::{cell::RefCell, iter};
@@ -40,6 +40,7 @@ pub fn all() -> Vec<Workload> {
     all.extend(bytes.map(read_entry));
     all.extend(bytes.map(write_sheet));
     all.extend(with_classes());
+    all.extend(stored());
     all
 }
 
@@ -380,4 +381,53 @@ fn write_sheet(n: usize) -> Workload {
     });
     let call = "qonveshir_write_sheet";
     Workload { name: "writer", n, call, unit: "byte", units: n as u64, run }
+}
+
+/// Moves to the stored form and back, of lists within a list and of lists nested 32 deep.
+fn stored() -> Vec<Workload> {
+    let bytes = [256, 1_024, 4_096];
+    let mut all = Vec::new();
+    all.extend(bytes.map(|n| store("store, lists within a list", full(n))));
+    all.extend(bytes.map(|n| store("store, nesting 32", nested(n))));
+    all.extend(bytes.map(|n| restore("restore, lists within a list", full(n))));
+    all.extend(bytes.map(|n| restore("restore, nesting 32", nested(n))));
+    all
+}
+
+/// A record of n bytes, of 31 lists each within the one before, with as many leaves in each.
+fn nested(n: usize) -> Vec<u8> {
+    let table = symbols().table().to_vec();
+    let list = table.iter().position(|&children| children == LIST).expect("there is a list") as u8;
+    let (lists, leaves) = (31, n - 2 * 31);
+    let mut record = Vec::new();
+    for level in 0..lists {
+        let own = leaves / lists + usize::from(level < leaves % lists);
+        let last = usize::from(level + 1 == lists);
+        record.extend([list, (own + 1 - last) as u8]);
+        record.extend(vec![0; own]);
+    }
+    record
+}
+
+fn store(name: &'static str, record: Vec<u8>) -> Workload {
+    let (table, n) = (symbols().table().to_vec(), record.len());
+    let output = RefCell::new(vec![0; STORED_LIMIT]);
+    let run = Box::new(move |library: &dyn Library| {
+        let outcome = library.store(&table, &record, &mut output.borrow_mut());
+        debug_assert_eq!(outcome.number, 0);
+    });
+    Workload { name, n, call: "qonveshir_store", unit: "byte", units: n as u64, run }
+}
+
+fn restore(name: &'static str, record: Vec<u8>) -> Workload {
+    let (table, n) = (symbols().table().to_vec(), record.len());
+    let mut stored = vec![0; STORED_LIMIT];
+    let length = Reference.store(&table, &record, &mut stored).count as usize;
+    stored.truncate(length);
+    let output = RefCell::new(vec![0; RECORD_LIMIT]);
+    let run = Box::new(move |library: &dyn Library| {
+        let outcome = library.restore(&table, &stored, &mut output.borrow_mut());
+        debug_assert_eq!(outcome.number, 0);
+    });
+    Workload { name, n, call: "qonveshir_restore", unit: "byte", units: n as u64, run }
 }

@@ -18,10 +18,12 @@ pub enum Call {
     CheckRules,
     CheckStates,
     Cost,
+    Store,
+    Restore,
 }
 
 /// The calls in their order, with their names.
-pub const CALLS: [(Call, &str); 11] = [
+pub const CALLS: [(Call, &str); 13] = [
     (Call::Match, "match"),
     (Call::MatchWithClasses, "match_with_classes"),
     (Call::Next, "next"),
@@ -33,6 +35,8 @@ pub const CALLS: [(Call, &str); 11] = [
     (Call::CheckRules, "check_rules"),
     (Call::CheckStates, "check_states"),
     (Call::Cost, "cost"),
+    (Call::Store, "store"),
+    (Call::Restore, "restore"),
 ];
 
 impl Call {
@@ -115,7 +119,7 @@ impl Case {
     /// Runs the call; the same `fill` gives the same margins and buffers.
     pub fn run(&self, library: &dyn Library, margin: usize, fill: u64) -> Shown {
         let rng = &mut Rng::new(fill, 0);
-        let writes = self.call == Call::Write;
+        let writes = matches!(self.call, Call::Write | Call::Store | Call::Restore);
         let (output, answer) = if writes { (self.room, 0) } else { (0, self.room) };
         let mut memory = Memory {
             margin,
@@ -165,6 +169,8 @@ impl Case {
             (Call::CheckRules, [t, s]) => library.check_rules(t, s),
             (Call::CheckStates, [t, s]) => library.check_states(t, s),
             (Call::Cost, [t, p]) => library.cost(t, p),
+            (Call::Store, [t, r]) => library.store(t, r, output),
+            (Call::Restore, [t, r]) => library.restore(t, r, output),
             _ => panic!("{self}: a wrong number of inputs"),
         })
     }

@@ -5,34 +5,36 @@ use crate::classes::Classes;
 use crate::make::{damaged_sheet, table, Maker};
 use crate::nexts::Search;
 use crate::rng::Rng;
+use crate::stored;
 use interface::{sheet_of, Library, Outcome, Word, ANSWER, SHEET_LIMIT};
 
 /// A case; `library` gives the count that allowances are taken around.
 pub fn case(rng: &mut Rng, library: &dyn Library) -> Case {
     let table = table(rng);
-    match rng.below(104) {
+    match rng.below(115) {
         0..=22 => match_case(rng, table, library),
         23..=38 => match_with_classes_case(rng, table, library),
         39..=49 => next_case(rng, table, library),
-        50..=60 => next_with_classes_case(rng, table, library),
-        61..=71 => rules_case(rng, table, library),
-        72..=82 => rules_with_classes_case(rng, table, library),
-        83..=88 => write_case(rng, table),
-        89..=92 => entry_case(rng, table),
-        93..=96 => {
+        50..=63 => next_with_classes_case(rng, table, library),
+        64..=74 => rules_case(rng, table, library),
+        75..=85 => rules_with_classes_case(rng, table, library),
+        86..=91 => write_case(rng, table),
+        92..=95 => entry_case(rng, table),
+        96..=99 => {
             let rules = rules(rng, &table, &[0]);
             let sheet = perhaps_damaged(rng, sheet_of(&rules));
             Case::new(Call::CheckRules, vec![table, sheet])
         }
-        97..=99 => {
+        100..=102 => {
             let records = records(rng, &table);
             let sheet = perhaps_damaged(rng, sheet_of(&records));
             Case::new(Call::CheckStates, vec![table, sheet])
         }
-        _ => {
+        103..=106 => {
             let (pattern, _) = pair(rng, &table, library);
             Case::new(Call::Cost, vec![table, pattern])
         }
+        _ => stored::moved(rng, table, library),
     }
 }
 

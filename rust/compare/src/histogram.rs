@@ -48,6 +48,7 @@ const SEARCHED: [Word; 4] = [Word::Bound, Word::None, Word::Spent, Word::Unknown
 const PATTERNS: [Call; 3] = [Call::Match, Call::MatchWithClasses, Call::Cost];
 const WITH_A_PATTERN: [Call; 5] =
     [Call::Match, Call::MatchWithClasses, Call::Next, Call::NextWithClasses, Call::Cost];
+const MOVES: [Call; 2] = [Call::Store, Call::Restore];
 const NEXTS: [Call; 2] = [Call::Next, Call::NextWithClasses];
 const SEARCHES: [Call; 4] =
     [Call::Match, Call::MatchWithClasses, Call::Next, Call::NextWithClasses];
@@ -65,10 +66,11 @@ const WITH_CLASSES: [Call; 3] =
 impl Histogram {
     pub(crate) fn add(&mut self, case: &Case, shown: &Shown) {
         let [number, _, count] = shown.result;
-        let word = Word::of(number as u32).expect("a number that has a word");
-        let call = case.call as usize;
+        let place = Word::ALL.iter().position(|word| u64::from(word.number()) == number);
+        let place = place.expect("a number that has a word");
+        let (word, call) = (Word::ALL[place], case.call as usize);
         self.cases += 1;
-        self.words[word as usize][call] += 1;
+        self.words[place][call] += 1;
         let terms = shown.has_other_bytes_than_terms().then_some(Kind::OtherBytesThanTerms);
         for kind in sizes(case, count).chain(terms).chain(case.kinds.iter().copied()) {
             let counts = KINDS[kind as usize].1.contains(&word);
@@ -114,16 +116,17 @@ fn can_give(call: Call, word: Word) -> bool {
     match word {
         Word::Bound | Word::Long => true,
         Word::Table | Word::Short | Word::Spare | Word::Code | Word::Deep => call != Entry,
-        Word::Stray => !matches!(call, Write | Entry | CheckStates),
-        Word::None => !matches!(call, Write | Entry | CheckRules | CheckStates),
+        Word::Stray => !matches!(call, Write | Entry | CheckStates | Store | Restore),
+        Word::None => !matches!(call, Write | Entry | CheckRules | CheckStates | Store | Restore),
         Word::Narrow | Word::Spent => {
-            !matches!(call, Write | Entry | CheckRules | CheckStates | Cost)
+            !matches!(call, Write | Entry | CheckRules | CheckStates | Cost | Store | Restore)
         }
-        Word::Directory => !WITH_A_PATTERN.contains(&call),
-        Word::Full => call == Write,
+        Word::Directory => !WITH_A_PATTERN.contains(&call) && !MOVES.contains(&call),
+        Word::Full => call == Write || MOVES.contains(&call),
         Word::Unread => false,
         Word::Class => WITH_CLASSES.contains(&call),
         Word::Unknown => NEXTS.contains(&call),
+        Word::Length => call == Restore,
     }
 }
 

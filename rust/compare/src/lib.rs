@@ -8,6 +8,7 @@ mod histogram;
 mod make;
 mod nexts;
 mod rng;
+mod stored;
 
 pub use histogram::Histogram;
 

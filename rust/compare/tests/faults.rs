@@ -19,6 +19,7 @@ struct Faulty {
     output: fn(&Outcome, &mut [u8]),
     part: fn(&mut Part),
     cost: fn(&mut Outcome),
+    stored: fn(&[u8]) -> Vec<u8>,
 }
 
 const SOUND: Faulty = Faulty {
@@ -29,6 +30,7 @@ const SOUND: Faulty = Faulty {
     output: |_, _| (),
     part: |_| (),
     cost: |_| (),
+    stored: |stored| stored.to_vec(),
 };
 
 impl Faulty {
@@ -109,6 +111,18 @@ impl Library for Faulty {
         let classes = (self.classes)(t, classes);
         let outcome = Reference.match_rules_with_classes(t, &classes, s, r, allowance, a);
         (self.answer)(&outcome, a);
+        self.spoil(outcome)
+    }
+
+    fn store(&self, t: &[u8], r: &[u8], output: &mut [u8]) -> Outcome {
+        let outcome = Reference.store(t, r, output);
+        (self.output)(&outcome, output);
+        self.spoil(outcome)
+    }
+
+    fn restore(&self, t: &[u8], s: &[u8], output: &mut [u8]) -> Outcome {
+        let outcome = Reference.restore(t, &(self.stored)(s), output);
+        (self.output)(&outcome, output);
         self.spoil(outcome)
     }
 
@@ -262,4 +276,12 @@ fn faults_of_class_lists_are_found() {
     }
     let class = |outcome: &mut Outcome| outcome.count += u64::from(outcome.number == 14);
     assert!(differs(Faulty { outcome: class, ..SOUND }));
+}
+
+#[test]
+fn faults_of_stored_records_are_found() {
+    let spare = |stored: &[u8]| stored[..stored.len().min(8_192)].to_vec();
+    assert!(differs(Faulty { stored: spare, ..SOUND }));
+    let length = |outcome: &mut Outcome| outcome.number -= 14 * u32::from(outcome.number == 17);
+    assert!(differs(Faulty { outcome: length, ..SOUND }));
 }

@@ -13,6 +13,8 @@ pub const TABLE_LIMIT: usize = 200;
 pub const PATTERN_LIMIT: usize = 256;
 /// Most bytes of a record.
 pub const RECORD_LIMIT: usize = 4_096;
+/// Most bytes of a stored record.
+pub const STORED_LIMIT: usize = 8_192;
 /// Most bytes of a sheet.
 pub const SHEET_LIMIT: usize = 32_768;
 /// Most patterns of a rule sheet.
@@ -62,15 +64,16 @@ pub enum Word {
     Unread,
     Class,
     Unknown,
+    Length = 17,
 }
 
 impl Word {
     /// Every word, in the order of the numbers.
-    pub const ALL: [Word; 16] = {
+    pub const ALL: [Word; 17] = {
         use Word::*;
         [
             Bound, Table, Short, Spare, Code, Deep, Long, Stray, Narrow, Directory, None, Spent,
-            Full, Unread, Class, Unknown,
+            Full, Unread, Class, Unknown, Length,
         ]
     };
 
@@ -81,7 +84,7 @@ impl Word {
 
     /// The word of a number.
     pub fn of(number: u32) -> Option<Word> {
-        Self::ALL.get(number as usize).copied()
+        Self::ALL.into_iter().find(|word| word.number() == number)
     }
 
     /// The word as it is written.
@@ -103,6 +106,7 @@ impl Word {
             Word::Unread => "unread",
             Word::Class => "class",
             Word::Unknown => "unknown",
+            Word::Length => "length",
         }
     }
 
@@ -115,7 +119,10 @@ impl Word {
             Word::Spare => "bytes after the last node",
             Word::Code => "a code not allowed there, or a symbol not in the table",
             Word::Deep => "nesting over 32",
-            Word::Long => "pattern, record or sheet over its limit, over 64 rules",
+            Word::Long => {
+                "pattern, record, stored record or sheet over its limit, over 64 rules; an old form \
+                 over a record's limit"
+            },
             Word::Stray => "run name elsewhere than as a list's child",
             Word::Narrow => "answer buffer under 144 numbers",
             Word::Directory => "a sheet breaks its rules, or no such entry",
@@ -124,7 +131,7 @@ impl Word {
                  bound"
             }
             Word::Spent => "the count is over the allowance",
-            Word::Full => "output too short for the sheet",
+            Word::Full => "output too short for what is to be written",
             Word::Unread => "the program can't open or read a file",
             Word::Class => {
                 "a class list of the wrong length, an entry above its own index or not its own \
@@ -133,6 +140,7 @@ impl Word {
             Word::Unknown => {
                 "the given run lengths are not one for each free run name, or belong to no answer"
             }
+            Word::Length => "a stored list tells another length than that of its children",
         }
     }
 }
@@ -319,6 +327,12 @@ pub trait Library {
 
     /// Shows how much a pattern can cost at most, or none if it has run names.
     fn cost(&self, table: &[u8], pattern: &[u8]) -> Outcome;
+
+    /// Writes the stored form of a record.
+    fn store(&self, table: &[u8], record: &[u8], output: &mut [u8]) -> Outcome;
+
+    /// Writes the old form of a stored record.
+    fn restore(&self, table: &[u8], stored: &[u8], output: &mut [u8]) -> Outcome;
 
     /// [`match_one`](Self::match_one) with a buffer of its own, in which every name is absent
     /// unless the outcome is bound.

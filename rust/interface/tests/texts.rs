@@ -10,7 +10,8 @@ fn read(file: &str) -> String {
 
 /// The code of the proved crates, without comments.
 fn rattle() -> String {
-    let crates = ["term", "reader", "search", "matcher", "cost", "sheet", "rules", "qonveshir"];
+    let crates =
+        ["term", "reader", "search", "matcher", "cost", "sheet", "stored", "rules", "qonveshir"];
     let code = crates.map(|name| read(&format!("crates/{name}/src/lib.rt"))).concat();
     let lines = code.lines().filter(|line| !line.trim_start().starts_with("//"));
     lines.map(|line| format!("{line}\n")).collect()
@@ -89,6 +90,7 @@ fn limits() {
         ("TABLE_LIMIT", TABLE_LIMIT, "LARGEST_TABLE"),
         ("PATTERN_LIMIT", PATTERN_LIMIT, "LONGEST_PATTERN"),
         ("RECORD_LIMIT", RECORD_LIMIT, "LONGEST_RECORD"),
+        ("STORED_LIMIT", STORED_LIMIT, "LONGEST_STORED"),
         ("SHEET_LIMIT", SHEET_LIMIT, "LONGEST_SHEET"),
         ("RULES_LIMIT", RULES_LIMIT, "MOST_RULES"),
         ("NESTING_LIMIT", NESTING_LIMIT, "NESTING"),
@@ -158,7 +160,7 @@ type Call = (String, Vec<String>, String);
 #[test]
 fn calls() {
     let header = header_calls(&read("include/qonveshir.h"));
-    assert_eq!(header.len(), 11);
+    assert_eq!(header.len(), 13);
     assert_eq!(rattle_calls(&rattle()), header);
     assert_eq!(rust_calls(&read("rust/proved/src/link.rs")), header);
 }

@@ -29,6 +29,8 @@ macro_rules! library {
             check_rules = qonveshir_check_rules(table: u8, sheet: u8; ; ) -> Outcome;
             check_states = qonveshir_check_states(table: u8, sheet: u8; ; ) -> Outcome;
             cost = qonveshir_cost(table: u8, pattern: u8; ; ) -> Outcome;
+            store = qonveshir_store(table: u8, record: u8; ; output: u8) -> Outcome;
+            restore = qonveshir_restore(table: u8, stored: u8; ; output: u8) -> Outcome;
         }
     };
 }

@@ -3,7 +3,7 @@
 use crate::{read, trouble, wrong_call, Reply, Stop};
 use interface::*;
 use reference::{
-    classes::Classes, pattern::Steps, record::Record, sheet::Sheet, table::Table, Refusal,
+    classes::Classes, pattern::Steps, record::Record, sheet::Sheet, stored, table::Table, Refusal,
 };
 
 /// What the proved program `codes` prints: a line for each code from 0 up, the code and its kind.
@@ -27,6 +27,7 @@ pub fn explain(arguments: &[&str]) -> Reply {
             "--states" => "states",
             "--pattern" => "pattern",
             "--record" => "record",
+            "--stored" => "stored",
             _ => return trouble(format!("{option}: see qonveshir --help")),
         };
         text += &input(kind, path, &read(path)?, &table)?;
@@ -41,7 +42,7 @@ pub fn explain(arguments: &[&str]) -> Reply {
 fn meaning(number: u32) -> Reply {
     match Word::of(number) {
         Some(word) => Ok(format!("{number} {}: {}\n", word.text(), word.meaning())),
-        None => trouble(format!("{number}: numbers are 0 to {}", Word::ALL.len() - 1)),
+        None => trouble(format!("{number}: there is no such number")),
     }
 }
 
@@ -69,6 +70,7 @@ fn check(kind: &str, bytes: &[u8], table: &[u8]) -> Result<(), Refusal> {
         "states" => reference::check_states(table, bytes)?,
         "pattern" => Steps::new().read(symbols, bytes).map(|_| ())?,
         "record" => Record::check(symbols, bytes)?,
+        "stored" => stored::check(symbols, bytes).map(|_| ())?,
         _ => {}
     }
     Ok(())
@@ -105,13 +107,19 @@ fn expected(kind: &str, word: Word, in_entry: bool, at: usize) -> &'static str {
     match word {
         Word::Table if at >= TABLE_LIMIT => "at most 200 bytes",
         Word::Table => "0 to 8 children, or 255 for a list",
+        Word::Short if kind == "stored" => {
+            "a further node, or a list's number of children or length"
+        }
         Word::Short => "a further node, or a list's number of children",
         Word::Spare => "the end, since the last node ends before",
         Word::Deep => "nesting of at most 32, complements not counted",
         Word::Long if kind == "pattern" || kind == "rules" && in_entry => "at most 256 bytes",
+        Word::Long if kind == "stored" && at == STORED_LIMIT => "at most 8,192 bytes",
+        Word::Long if kind == "stored" => "an old form of at most 4,096 bytes",
         Word::Long if kind == "record" || in_entry => "at most 4,096 bytes",
         Word::Long if at == 0 => "at most 64 rules",
         Word::Long => "at most 32,768 bytes",
+        Word::Length => "the length in bytes of the list's children, low byte first",
         Word::Stray => "a run name only as a direct child of a list",
         _ => word.meaning(),
     }

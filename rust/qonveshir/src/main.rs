@@ -1,8 +1,9 @@
-//! The command line: `pack`, `unpack`, `match`, `cost`, `explain`.
+//! The command line: `pack`, `unpack`, `match`, `cost`, `store`, `restore`, `explain`.
 
 mod explain;
 mod matching;
 mod sheets;
+mod stored;
 
 use interface::Library;
 use std::io::{self, ErrorKind, Write};
@@ -25,8 +26,15 @@ usage:
                                             not given, is the allowance of each answer
   qonveshir cost SYMBOLS SHEET              print how much each rule of a sheet can cost at most, a
                                             line for each: an allowance that is never spent on it
+  qonveshir store record SYMBOLS FILE OUT   write a record in the stored form
+  qonveshir store states SYMBOLS SHEET OUT  write the states of a sheet in the stored form, a line of
+                                            hexadecimal digits for each
+  qonveshir restore record SYMBOLS FILE OUT
+                                            write a stored record as a record
+  qonveshir restore states SYMBOLS TEXT OUT
+                                            write such lines as a state sheet
   qonveshir explain TABLE [--classes CLASSES] [--rules SHEET] [--states SHEET]
-                    [--pattern FILE] [--record FILE]
+                    [--pattern FILE] [--record FILE] [--stored FILE]
                                             say why an input is refused
   qonveshir explain NUMBER                  say what a number means
   qonveshir explain --code CODE             say what kind a code of a pattern is
@@ -101,6 +109,10 @@ fn reply(arguments: &[&str]) -> Reply {
         ["unpack", "rules", symbols, sheet] => sheets::unpack_rules(symbols, sheet),
         ["unpack", "states", symbols, sheet] => sheets::unpack_states(symbols, sheet),
         ["cost", symbols, sheet] => sheets::cost(symbols, sheet),
+        ["store", "record", symbols, record, out] => stored::store(symbols, record, out),
+        ["store", "states", symbols, sheet, out] => stored::store_states(symbols, sheet, out),
+        ["restore", "record", symbols, record, out] => stored::restore(symbols, record, out),
+        ["restore", "states", symbols, text, out] => stored::restore_states(symbols, text, out),
         ["match", rest @ ..] => matched(rest),
         ["explain", rest @ ..] if !rest.is_empty() => explain::explain(rest),
         _ => wrong_call(),

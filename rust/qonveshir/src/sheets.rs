@@ -66,7 +66,7 @@ pub fn cost(symbols: &str, path: &str) -> Reply {
 }
 
 /// The entries that a text file's lines give; comments and empty lines give none.
-fn entries(
+pub fn entries(
     path: &str,
     parse: impl Fn(&str) -> Result<Vec<u8>, Error>,
 ) -> Result<Vec<Vec<u8>>, Stop> {
@@ -81,7 +81,7 @@ fn entries(
 }
 
 /// A line for each entry of an accepted sheet.
-fn lines(path: &str, sheet: &[u8], show: impl Fn(&[u8]) -> Result<String, Error>) -> Reply {
+pub fn lines(path: &str, sheet: &[u8], show: impl Fn(&[u8]) -> Result<String, Error>) -> Reply {
     let parts = (0..).map(|index| ENGINE.0.entry(sheet, index)).take_while(|part| part.number == 0);
     parts
         .map(|part| match show(&sheet[part.range()]) {
@@ -91,7 +91,8 @@ fn lines(path: &str, sheet: &[u8], show: impl Fn(&[u8]) -> Result<String, Error>
         .collect()
 }
 
-fn accepted(path: &str, outcome: Outcome) -> Result<(), Stop> {
+/// Stops at a refusal.
+pub fn accepted(path: &str, outcome: Outcome) -> Result<(), Stop> {
     match outcome.word() {
         _ if outcome.number == 0 => Ok(()),
         word => {

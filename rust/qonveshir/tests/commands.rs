@@ -282,6 +282,49 @@ fn explains_class_lists() {
 }
 
 #[test]
+fn stores_and_restores() {
+    let folder = folder("store");
+    let command = |text: &str| run(&folder, &text.split(' ').collect::<Vec<_>>());
+    fs::write(folder.join("old"), [5, 2, 5, 1, 0, 1]).unwrap();
+    assert_eq!(command("store record symbols old new"), (0, "new: 10 bytes\n".into()));
+    assert_eq!(fs::read(folder.join("new")).unwrap(), [5, 2, 6, 0, 5, 1, 1, 0, 0, 1]);
+    assert_eq!(command("restore record symbols new back"), (0, "back: 6 bytes\n".into()));
+    assert_eq!(fs::read(folder.join("back")).unwrap(), [5, 2, 5, 1, 0, 1]);
+    fs::write(folder.join("new"), [5, 1, 2, 0, 0]).unwrap();
+    let wrong = "new: refused 17 length: a stored list tells another length than that of its \
+                 children\n";
+    assert_eq!(command("restore record symbols new back"), (1, wrong.into()));
+    fs::write(folder.join("t"), [0, 0, 0, 1, 2, 255]).unwrap();
+    let told = "t: accepted as table\n";
+    let (status, text) = command("explain t --stored new");
+    assert_eq!(status, 1, "{text}");
+    assert!(text.contains("byte: 2, which is 2\n") && !text.contains(told), "{text}");
+    assert_eq!(command("restore record symbols old back").0, 1);
+    fs::remove_dir_all(folder).unwrap();
+}
+
+#[test]
+fn stores_the_states_of_a_sheet() {
+    let folder = folder("states");
+    let command = |text: &str| run(&folder, &text.split(' ').collect::<Vec<_>>());
+    fs::write(folder.join("text"), "gates(open, shut)\nheld\ngate(gates())\n").unwrap();
+    assert_eq!(command("pack states symbols text sheet").0, 0);
+    assert_eq!(command("store states symbols sheet lines"), (0, "lines: 27 bytes\n".into()));
+    let lines = "050202000001\n02\n0305000000\n";
+    assert_eq!(fs::read_to_string(folder.join("lines")).unwrap(), lines);
+    assert_eq!(command("restore states symbols lines back").0, 0);
+    assert_eq!(fs::read(folder.join("back")).unwrap(), fs::read(folder.join("sheet")).unwrap());
+    fs::write(folder.join("lines"), "02\n0500\n").unwrap();
+    let (status, text) = command("restore states symbols lines back");
+    assert_eq!((status, text.starts_with("lines: line 2: refused 2 short")), (1, true), "{text}");
+    for wrong in ["0", "0G", "+5"] {
+        fs::write(folder.join("lines"), wrong).unwrap();
+        assert_eq!(command("restore states symbols lines back").0, 2, "{wrong}");
+    }
+    fs::remove_dir_all(folder).unwrap();
+}
+
+#[test]
 fn wrong_calls() {
     let folder = folder("calls");
     assert_eq!(run(&folder, &[]).0, 2);

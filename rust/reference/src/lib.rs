@@ -12,6 +12,7 @@ pub mod pattern;
 pub mod record;
 pub mod search;
 pub mod sheet;
+pub mod stored;
 pub mod table;
 
 use classes::Classes;
@@ -147,6 +148,14 @@ impl Library for Reference {
 
     fn cost(&self, table: &[u8], pattern: &[u8]) -> Outcome {
         shown(cost(table, pattern))
+    }
+
+    fn store(&self, table: &[u8], record: &[u8], output: &mut [u8]) -> Outcome {
+        shown(stored::store(table, record, output))
+    }
+
+    fn restore(&self, table: &[u8], stored: &[u8], output: &mut [u8]) -> Outcome {
+        shown(stored::restore(table, stored, output))
     }
 }
 

@@ -5,7 +5,7 @@ use interface::{Library, Outcome, Word, ABSENT, ANSWER, ENTRY, NAMES, RUNS};
 use reference::Reference;
 use std::{collections::BTreeMap, env, fs, path::PathBuf};
 
-const FILES: [&str; 7] = [
+const FILES: [&str; 8] = [
     "matches.txt",
     "classes.txt",
     "complements.txt",
@@ -13,6 +13,7 @@ const FILES: [&str; 7] = [
     "costs.txt",
     "rules.txt",
     "sheets.txt",
+    "stored.txt",
 ];
 
 #[test]
@@ -47,6 +48,8 @@ fn every_vector_has_its_outcome() {
         "next",
         "next with classes",
         "place_of",
+        "restore",
+        "store",
         "write_sheet",
     ];
     assert!(run.keys().eq(calls), "calls that were run: {run:?}");
@@ -77,7 +80,17 @@ fn outcome(call: &str, fields: &[&str], stated: &str) -> Option<String> {
             }
         }
         ("write_sheet", [table, records, lengths, room]) => {
-            written(&bytes(table), &bytes(records), &list(lengths), number(room), stated)
+            let (table, records, lengths) = (bytes(table), bytes(records), list(lengths));
+            let write =
+                |output: &mut [u8]| Reference.write_sheet(&table, &records, &lengths, output);
+            written(number(room), true, stated, write)
+        }
+        ("store" | "restore", [table, record, room]) => {
+            let (table, record) = (bytes(table), bytes(record));
+            written(number(room), false, stated, |output| match call {
+                "store" => Reference.store(&table, &record, output),
+                _ => Reference.restore(&table, &record, output),
+            })
         }
         _ => return None,
     })
@@ -142,19 +155,21 @@ fn checked(sheet: &[u8], check: impl Fn(&[u8]) -> Outcome) -> String {
     }
 }
 
-/// The outcome of a writing. The sheet is shown as stated where that stands for it.
-fn written(table: &[u8], records: &[u8], lengths: &[u16], room: u32, stated: &str) -> String {
+/// The outcome of a writing with so much room; that of a sheet's refusal shows an index. What is
+/// written is shown as stated where that stands for it.
+fn written(room: u32, sheet: bool, stated: &str, write: impl Fn(&mut [u8]) -> Outcome) -> String {
     let before = vec![250; room as usize];
     let mut output = before.clone();
-    let outcome = Reference.write_sheet(table, records, lengths, &mut output);
+    let outcome = write(&mut output);
     let size = outcome.count as usize;
     assert_eq!(output[size..], before[size..], "bytes that must stay");
     if outcome.number != 0 {
-        return format!("refused {} {}", outcome.number, outcome.index);
+        let index = if sheet { format!(" {}", outcome.index) } else { String::new() };
+        return format!("refused {}{index}", outcome.number);
     }
-    let sheet = stated.rsplit(' ').next().unwrap();
-    let same = stated.starts_with("written") && bytes(sheet) == output[..size];
-    format!("written {size} {}", if same { sheet } else { "another sheet" })
+    let text = stated.rsplit(' ').next().unwrap();
+    let same = stated.starts_with("written") && bytes(text) == output[..size];
+    format!("written {size} {}", if same { text } else { "another output" })
 }
 
 fn number(text: &str) -> u32 {
