@@ -1,6 +1,7 @@
 //! `explain`: the readers of the independent implementation find the place.
 
-use crate::{read, trouble, wrong_call, Reply, Stop};
+use crate::command::{wrong_call, Command};
+use crate::{read, trouble, Console, Reply, Stop};
 use interface::*;
 use reference::{
     classes::Classes, pattern::Steps, record::Record, sheet::Sheet, table::Table, Refusal,
@@ -9,15 +10,33 @@ use reference::{
 /// What the proved program `codes` prints: a line for each code from 0 up, the code and its kind.
 const CODES: &str = include_str!("../../../crates/codes/stdout");
 
+pub const EXPLAIN: Command = Command {
+    name: "explain",
+    usage: &[
+        (
+            "explain TABLE [--KIND FILE]...",
+            "say why a table is refused, or a file over it; KIND is classes, rules, states, pattern \
+             or record",
+        ),
+        ("explain NUMBER", "say what a number means"),
+        ("explain --code CODE", "say what kind a code of a pattern is"),
+    ],
+    help: "",
+    run: explain,
+};
+
 /// Explains what the arguments name: a number, a code, or a table and inputs over it.
-pub fn explain(arguments: &[&str]) -> Reply {
-    if let ["--code", code] = arguments {
-        return kind(code);
+fn explain(arguments: &[&str], _: &mut Console) -> Reply {
+    match arguments {
+        [] => wrong_call("explain"),
+        ["--code", code] => kind(code),
+        [number] if number.parse::<u32>().is_ok() => meaning(number.parse().unwrap_or(u32::MAX)),
+        [table, inputs @ ..] => explain_inputs(table, inputs),
     }
-    if let [Ok(number)] = arguments.iter().map(|text| text.parse()).collect::<Vec<_>>()[..] {
-        return meaning(number);
-    }
-    let (path, mut rest) = (arguments[0], &arguments[1..]);
+}
+
+/// Checks a table, and inputs over it.
+fn explain_inputs(path: &str, mut rest: &[&str]) -> Reply {
     let table = read(path)?;
     let mut text = input("table", path, &table, &table)?;
     while let [option, path, later @ ..] = rest {
@@ -27,14 +46,14 @@ pub fn explain(arguments: &[&str]) -> Reply {
             "--states" => "states",
             "--pattern" => "pattern",
             "--record" => "record",
-            _ => return trouble(format!("{option}: see qonveshir --help")),
+            _ => return trouble(format!("{option}: see qonveshir explain --help")),
         };
         text += &input(kind, path, &read(path)?, &table)?;
         rest = later;
     }
     match rest {
         [] => Ok(text),
-        _ => wrong_call(),
+        _ => wrong_call("explain"),
     }
 }
 
@@ -61,7 +80,7 @@ fn input(kind: &str, path: &str, bytes: &[u8], table: &[u8]) -> Reply {
     }
 }
 
-fn check(kind: &str, bytes: &[u8], table: &[u8]) -> Result<(), Refusal> {
+pub fn check(kind: &str, bytes: &[u8], table: &[u8]) -> Result<(), Refusal> {
     let symbols = Table::read(table)?;
     match kind {
         "classes" => Classes::read(symbols, bytes).map(|_| ())?,
@@ -75,7 +94,7 @@ fn check(kind: &str, bytes: &[u8], table: &[u8]) -> Result<(), Refusal> {
 }
 
 /// Number, word, input, byte and what was expected there.
-fn refused(kind: &str, path: &str, bytes: &[u8], table: &[u8], refusal: Refusal) -> String {
+pub fn refused(kind: &str, path: &str, bytes: &[u8], table: &[u8], refusal: Refusal) -> String {
     let (word, within) = (refusal.fault.word, refusal.fault.at as usize);
     let start = refusal.entry.and_then(|entry| Sheet::read(bytes).ok()?.range(entry));
     let at = start.map_or(0, |range| range.start) + within;
