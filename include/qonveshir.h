@@ -21,6 +21,9 @@
 extern "C" {
 #endif
 
+/* The version of the library that this header belongs to. */
+#define QONVESHIR_VERSION "0.2.0"
+
 /* The numbers. 13, unread, belongs to the report program. */
 enum {
   QONVESHIR_DONE = 0,       /* bound, written, accepted or bounded */
@@ -29,16 +32,19 @@ enum {
   QONVESHIR_SPARE = 3,      /* bytes after the last node */
   QONVESHIR_CODE = 4,       /* a code not allowed there, or not in the table */
   QONVESHIR_DEEP = 5,       /* nesting over 32 */
-  QONVESHIR_LONG = 6,       /* pattern, record or sheet over its limit, over 64 rules */
+  QONVESHIR_LONG = 6,       /* pattern, record, stored record or sheet over its limit, over 64
+                               rules; an old form over a record's limit */
   QONVESHIR_STRAY = 7,      /* run name elsewhere than as a list's child */
   QONVESHIR_NARROW = 8,     /* answer buffer under 144 numbers */
   QONVESHIR_DIRECTORY = 9,  /* a sheet breaks its rules, or no such entry */
   QONVESHIR_NONE = 10,      /* no assignment satisfies the pattern, or none after the given answer;
                                of a cost, no bound */
   QONVESHIR_SPENT = 11,     /* the count is over the allowance */
-  QONVESHIR_FULL = 12,      /* output too short for the sheet */
+  QONVESHIR_FULL = 12,      /* output too short for what is to be written */
   QONVESHIR_CLASS = 14,     /* a class list breaks its rules, see below */
-  QONVESHIR_UNKNOWN = 15    /* the given run lengths belong to no answer, see below */
+  QONVESHIR_UNKNOWN = 15,   /* the given run lengths belong to no answer, see below */
+  QONVESHIR_LENGTH = 17,    /* a stored list tells another length than that of its children */
+  QONVESHIR_NOT_PLAIN = 23  /* a pattern that the plain tier does not take, see below */
 };
 
 /* Limits, in bytes; of a rule sheet in patterns, of nesting in nodes from the
@@ -47,6 +53,7 @@ enum {
 #define QONVESHIR_TABLE_LIMIT 200
 #define QONVESHIR_PATTERN_LIMIT 256
 #define QONVESHIR_RECORD_LIMIT 4096
+#define QONVESHIR_STORED_LIMIT 8192
 #define QONVESHIR_SHEET_LIMIT 32768
 #define QONVESHIR_RULES_LIMIT 64
 #define QONVESHIR_NESTING_LIMIT 32
@@ -68,7 +75,7 @@ enum {
 
 /* number: 0 bound, written, accepted or bounded; else another of the numbers above.
    index: the rule shown or the entry at fault, else 0.
-   count: bound, none, spent: the count or sum; written: the sheet's length;
+   count: bound, none, spent: the count or sum; written: the length written;
    bounded: the bound; else 0. */
 typedef struct { uint32_t number; uint32_t index; uint64_t count; } qonveshir_outcome;
 
@@ -156,6 +163,31 @@ qonveshir_outcome qonveshir_next_with_classes(const uint8_t *table, size_t table
                                               uint32_t allowance,
                                               uint16_t *answer, size_t answer_length);
 
+/* Matches one plain pattern against one record, without an allowance: it is
+   never spent. A pattern is plain if it has no complement, no name or run name
+   twice, and at most one run name in a list; any other is refused with 23.
+   Nothing is tried twice, since a run's length follows from the numbers of
+   children: a list whose number of elements can't come out fails at once.
+
+   Number and answer are those of qonveshir_match wherever that is not spent;
+   the answer is written as by it. The count is another: one for each pattern
+   node set against a record node or run, up to and with the first that fails;
+   at most the pattern's length in bytes.
+
+   Checks: 8, 1, the pattern, 23, the record. 23 shows count 0. */
+qonveshir_outcome qonveshir_match_plain(const uint8_t *table, size_t table_length,
+                                        const uint8_t *pattern, size_t pattern_length,
+                                        const uint8_t *record, size_t record_length,
+                                        uint16_t *answer, size_t answer_length);
+
+/* The same up to class, with a class list as for qonveshir_match_with_classes.
+   Checks: 8, 1, 14, the pattern, 23, the record. */
+qonveshir_outcome qonveshir_match_plain_with_classes(const uint8_t *table, size_t table_length,
+                                                     const uint8_t *classes, size_t classes_length,
+                                                     const uint8_t *pattern, size_t pattern_length,
+                                                     const uint8_t *record, size_t record_length,
+                                                     uint16_t *answer, size_t answer_length);
+
 /* Tries the rules of a sheet in order, each with the whole allowance, up to the
    first that is bound or spent, whose index is shown. The count is the sum so
    far; a spent rule adds the allowance to it. The answer is written as by
@@ -209,6 +241,26 @@ qonveshir_outcome qonveshir_check_states(const uint8_t *table, size_t table_leng
    stand within complements: then there is no such bound. Checks: 1, the pattern. */
 qonveshir_outcome qonveshir_cost(const uint8_t *table, size_t table_length,
                                  const uint8_t *pattern, size_t pattern_length);
+
+/* Writes the stored form of a record, and shows its length as the count. In the
+   stored form a list node's number of children is followed by the length in
+   bytes of all its children in the stored form, two bytes, low byte first. It
+   has at most QONVESHIR_STORED_LIMIT bytes, for every accepted record. Output
+   past that stays; a refusal leaves all of it as it was. Checks: 1, the record,
+   12. */
+qonveshir_outcome qonveshir_store(const uint8_t *table, size_t table_length,
+                                  const uint8_t *record, size_t record_length,
+                                  uint8_t *output, size_t output_length);
+
+/* Writes the old form of a stored record, and shows its length as the count;
+   qonveshir_store of that gives the stored record again. Output past that stays;
+   a refusal leaves all of it as it was. Checks: 1, 6 of the stored record, at
+   each node 2, 4, 5, then 2 for a missing number of children or a missing byte
+   of the length, the children, 17 if the length is not theirs; then 3, 6 if the
+   old form is over QONVESHIR_RECORD_LIMIT bytes, 12. */
+qonveshir_outcome qonveshir_restore(const uint8_t *table, size_t table_length,
+                                    const uint8_t *stored, size_t stored_length,
+                                    uint8_t *output, size_t output_length);
 
 #ifdef __cplusplus
 }

@@ -6,6 +6,7 @@ ghost use mathlib.Core.Path.{_≡_};
 ghost use mathlib.Core.Bool.{false};
 ghost use Prim.Native.Nat.{_≤_};
 ghost use lib.ListN.{length};
+ghost use Rattle.term.specs.Moment.{old};
 ghost use Rattle.term.specs.Limits.{longestPattern};
 ghost use Rattle.cost.specs.Call.{costNumber, costCount, costOf};
 ghost use Rattle.cost.specs.Demands.{Demanded};
@@ -56,7 +57,7 @@ fn is_run(code: Code) -> bool
 
 // The bytes of a node's own: its code's and, for a list, its number of children.
 fn own_bytes(table: &[u8], b: u8) -> usize
-    ensures { λ r. ⌜ r ≡ ownBytes (now (table .entry)) b ⌝ }
+    ensures { λ r. ⌜ r ≡ ownBytes (old table) b ⌝ }
 {
     if term::entry_of(table, b) == term::LIST {
         return 2;
@@ -67,7 +68,7 @@ fn own_bytes(table: &[u8], b: u8) -> usize
 // The nodes of a pattern that passed its checks.
 fn count_nodes(table: &[u8], pattern: &[u8]) -> Cost
     requires { ⌜ length (now pattern) ≤ longestPattern ⌝ }
-    ensures { λ r. ⌜ r ≡ tally (now (table .entry)) (now (pattern .entry)) false 0 ⌝ }
+    ensures { λ r. ⌜ r ≡ tally (old table) (old pattern) false 0 ⌝ }
 {
     let mut nodes: u32 = 0;
     let mut at: usize = 0;
@@ -84,8 +85,8 @@ fn count_nodes(table: &[u8], pattern: &[u8]) -> Cost
 
 // What the match of a pattern can count at most, whatever the record, the class list and, for the next answer, the lengths that are given.
 pub fn cost_of(table: &[u8], pattern: &[u8]) -> Cost
-    ensures is { λ r. ⌜ r ≡ costOf (now (table .entry)) (now (pattern .entry)) ⌝ }
-    ensures demand { λ r. ⌜ Demanded (now (table .entry)) (now (pattern .entry)) r ⌝ }
+    ensures is { λ r. ⌜ r ≡ costOf (old table) (old pattern) ⌝ }
+    ensures demand { λ r. ⌜ Demanded (old table) (old pattern) r ⌝ }
 {
     if !term::check_table(table) {
         return Cost::Refused(Refusal::Table);

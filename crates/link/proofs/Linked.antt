@@ -75,7 +75,7 @@ level-searches table small classes alike bytes short (suc n) pattern narrow s qs
 
 -- the parts of a reply are the parts of the answer
 
-shown-parts : (table bytes : List ℕ) (ps : List Part) (e : Env) → Shown table bytes ps e → parts table e ≡ ps
+pub shown-parts : (table bytes : List ℕ) (ps : List Part) (e : Env) → Shown table bytes ps e → parts table e ≡ ps
 shown-parts table bytes ps e h =
     ext-getD (part 0 0 0) (parts table e) ps (sym (h .room))
     (λ i k.

@@ -5,7 +5,7 @@ use mathlib.Core.Path.{_≡_, refl, sym, _∙_, ap, ap₂, subst}
 use mathlib.Core.List.{List, [], _∷_, _++_}
 use mathlib.Core.Bool.{Bool, true, false, cond}
 use mathlib.Core.Option.{Option, none, some}
-use lib.ListN.{length, getD, take, drop}
+use lib.ListN.{length, getD, take, drop, List·getD-append}
 use lib.Dec.{eqb}
 use borrow.Author.Tests.{eqb-true}
 use Rattle.term.specs.Code.{variables}
@@ -36,15 +36,17 @@ use Rattle.anti_pattern.proofs.Following.{map-among}
 use Rattle.anti_pattern.proofs.Metering.{meter-within, metered-first}
 use Rattle.anti_pattern.proofs.Placed.{Answers, first-answers}
 use Rattle.search.specs.Level.{Reply, searchOf}
-use Rattle.matcher.specs.Call.{answerNumber, answerCount, classesOf, languageOf, broughtAccepted, Input, Checked, trees, checked, told, answerBy, answerOf, numbers, written, bufferBy, bufferOf}
+use Rattle.call.specs.Brought.{classesOf, languageOf, broughtAccepted}
+use Rattle.call.specs.Call.{written}
+use Rattle.matcher.specs.Call.{answerNumber, answerCount, Input, told, answerOf, boundParts, bufferOf}
 use Rattle.matcher.specs.Demands.{offsetIn, lengthIn, termsIn, Shows, Answered, Published}
 use Rattle.link.proofs.Represents.{Shown, Agrees, is-found}
-use Rattle.matcher.proofs.Buffers.{shown-at}
-use Rattle.matcher.proofs.Checks.{input-checked}
+use Rattle.matcher.proofs.Checks.{checked-exactly}
 use Rattle.link.proofs.Followed.{free-runs-are}
 use Rattle.anti_pattern.proofs.Each.{each-at}
 use Rattle.link.proofs.Linked.{whole-agrees}
-use Rattle.search.specs.Shown.{entryWidth, answerWidth}
+use Rattle.search.specs.Shown.{entry, numbers, entryWidth, answerWidth}
+use Rattle.search.proofs.Shown.{numbers-length, numbers-at}
 
 -- the free variables of an accepted pattern are among the 48
 
@@ -71,6 +73,11 @@ mutual
       vars-below table q left inList (f .0) v (varsAll qs vs) (all-below table qs left inList (f .1) v vs k) h
   all-below table (run u qs) left inList f v vs k h =
       first-below u v (varsAll qs vs) (f .0 .1 .1) (all-below table qs left inList (f .1) v vs k) h
+
+-- the k-th number that parts have for a variable in the answer buffer
+pub shown-at : (ps : List Part) (rest : List ℕ) (v : ℕ) → v < length ps → (k : ℕ) → k < entryWidth
+    → getD (numbers ps ++ rest) (entryWidth * v + k) 0 ≡ getD (entry (getD ps v (part 0 0 0))) k 0
+shown-at ps rest v low k h = List·getD-append (numbers ps) rest 0 (entryWidth * v + k) (omega (arith, numbers-length ps)) ∙ numbers-at k h ps v low
 
 -- each answer of the search is shown
 
@@ -145,7 +152,7 @@ module _ (table : List ℕ) (brought : Option (List ℕ)) (pattern bytes : List 
 
 -- the number of what is told says which it is
 
-spent-told : (o : Outcome) → answerNumber (told o) ≡ 11 → (n : ℕ) × (o ≡ spent n)
+pub spent-told : (o : Outcome) → answerNumber (told o) ≡ 11 → (n : ℕ) × (o ≡ spent n)
 spent-told (bound ps n) h = absurd (omega arith)
 spent-told (nothing n) h = absurd (omega arith)
 spent-told (spent n) h = (n, refl)
@@ -176,7 +183,7 @@ module _ (table : List ℕ) (brought : Option (List ℕ)) (pattern bytes : List 
       (whole-agrees table (classesOf brought) pattern bytes k q t i allowance))
 
   bound-shows : (before : List ℕ) → answerNumber (told (answer (languageOf table brought) q t allowance)) ≡ 0
-      → (x : Assignment) × First (languageOf table brought) q t x × Shows table bytes q t x (written (answer (languageOf table brought) q t allowance) before)
+      → (x : Assignment) × First (languageOf table brought) q t x × Shows table bytes q t x (written (boundParts (answer (languageOf table brought) q t allowance)) before)
   bound-shows before h =
       let b = bound-told (answer (languageOf table brought) q t allowance) h in
       let f = bound-found (languageOf table brought) q t allowance (b .0) (b .1) (b .2) in
@@ -184,7 +191,7 @@ module _ (table : List ℕ) (brought : Option (List ℕ)) (pattern bytes : List 
       let z : answer (languageOf table brought) q t allowance ≡ bound (parts table e) (b .1) = b .2 ∙ ap (λ (ps : List Part). bound ps (b .1)) (f .1 .2) in (
         e .value,
         search-decides (languageOf table brought) k q t of .found-first e (f .1 .1),
-        subst (Shows table bytes q t (e .value)) (ap (λ (o : Outcome). written o before) (sym z))
+        subst (Shows table bytes q t (e .value)) (ap (λ (o : Outcome). written (boundParts o) before) (sym z))
             (env-shown table brought pattern bytes k q t i e (first-answers (whole (languageOf table brought) q t .out) e (f .1 .1)) _ (found-shown e (f .0) (f .1 .1)) (drop answerWidth before)),
       )
 
@@ -196,17 +203,13 @@ module _ (table : List ℕ) (brought : Option (List ℕ)) (pattern bytes : List 
       (accepted : broughtAccepted table brought ≡ true) where
     pub same-call : (more : ℕ) → answer (languageOf table brought) q t more ≡ answer (languageOf table brought) q t allowance
         → (answerOf table brought pattern bytes more (length before) ≡ told (answer (languageOf table brought) q t allowance))
-        × (bufferOf table brought pattern bytes more before ≡ written (answer (languageOf table brought) q t allowance) before)
+        × (bufferOf table brought pattern bytes more before ≡ written (boundParts (answer (languageOf table brought) q t allowance)) before)
     unfolding answerOf bufferOf
     same-call more z =
-        let c : checked table brought pattern bytes (length before) ≡ trees q t =
-        input-checked table brought pattern bytes (length before) pattern-octets record-octets q t wide accepted i in (
-          ap (λ (x : Checked). answerBy x table brought more) c ∙ ap told z,
-          ap (λ (x : Checked). bufferBy x table brought more before) c
-              ∙ ap (λ (o : Outcome). written o before) z,
-        )
+        rw (checked-exactly table pattern bytes pattern-octets record-octets brought (length before) q t .1 (wide, accepted, i))
+        (ap told z, ap (λ (o : Outcome). written (boundParts o) before) z)
 
-    pub answered : Answered table brought pattern bytes before allowance q t (told (answer (languageOf table brought) q t allowance)) (written (answer (languageOf table brought) q t allowance) before)
+    pub answered : Answered table brought pattern bytes before allowance q t (told (answer (languageOf table brought) q t allowance)) (written (boundParts (answer (languageOf table brought) q t allowance)) before)
     answered = record {
       spent-exactly = (
         λ h. let s = spent-told (answer (languageOf table brought) q t allowance) h in exact .spent-exactly (s .0) .0 (s .1) .1,
@@ -237,7 +240,7 @@ module _ (table : List ℕ) (brought : Option (List ℕ)) (pattern bytes : List 
         exact : AnswerExact (languageOf table brought) q t allowance
         exact = answer-exact (languageOf table brought) k q t of allowance
 
-    pub published : (n : NoRuns q) → Published table brought bytes allowance q n t (told (answer (languageOf table brought) q t allowance)) (written (answer (languageOf table brought) q t allowance) before)
+    pub published : (n : NoRuns q) → Published table brought bytes allowance q n t (told (answer (languageOf table brought) q t allowance)) (written (boundParts (answer (languageOf table brought) q t allowance)) before)
     published n = record {
       none-exactly = (
         λ h. let s = none-told (answer (languageOf table brought) q t allowance) h in
@@ -258,7 +261,7 @@ module _ (table : List ℕ) (brought : Option (List ℕ)) (pattern bytes : List 
           let s = agrees .satisfying-substitution (b .0) (b .1 .satisfies) in (
             s .0,
             agrees .solution-satisfies (s .0) .1 (subst (Satisfies (languageOf table brought) q t) (s .1) (b .1 .satisfies)),
-            subst (λ (x : Assignment). Shows table bytes q t x (written (answer (languageOf table brought) q t allowance) before)) (s .1) (b .2),
+            subst (λ (x : Assignment). Shows table bytes q t x (written (boundParts (answer (languageOf table brought) q t allowance)) before)) (s .1) (b .2),
           );
       only-one = agrees .at-most-one;
     }

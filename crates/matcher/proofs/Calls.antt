@@ -22,14 +22,15 @@ use Rattle.anti_pattern.specs.Variables.{freeRuns}
 use Rattle.anti_pattern.proofs.Demands.{answer-exact}
 use Rattle.anti_pattern.proofs.Following.{map-among}
 use Rattle.anti_pattern.proofs.Within.{accepted-of}
-use Rattle.search.specs.Shown.{answerWidth}
+use Rattle.search.specs.Shown.{numbers, answerWidth}
 use Rattle.search.proofs.Shown.{numbers-length}
-use Rattle.matcher.specs.Call.{answerNumber, classesOf, languageOf, broughtAccepted, Input, numbers, told, answerOf, written, bufferOf}
+use Rattle.call.specs.Brought.{classesOf, languageOf, broughtAccepted}
+use Rattle.call.specs.Call.{written}
+use Rattle.call.proofs.Brought.{brought-alike}
+use Rattle.matcher.specs.Call.{answerNumber, Input, told, answerOf, boundParts, bufferOf}
 use Rattle.matcher.specs.Demands.{termsIn, NextCalls, AllCalls, EveryCall}
-use Rattle.matcher.specs.Next.{toldNext, nextOf, writtenNext, nextBufferOf}
-use Rattle.matcher.proofs.Answered.{none-told, bound-told, same-call}
-use Rattle.matcher.proofs.Buffers.{shown-at}
-use Rattle.matcher.proofs.Checks.{brought-alike}
+use Rattle.matcher.specs.Next.{toldNext, nextOf, boundNext, nextBufferOf}
+use Rattle.matcher.proofs.Answered.{shown-at, none-told, bound-told, same-call}
 use Rattle.link.proofs.Followed.{free-runs-are, next-accepted, every-accepted}
 use Rattle.matcher.proofs.Follows.{is-none, is-bound, same-next}
 
@@ -56,7 +57,7 @@ module _ (table : List ℕ) (brought : Option (List ℕ)) (pattern bytes : List 
 
   module _ (given : List ℕ) (allowance : ℕ) (before : List ℕ) (wide : answerWidth ≤ length before) where
     next-told : (nextOf table brought pattern bytes given allowance (length before) ≡ toldNext (next l q t given allowance))
-        × (nextBufferOf table brought pattern bytes given allowance before ≡ writtenNext (next l q t given allowance) before)
+        × (nextBufferOf table brought pattern bytes given allowance before ≡ written (boundNext (next l q t given allowance)) before)
     next-told = same-next table brought pattern bytes given before allowance pattern-octets record-octets wide accepted q t i allowance refl
 
     module _ (ps : List Part) (n : ℕ) (e : next l q t given allowance ≡ follows (bound ps n)) where
@@ -65,7 +66,7 @@ module _ (table : List ℕ) (brought : Option (List ℕ)) (pattern bytes : List 
           ap length (next-accepted table pattern bytes q t i (classesOf brought) (brought-alike table brought accepted) given allowance .bound-exactly ps n .0 e .2 .4)
 
       next-buffer : nextBufferOf table brought pattern bytes given allowance before ≡ numbers ps ++ drop answerWidth before
-      next-buffer = next-told .1 ∙ ap (λ (f : Following). writtenNext f before) e
+      next-buffer = next-told .1 ∙ ap (λ (f : Following). written (boundNext f) before) e
 
       next-numbers : take answerWidth (nextBufferOf table brought pattern bytes given allowance before) ≡ numbers ps
       next-numbers = ap (take answerWidth) next-buffer ∙ numbers-shown ps next-all (drop answerWidth before)
@@ -75,7 +76,7 @@ module _ (table : List ℕ) (brought : Option (List ℕ)) (pattern bytes : List 
 
   module _ (allowance : ℕ) (before : List ℕ) (wide : answerWidth ≤ length before) where
     first-told : (answerOf table brought pattern bytes allowance (length before) ≡ told (answer l q t allowance))
-        × (bufferOf table brought pattern bytes allowance before ≡ written (answer l q t allowance) before)
+        × (bufferOf table brought pattern bytes allowance before ≡ written (boundParts (answer l q t allowance)) before)
     first-told =
         same-call table brought pattern bytes (brought-alike table brought accepted) q t i allowance before pattern-octets record-octets wide accepted allowance refl
 
@@ -84,7 +85,7 @@ module _ (table : List ℕ) (brought : Option (List ℕ)) (pattern bytes : List 
       first-all = ap length (answer-exact l (brought-alike table brought accepted) q t of allowance .bound-exactly ps n .0 e .2 .2)
 
       first-buffer : bufferOf table brought pattern bytes allowance before ≡ numbers ps ++ drop answerWidth before
-      first-buffer = first-told .1 ∙ ap (λ (o : Outcome). written o before) e
+      first-buffer = first-told .1 ∙ ap (λ (o : Outcome). written (boundParts o) before) e
 
       first-numbers : take answerWidth (bufferOf table brought pattern bytes allowance before) ≡ numbers ps
       first-numbers = ap (take answerWidth) first-buffer ∙ numbers-shown ps first-all (drop answerWidth before)

@@ -1,111 +1,81 @@
 -- The checks pass exactly on accepted input.
-use Prim.Native.Nat.{ℕ, _<_, _≤_}
+use Prim.Native.Nat.{ℕ, _≤_}
 use native.Mathlib.Omega.{arith}
-use mathlib.Core.Path.{_≡_, refl, _∙_, ap}
+use mathlib.Core.Path.{_≡_, refl}
+use mathlib.Core.Logic.{_↔_}
 use mathlib.Core.List.{List}
-use mathlib.Core.Option.{Option, none, some}
-use mathlib.Core.Bool.{Bool, true, false, cond}
-use lib.Dec.{ltb}
-use borrow.Author.Tests.{ltb-false, lt-ltb, le-ltb}
-use Rattle.term.specs.Class.{classesAccepted, Alike}
+use mathlib.Core.Option.{Option}
+use mathlib.Core.Bool.{true}
 use Rattle.term.specs.Table.{tableAccepted}
 use Rattle.term.specs.Term.{Term}
 use Rattle.term.specs.Pattern.{Pattern}
 use Rattle.term.specs.Limits.{Octets}
-use Rattle.reader.specs.Reading.{Answer as Reading, refused, read, shown, readRecord, readPattern}
+use Rattle.reader.specs.Reading.{shown, readRecord, readPattern}
 use Rattle.term.specs.declared.Refusal.{Refusal}
-use Rattle.term.specs.declared.Refusal.the-variants.{Table, Narrow, Class}
 use Rattle.reader.specs.declared.Read.{Read}
 use Rattle.reader.specs.declared.Read.the-variants.{Ends}
-use Rattle.term.proofs.Classes.{accepted-alike, none-alike}
 use Rattle.reader.proofs.Answers.{refused-shown, ends-shown}
 use Rattle.reader.proofs.Typed.{record-iff, pattern-iff, record-read, pattern-read}
-use Rattle.matcher.specs.Call.{broughtBy, classesOf, broughtAccepted, Input, fault, trees, checkedBy, checked, checkOf}
-use Rattle.matcher.specs.declared.Check.the-variants.{Passed, Failed}
 use Rattle.search.specs.Shown.{answerWidth}
+use Rattle.call.specs.Brought.{broughtAccepted}
+use Rattle.call.specs.Verdict.{Verdict, passed, fault, reading}
+use Rattle.call.proofs.Checks as every
+use Rattle.matcher.specs.Call.{Input, AcceptedTrees, trees, checked, checkOf}
+use Rattle.matcher.specs.declared.Check.the-variants.{Passed, Failed}
 
--- a class list that is brought is checked
-pub brought-is : (table : List ℕ) (brings : Bool) (classes : List ℕ) → brings ≡ true
-    → classesAccepted table classes ≡ broughtAccepted table (broughtBy brings classes)
-brought-is table brings classes e = rw e
-
--- and has like table bytes in a class, as the empty one has
-pub brought-alike : (table : List ℕ) (brought : Option (List ℕ)) → broughtAccepted table brought ≡ true → Alike table (classesOf brought)
-brought-alike table none h = none-alike table
-brought-alike table (some classes) h = accepted-alike table classes h
-
-fault-trees : {r : Refusal} {q : Pattern} {t : Term} → fault r ≡ trees q t → ⊥
-fault-trees e = let z : _≡_ {A = ℕ} 0 1 = cc in omega arith
-
-module _ (table : List ℕ) (brought : Option (List ℕ)) (pattern bytes : List ℕ) (width : ℕ) (pattern-octets : Octets pattern) (record-octets : Octets bytes) (q : Pattern) (t : Term) where
-  pub input-checked : answerWidth ≤ width → broughtAccepted table brought ≡ true → Input table pattern bytes q t → checked table brought pattern bytes width ≡ trees q t
-  unfolding checked
-  input-checked wide b i =
+module _ (table pattern bytes : List ℕ) (pattern-octets : Octets pattern) (record-octets : Octets bytes) where
+  -- accepted input is what is read
+  pub reads : (x : Pattern × Term) → AcceptedTrees table pattern bytes x ↔ ((tableAccepted table ≡ true) × (trees table pattern bytes ≡ passed x))
+  reads x = (
+    λ i. (
+      i .table-accepted,
       rw (
-        le-ltb width answerWidth wide,
-        i .table-accepted,
-        b,
-        pattern-iff table pattern pattern-octets q .1 (i .pattern-bytes, i .pattern-accepted),
-        record-iff table bytes record-octets t .1 (i .record-bytes, i .record-accepted),
-      )
+        pattern-iff table pattern pattern-octets (x .0) .1 (i .pattern-bytes, i .pattern-accepted),
+        record-iff table bytes record-octets (x .1) .1 (i .record-bytes, i .record-accepted),
+      ),
+    ),
+    λ e.
+        let b = every.both-passed (reading (readPattern table pattern)) (reading (readRecord table bytes)) (x .0) (x .1) (e .1) in
+        let p = every.reading-passed (readPattern table pattern) (x .0) (b .0) in
+        let r = every.reading-passed (readRecord table bytes) (x .1) (b .1) in
+        let q = pattern-read table pattern pattern-octets (p .0) (x .0) (p .1) in
+        let t = record-read table bytes record-octets (r .0) (x .1) (r .1) in record {
+          table-accepted = e .0;
+          pattern-bytes = q .0;
+          pattern-accepted = q .1;
+          record-bytes = t .0;
+          record-accepted = t .1;
+        },
+  )
 
-  pub checked-input : checked table brought pattern bytes width ≡ trees q t → (answerWidth ≤ width) × (broughtAccepted table brought ≡ true) × Input table pattern bytes q t
-  unfolding checked
-  checked-input e = go (ltb width answerWidth) refl (tableAccepted table) refl (broughtAccepted table brought) refl (readPattern table pattern) refl (readRecord table bytes) refl e
-    where
-      go : (a : Bool) → ltb width answerWidth ≡ a → (b : Bool) → tableAccepted table ≡ b → (d : Bool) → broughtAccepted table brought ≡ d
-          → (x : Reading Pattern) → readPattern table pattern ≡ x → (y : Reading Term) → readRecord table bytes ≡ y
-          → cond a (fault Narrow) (cond b (cond d (checkedBy x y) (fault Class)) (fault Table)) ≡ trees q t
-          → (answerWidth ≤ width) × (broughtAccepted table brought ≡ true) × Input table pattern bytes q t
-      go true h b g d f x k y l e = absurd (fault-trees e)
-      go false h false g d f x k y l e = absurd (fault-trees e)
-      go false h true g false f x k y l e = absurd (fault-trees e)
-      go false h true g true f (refused r) k y l e = absurd (fault-trees e)
-      go false h true g true f (read p n) k (refused r) l e = absurd (fault-trees e)
-      go false h true g true f (read p n) k (read u m) l e =
-          let z : p ≡ q = cc in
-          let y : u ≡ t = cc in
-          let a = pattern-read table pattern pattern-octets n q (k ∙ ap (λ (w : Pattern). read w n) z) in
-          let b = record-read table bytes record-octets m t (l ∙ ap (λ (w : Term). read w m) y) in (
-            ltb-false width answerWidth h,
-            f,
-            record {
-              table-accepted = g;
-              pattern-bytes = a .0;
-              pattern-accepted = a .1;
-              record-bytes = b .0;
-              record-accepted = b .1;
-            },
-          )
+  module _ (brought : Option (List ℕ)) (width : ℕ) (q : Pattern) (t : Term) where
+    pub checked-exactly : (checked table brought pattern bytes width ≡ passed (q, t))
+        ↔ ((answerWidth ≤ width) × (broughtAccepted table brought ≡ true) × Input table pattern bytes q t)
+    checked-exactly = every.passed-exactly table brought width (trees table pattern bytes) (AcceptedTrees table pattern bytes) reads (q, t)
 
--- each check by what is told of the ones before it
+-- what the code's checks tell
 
-module _ (table : List ℕ) (brought : Option (List ℕ)) (pattern bytes : List ℕ) (width : ℕ) where
-  pub narrow-fails : width < answerWidth → Failed Narrow ≡ checkOf (checked table brought pattern bytes width)
-  unfolding checked
-  narrow-fails h = rw (lt-ltb width answerWidth h)
+pub check-failed : (v : Verdict (Pattern × Term)) (r : Refusal) → Failed r ≡ checkOf v → (i : ℕ) × (v ≡ fault r i)
+check-failed (fault x i) r e = (i, cc)
+check-failed (passed x) r e = let z : _≡_ {A = ℕ} 0 1 = cc in absurd (omega arith)
 
-  module _ (wide : answerWidth ≤ width) where
-    pub table-fails : tableAccepted table ≡ false → Failed Table ≡ checkOf (checked table brought pattern bytes width)
-    unfolding checked
-    table-fails h = rw (le-ltb width answerWidth wide, h)
+pub check-passed : (v : Verdict (Pattern × Term)) → Passed ≡ checkOf v → (q : Pattern) × (t : Term) × (v ≡ passed (q, t))
+check-passed (fault x i) e = let z : _≡_ {A = ℕ} 0 1 = cc in absurd (omega arith)
+check-passed (passed x) e = (x .0, x .1, refl)
 
-    module _ (accepted : tableAccepted table ≡ true) where
-      pub class-fails : broughtAccepted table brought ≡ false → Failed Class ≡ checkOf (checked table brought pattern bytes width)
-      unfolding checked
-      class-fails h = rw (le-ltb width answerWidth wide, accepted, h)
+-- the own checks, each by what is told of the ones before it
 
-    module _ (accepted : tableAccepted table ≡ true) (classed : broughtAccepted table brought ≡ true) where
-      pub pattern-fails : (r : Refusal) → shown (readPattern table pattern) ≡ Read.Refused r → Failed r ≡ checkOf (checked table brought pattern bytes width)
-      unfolding checked
-      pattern-fails r e = rw (le-ltb width answerWidth wide, accepted, classed, refused-shown (readPattern table pattern) r e)
+module _ (table : List ℕ) (brought : Option (List ℕ)) (pattern bytes : List ℕ) (width : ℕ) (wide : answerWidth ≤ width) (tabled : tableAccepted table ≡ true)
+    (classed : broughtAccepted table brought ≡ true) where
+  own-checked : checked table brought pattern bytes width ≡ trees table pattern bytes
+  own-checked = every.then-own table brought width (trees table pattern bytes) wide tabled classed
 
-      module _ (n : ℕ) (ends : shown (readPattern table pattern) ≡ Ends n) where
-        pub record-fails : (r : Refusal) → shown (readRecord table bytes) ≡ Read.Refused r → Failed r ≡ checkOf (checked table brought pattern bytes width)
-        unfolding checked
-        record-fails r e =
-            rw (le-ltb width answerWidth wide, accepted, classed, ends-shown (readPattern table pattern) n ends .1, refused-shown (readRecord table bytes) r e)
+  pub pattern-fails : (r : Refusal) → shown (readPattern table pattern) ≡ Read.Refused r → Failed r ≡ checkOf (checked table brought pattern bytes width)
+  pattern-fails r e = rw (own-checked, refused-shown (readPattern table pattern) r e)
 
-        pub all-pass : (m : ℕ) → shown (readRecord table bytes) ≡ Ends m → Passed ≡ checkOf (checked table brought pattern bytes width)
-        unfolding checked
-        all-pass m e = rw (le-ltb width answerWidth wide, accepted, classed, ends-shown (readPattern table pattern) n ends .1, ends-shown (readRecord table bytes) m e .1)
+  module _ (n : ℕ) (ends : shown (readPattern table pattern) ≡ Ends n) where
+    pub record-fails : (r : Refusal) → shown (readRecord table bytes) ≡ Read.Refused r → Failed r ≡ checkOf (checked table brought pattern bytes width)
+    record-fails r e = rw (own-checked, ends-shown (readPattern table pattern) n ends .1, refused-shown (readRecord table bytes) r e)
+
+    pub all-pass : (m : ℕ) → shown (readRecord table bytes) ≡ Ends m → Passed ≡ checkOf (checked table brought pattern bytes width)
+    all-pass m e = rw (own-checked, ends-shown (readPattern table pattern) n ends .1, ends-shown (readRecord table bytes) m e .1)

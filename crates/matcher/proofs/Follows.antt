@@ -1,7 +1,7 @@
 -- What the call for the next answer tells: by its number, and on accepted input by the search on trees.
 use Prim.Native.Nat.{ℕ, _≤_}
 use native.Mathlib.Omega.{arith}
-use mathlib.Core.Path.{_≡_, refl, _∙_, ap}
+use mathlib.Core.Path.{_≡_, refl, ap}
 use mathlib.Core.List.{List}
 use mathlib.Core.Bool.{true}
 use mathlib.Core.Option.{Option}
@@ -15,32 +15,28 @@ use Rattle.term.specs.declared.Refusal.the-variants.{Unknown}
 use Rattle.anti_pattern.specs.Answer.{bound, nothing, spent}
 use Rattle.anti_pattern.specs.Next.{Following, follows, unknown, next}
 use Rattle.search.specs.Shown.{answerWidth}
-use Rattle.matcher.specs.Call.{answerNumber, languageOf, broughtAccepted, Input, Checked, trees, checked}
-use Rattle.matcher.specs.Next.{toldNext, nextBy, nextOf, writtenNext, nextBufferBy, nextBufferOf}
-use Rattle.matcher.proofs.Checks.{input-checked}
+use Rattle.call.specs.Brought.{languageOf, broughtAccepted}
+use Rattle.call.specs.Call.{written}
+use Rattle.matcher.specs.Call.{answerNumber, Input}
+use Rattle.matcher.specs.Next.{toldNext, nextOf, boundNext, nextBufferOf}
+use Rattle.matcher.proofs.Answered.{spent-told, none-told, bound-told}
+use Rattle.matcher.proofs.Checks.{checked-exactly}
+use Rattle.matcher.proofs.Demanded.{told-refused}
 
 pub is-unknown : (f : Following) → answerNumber (toldNext f) ≡ numberOf Unknown → f ≡ unknown
-is-unknown (follows (bound ps n)) e = absurd (omega (arith, e))
-is-unknown (follows (nothing n)) e = absurd (omega (arith, e))
-is-unknown (follows (spent n)) e = absurd (omega (arith, e))
+is-unknown (follows o) e = absurd (told-refused o Unknown e)
 is-unknown unknown e = refl
 
 pub is-spent : (f : Following) → answerNumber (toldNext f) ≡ 11 → (n : ℕ) × (f ≡ follows (spent n))
-is-spent (follows (bound ps n)) e = absurd (omega (arith, e))
-is-spent (follows (nothing n)) e = absurd (omega (arith, e))
-is-spent (follows (spent n)) e = (n, refl)
+is-spent (follows o) e = let s = spent-told o e in (s .0, ap follows (s .1))
 is-spent unknown e = absurd (omega (arith, e))
 
 pub is-none : (f : Following) → answerNumber (toldNext f) ≡ 10 → (n : ℕ) × (f ≡ follows (nothing n))
-is-none (follows (bound ps n)) e = absurd (omega (arith, e))
-is-none (follows (nothing n)) e = (n, refl)
-is-none (follows (spent n)) e = absurd (omega (arith, e))
+is-none (follows o) e = let s = none-told o e in (s .0, ap follows (s .1))
 is-none unknown e = absurd (omega (arith, e))
 
 pub is-bound : (f : Following) → answerNumber (toldNext f) ≡ 0 → (ps : List Part) × (n : ℕ) × (f ≡ follows (bound ps n))
-is-bound (follows (bound ps n)) e = (ps, n, refl)
-is-bound (follows (nothing n)) e = absurd (omega (arith, e))
-is-bound (follows (spent n)) e = absurd (omega (arith, e))
+is-bound (follows o) e = let s = bound-told o e in (s .0, s .1, ap follows (s .2))
 is-bound unknown e = absurd (omega (arith, e))
 
 module _ (table : List ℕ) (brought : Option (List ℕ)) (pattern bytes given before : List ℕ) (allowance : ℕ) (pattern-octets : Octets pattern)
@@ -51,11 +47,8 @@ module _ (table : List ℕ) (brought : Option (List ℕ)) (pattern bytes given b
 
   pub same-next : (more : ℕ) → following more ≡ following allowance
       → (nextOf table brought pattern bytes given more (length before) ≡ toldNext (following allowance))
-      × (nextBufferOf table brought pattern bytes given more before ≡ writtenNext (following allowance) before)
+      × (nextBufferOf table brought pattern bytes given more before ≡ written (boundNext (following allowance)) before)
   unfolding nextOf nextBufferOf
   same-next more z =
-      let c : checked table brought pattern bytes (length before) ≡ trees q t =
-      input-checked table brought pattern bytes (length before) pattern-octets record-octets q t wide accepted i in (
-        ap (λ (x : Checked). nextBy x table brought given more) c ∙ ap toldNext z,
-        ap (λ (x : Checked). nextBufferBy x table brought given more before) c ∙ ap (λ (x : Following). writtenNext x before) z,
-      )
+      rw (checked-exactly table pattern bytes pattern-octets record-octets brought (length before) q t .1 (wide, accepted, i))
+      (ap toldNext z, ap (λ (x : Following). written (boundNext x) before) z)

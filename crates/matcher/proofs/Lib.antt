@@ -1,5 +1,4 @@
 -- The laws: from the search on trees to what the calls promise (Demanded, NextDemanded).
-pub mod Buffers
 pub mod Checks
 pub mod Answered
 pub mod Cost

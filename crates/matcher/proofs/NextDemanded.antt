@@ -5,7 +5,7 @@ use mathlib.Core.Path.{_≡_, refl, sym, _∙_, ap, subst}
 use mathlib.Core.Logic.{_⊎_, inl, inr}
 use mathlib.Core.List.{List, []}
 use mathlib.Core.Bool.{true}
-use mathlib.Core.Option.{Option}
+use mathlib.Core.Option.{Option, none}
 use lib.ListN.{length, drop}
 use Rattle.term.specs.Class.{Alike}
 use Rattle.term.specs.Limits.{Octets}
@@ -30,20 +30,23 @@ use Rattle.search.specs.declared.Followed.{Followed}
 use Rattle.search.specs.declared.Known.the-variants.{Ended as KnownEnds, Unknown as Strange}
 use Rattle.search.specs.declared.Outcome.{Outcome}
 use Rattle.search.proofs.Lefts.{following-left}
+use Rattle.call.specs.Brought.{classesOf, languageOf, broughtAccepted}
+use Rattle.call.specs.Call.{written}
+use Rattle.call.proofs.Brought.{brought-alike}
+use Rattle.call.proofs.Handled.{handled, fails, passes}
 use Rattle.link.specs.OnBytes.{repliedBy, repliedPass, followingOnBytes}
-use Rattle.matcher.specs.Call.{answerNumber, answerCount, classesOf, languageOf, broughtAccepted, Input, Checked, fault, trees, checked, checkOf, told}
-use Rattle.matcher.specs.Next.{toldNext, nextBy, nextOf, writtenNext, nextBufferBy, nextBufferOf}
-use Rattle.matcher.specs.Demands.{Shows, NextAnswered, NextDemanded}
+use Rattle.matcher.specs.Call.{answerNumber, answerCount, Input, AcceptedTrees, trees, checked, checkOf, refusal, told}
+use Rattle.matcher.specs.Next.{toldNext, nextOf, boundNext, nextBufferOf}
+use Rattle.matcher.specs.Demands.{Shows, NextAnswered, NextDemanded, NextCalled}
 use Rattle.matcher.specs.declared.Answer.{Answer}
 use Rattle.matcher.specs.declared.Answer.the-variants.{Refused}
 use Rattle.matcher.specs.declared.Check.{Check}
 use Rattle.matcher.specs.declared.Check.the-variants.{Passed, Failed}
 use Rattle.matcher.proofs.Answered.{env-shown}
-use Rattle.matcher.proofs.Buffers.{written-untouched}
 use Rattle.matcher.proofs.Calls.{every-call}
-use Rattle.matcher.proofs.Checks.{brought-alike, checked-input}
+use Rattle.matcher.proofs.Checks.{reads, checked-exactly, check-failed, check-passed}
 use Rattle.matcher.proofs.Cost.{next-bounded}
-use Rattle.matcher.proofs.Demanded.{told-refused, refused-count, written-past, passes-by}
+use Rattle.matcher.proofs.Demanded.{told-refused, told-unbound}
 use Rattle.link.proofs.Followed.{next-accepted}
 use Rattle.matcher.proofs.Follows.{is-unknown, is-spent, is-none, is-bound, same-next}
 use Rattle.matcher.proofs.Matched.{told-parts, shown-by}
@@ -84,18 +87,18 @@ module _ (table classes pattern bytes given before : List ℕ) (allowance : ℕ)
   next-unknown e h s after f = (unknown-told pass e h s, f)
 
   -- what the search shows is what its answer writes
-  shown-next : answerWidth ≤ length before → (p : Pass) → shownPass p before ≡ writtenNext (repliedPass allowance p) before
+  shown-next : answerWidth ≤ length before → (p : Pass) → shownPass p before ≡ written (boundNext (repliedPass allowance p)) before
   shown-next wide (ends r) = shown-by table classes pattern bytes before allowance wide (r .outcome) (r .left) (r .parts)
   shown-next wide Pass.unknown = refl
 
   -- on accepted input it is the next answer on trees
   bytes-followed : answerWidth ≤ length before → Alike table classes → (q : Pattern) (t : Term) → Input table pattern bytes q t
       → (toldNext (followingOnBytes table classes pattern bytes given allowance) ≡ toldNext (next (language table classes) q t given allowance))
-      × (shownPass pass before ≡ writtenNext (next (language table classes) q t given allowance) before)
+      × (shownPass pass before ≡ written (boundNext (next (language table classes) q t given allowance)) before)
   unfolding followingOnBytes
   bytes-followed wide k q t i =
       let z = sym (next-on-bytes table classes pattern bytes k q t i given allowance) in
-      (ap toldNext z, shown-next wide pass ∙ ap (λ (x : Following). writtenNext x before) z)
+      (ap toldNext z, shown-next wide pass ∙ ap (λ (x : Following). written (boundNext x) before) z)
 
 -- With every check
 
@@ -104,13 +107,13 @@ refused-unknown : (f : Following) (r : Refusal) → answerNumber (toldNext f) �
 refused-unknown (follows o) r e = absurd (told-refused o r e)
 refused-unknown unknown r e = refl
 
-next-past : (before : List ℕ) (f : Following) → length (writtenNext f before) ≡ length before → drop answerWidth (writtenNext f before) ≡ drop answerWidth before
-next-past before (follows o) same = written-past before o same
-next-past before unknown same = refl
+next-uncounted : (f : Following) (r : Refusal) → answerNumber (toldNext f) ≡ numberOf r → answerCount (toldNext f) ≡ 0
+next-uncounted (follows o) r e = absurd (told-refused o r e)
+next-uncounted unknown r e = refl
 
-next-untouched : (before : List ℕ) (f : Following) → (answerNumber (toldNext f) ≡ 0 → ⊥) → writtenNext f before ≡ before
-next-untouched before (follows o) h = written-untouched o before h
-next-untouched before unknown h = refl
+next-unbound : (f : Following) → (answerNumber (toldNext f) ≡ 0 → ⊥) → boundNext f ≡ none
+next-unbound (follows o) h = told-unbound o h
+next-unbound unknown h = refl
 
 module _ (table : List ℕ) (brought : Option (List ℕ)) (pattern bytes given before : List ℕ) (allowance : ℕ) (pattern-octets : Octets pattern)
     (record-octets : Octets bytes) where
@@ -128,7 +131,7 @@ module _ (table : List ℕ) (brought : Option (List ℕ)) (pattern bytes given b
     -- what is written shows the next
     bound-next : (ps : List Part) (n : ℕ) → following allowance ≡ follows (bound ps n)
         → (x : Assignment) × (y : Assignment) × Given (languageOf table brought) q t given x × NextAfter (languageOf table brought) q t x y
-        × Shows table bytes q t y (writtenNext (following allowance) before)
+        × Shows table bytes q t y (written (boundNext (following allowance)) before)
     bound-next ps n h =
         let b = exact .bound-exactly ps n .0 h in
         let each = one-for-each (languageOf table brought) q t given (b .2 .0) (b .2 .2) in
@@ -140,11 +143,11 @@ module _ (table : List ℕ) (brought : Option (List ℕ)) (pattern bytes given b
           s .0 .value,
           m .1,
           m .2,
-          subst (Shows table bytes q t (s .0 .value)) (ap (λ (f : Following). writtenNext f before) (sym z))
+          subst (Shows table bytes q t (s .0 .value)) (ap (λ (f : Following). written (boundNext f) before) (sym z))
               (env-shown table brought pattern bytes alike q t i (s .0) (m .3) _ (s .3 .1) (drop answerWidth before)),
         )
 
-    next-answered : NextAnswered table brought pattern bytes given before allowance q t (toldNext (following allowance)) (writtenNext (following allowance) before)
+    next-answered : NextAnswered table brought pattern bytes given before allowance q t (toldNext (following allowance)) (written (boundNext (following allowance)) before)
     next-answered = record {
       unknown-exactly = (λ h. exact .unknown-exactly .0 (is-unknown (following allowance) h), λ h. ap number (exact .unknown-exactly .1 h));
       spent-exactly = (
@@ -181,41 +184,32 @@ module _ (table : List ℕ) (brought : Option (List ℕ)) (pattern bytes given b
         counted (inl h) = let s = is-none (following allowance) h in ap shows (s .1) ∙ exact .none-exactly (s .0) .0 (s .1) .0
         counted (inr h) = let s = is-bound (following allowance) h in ap shows (s .2) ∙ exact .bound-exactly (s .0) (s .1) .0 (s .2) .0
 
-  past-of : (c : Checked) → length (nextBufferBy c table brought given allowance before) ≡ length before
-      → drop answerWidth (nextBufferBy c table brought given allowance before) ≡ drop answerWidth before
-  past-of (fault r) same = refl
-  past-of (trees q t) same = next-past before (next (languageOf table brought) q t given allowance) same
+  -- the work on trees
+  abbrev work : Pattern × Term → Following
+  work x = next (languageOf table brought) (x .0) (x .1) given allowance
 
-  untouched-of : (c : Checked) → (answerNumber (nextBy c table brought given allowance) ≡ 0 → ⊥)
-      → nextBufferBy c table brought given allowance before ≡ before
-  untouched-of (fault r) h = refl
-  untouched-of (trees q t) h = next-untouched before (next (languageOf table brought) q t given allowance) h
+  abbrev tells : Pattern × Term → Answer
+  tells x = toldNext (work x)
 
-  refused-of : (c : Checked) → checked table brought pattern bytes (length before) ≡ c
-      → (answerWidth ≤ length before → broughtAccepted table brought ≡ true → (q : Pattern) (t : Term) → Input table pattern bytes q t
-      → UnknownLengths (languageOf table brought) q t given allowance)
-      → (r : Refusal) × (answerNumber (nextBy c table brought given allowance) ≡ numberOf r)
-  refused-of (fault r) e h = (r, refl)
-  refused-of (trees q t) e h =
-      let i = checked-input table brought pattern bytes (length before) pattern-octets record-octets q t e in
-      (Unknown, next-answered (i .0) (i .1) q t (i .2) .unknown-exactly .1 (h (i .0) (i .1) q t (i .2)))
+  abbrev binds : Pattern × Term → Option (List Part)
+  binds x = boundNext (work x)
 
   demanded-of : length (nextBufferOf table brought pattern bytes given allowance before) ≡ length before
       → NextDemanded table brought pattern bytes given before allowance (nextOf table brought pattern bytes given allowance (length before))
       (nextBufferOf table brought pattern bytes given allowance before)
   unfolding nextOf nextBufferOf
   demanded-of same = record {
-    handled = record {
-      refused-exactly = (
-        λ e wide a q t i.
-            next-answered wide a q t i .unknown-exactly .0 (refused-unknown (next (languageOf table brought) q t given allowance) (e .0)
-            (sym (ap answerNumber (same-next table brought pattern bytes given before allowance pattern-octets record-octets wide a q t i allowance refl .0)) ∙ e .1)),
-        refused-of (checked table brought pattern bytes (length before)) refl,
-      );
-      refused-shows = refused-count (nextBy (checked table brought pattern bytes (length before)) table brought given allowance);
-      untouched = untouched-of (checked table brought pattern bytes (length before));
-      past-stays = past-of (checked table brought pattern bytes (length before)) same;
-    };
+    handled = handled refusal tells binds before table brought (trees table pattern bytes) (AcceptedTrees table pattern bytes)
+        (λ x. UnknownLengths (languageOf table brought) (x .0) (x .1) given allowance) (reads table pattern bytes pattern-octets record-octets) answerNumber answerCount
+        (record {
+          numbered = λ r i. refl;
+          uncounted = λ r i. refl;
+          told-uncounted = λ x. next-uncounted (work x);
+          unbound = λ x. next-unbound (work x);
+        })
+        (λ wide a x i.
+        let u = next-answered wide a (x .0) (x .1) i .unknown-exactly in
+        (λ e. u .0 (refused-unknown (work x) (e .0) (e .1)), λ h. (Unknown, u .1 h))) same;
     answered = λ wide a q t i. let z = same-next table brought pattern bytes given before allowance pattern-octets record-octets wide a q t i allowance refl in rw (z .0, z .1) (next-answered wide a q t i);
     bounded = λ wide a q t i n.
         rw (same-next table brought pattern bytes given before allowance pattern-octets record-octets wide a q t i allowance refl .0)
@@ -223,37 +217,25 @@ module _ (table : List ℕ) (brought : Option (List ℕ)) (pattern bytes given b
         (next-accepted table pattern bytes q t i (classesOf brought) (brought-alike table brought a) given allowance));
   }
 
-  -- the whole contract
-  abbrev Called : Answer → List ℕ → Type 0
-  Called a after =
-      (a ≡ nextOf table brought pattern bytes given allowance (length before))
-      × ((after ≡ nextBufferOf table brought pattern bytes given allowance before)
-      × NextDemanded table brought pattern bytes given before allowance a after)
-
-  called : (a : Answer) (after : List ℕ) → a ≡ nextOf table brought pattern bytes given allowance (length before)
-      → after ≡ nextBufferOf table brought pattern bytes given allowance before → length after ≡ length before → Called a after
-  called a after e f same = (e, (f, rw (e, f) (demanded-of (rw f at same))))
-
-  fails-by : (c : Checked) (r : Refusal) → Failed r ≡ checkOf c
-      → (Refused r ≡ nextBy c table brought given allowance) × (before ≡ nextBufferBy c table brought given allowance before)
-  fails-by (fault x) r e = let z : r ≡ x = cc in (ap Refused z, refl)
-  fails-by (trees q t) r e = let z : _≡_ {A = ℕ} 0 1 = cc in absurd (omega arith)
-
   -- where a check fails
-  pub next-fails : {k : Check} {r : Refusal} → k ≡ checkOf (checked table brought pattern bytes (length before)) → k ≡ Failed r → Called (Refused r) before
+  pub next-fails : {k : Check} {r : Refusal} → k ≡ checkOf (checked table brought pattern bytes (length before)) → k ≡ Failed r → NextCalled table brought pattern bytes given before allowance (Refused r) before
   unfolding nextOf nextBufferOf
-  next-fails {k} {r} e f = let z = fails-by (checked table brought pattern bytes (length before)) r (sym f ∙ e) in called (Refused r) before (z .0) (z .1) refl
+  next-fails {k} {r} e f =
+      let c = check-failed (checked table brought pattern bytes (length before)) r (sym f ∙ e) in
+      fails refusal tells binds before (checked table brought pattern bytes (length before)) (NextDemanded table brought pattern bytes given before allowance) demanded-of
+      r (c .0) (c .1)
 
   -- where all pass, and the search takes the class list that is brought, or an empty one
   pub next-passes : {k : Check} → k ≡ checkOf (checked table brought pattern bytes (length before)) → k ≡ Passed
       → (classes : List ℕ) → classes ≡ classesOf brought → (a : Answer) (after : List ℕ)
       → (a ≡ toldNext (followingOnBytes table classes pattern bytes given allowance))
       × (after ≡ shownPass (nextPass table classes pattern bytes given allowance) before)
-      → length after ≡ length before → Called a after
-  next-passes e f classes same a after m long =
-      let c = passes-by (checked table brought pattern bytes (length before)) (sym f ∙ e) in
-      let i = checked-input table brought pattern bytes (length before) pattern-octets record-octets (c .0) (c .1) (c .2) in
-      let z = same-next table brought pattern bytes given before allowance pattern-octets record-octets (i .0) (i .1) (c .0) (c .1) (i .2) allowance refl in
+      → length after ≡ length before → NextCalled table brought pattern bytes given before allowance a after
+  unfolding nextOf nextBufferOf
+  next-passes e f classes same a after m =
+      let c = check-passed (checked table brought pattern bytes (length before)) (sym f ∙ e) in
+      let i = checked-exactly table pattern bytes pattern-octets record-octets brought (length before) (c .0) (c .1) .0 (c .2) in
       let g = bytes-followed table (classesOf brought) pattern bytes given before allowance (i .0) (brought-alike table brought (i .1)) (c .0) (c .1) (i .2) in
       let n = rw same at m in
-      called a after (n .0 ∙ g .0 ∙ sym (z .0)) (n .1 ∙ g .1 ∙ sym (z .1)) long
+      passes refusal tells binds before (checked table brought pattern bytes (length before)) (NextDemanded table brought pattern bytes given before allowance) demanded-of
+      (c .0, c .1) (c .2) a after (n .0 ∙ g .0) (n .1 ∙ g .1)

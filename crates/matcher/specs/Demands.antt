@@ -10,7 +10,6 @@ use Rattle.term.specs.Code.{names, variables}
 use Rattle.term.specs.Term.{Term, Terms, count, termsBytes}
 use Rattle.term.specs.Pattern.{Pattern}
 use Rattle.term.specs.Refusal.{numberOf}
-use Rattle.term.specs.declared.Refusal.{Refusal}
 use Rattle.term.specs.declared.Refusal.the-variants.{Unknown}
 use Rattle.anti_pattern.specs.AntiTerm.{Substitution}
 use Rattle.anti_pattern.specs.Answer.{countOf}
@@ -22,11 +21,13 @@ use Rattle.anti_pattern.specs.Order.{runLengths}
 use Rattle.anti_pattern.specs.Place.{place, partsAt}
 use Rattle.anti_pattern.specs.Published.{Solution, NoRuns, anti, assignment}
 use Rattle.anti_pattern.specs.Variables.{free, among, freeRuns}
-use Rattle.matcher.specs.Call.{answerNumber, answerCount, languageOf, broughtAccepted, Input, numbers, answerOf, bufferOf}
+use Rattle.call.specs.Brought.{languageOf, broughtAccepted}
+use Rattle.call.specs.Demands.{Handled}
+use Rattle.matcher.specs.Call.{answerNumber, answerCount, Input, AcceptedTrees, answerOf, bufferOf}
 use Rattle.matcher.specs.Cost.{Bounded, NextBounded}
 use Rattle.matcher.specs.Next.{nextOf, nextBufferOf}
 use Rattle.matcher.specs.declared.Answer.{Answer}
-use Rattle.search.specs.Shown.{entryWidth, answerWidth}
+use Rattle.search.specs.Shown.{numbers, entryWidth, answerWidth}
 
 -- the numbers that a buffer has for a variable
 abbrev pub offsetIn : List ℕ → ℕ → ℕ
@@ -126,21 +127,9 @@ module _ (table : List ℕ) (brought : Option (List ℕ)) where
     -- the answers from the first on are all
     pub every : EveryCall pattern bytes q t
 
--- Demand 1: any input gets an answer or a numbered refusal; the order of the checks is that of `checked` (Call)
-pub record Handled (table : List ℕ) (brought : Option (List ℕ)) (pattern bytes : List ℕ) (Unanswered : Pattern → Term → Type 0) (before : List ℕ)
-    (a : Answer) (after : List ℕ) : Type 0 where
-  -- refused exactly when the buffer is narrow, or the class list or the input is not accepted, or accepted input is not answered; a refusal shows
-  -- count 0
-  pub refused-exactly : ((r : Refusal) × (answerNumber a ≡ numberOf r))
-      ↔ (answerWidth ≤ length before → broughtAccepted table brought ≡ true → (q : Pattern) (t : Term) → Input table pattern bytes q t → Unanswered q t)
-  pub refused-shows : (r : Refusal) → answerNumber a ≡ numberOf r → answerCount a ≡ 0
-  -- "Unless a rule was bound the answer buffer is untouched"; "what lies past 144 stays"
-  pub untouched : (answerNumber a ≡ 0 → ⊥) → after ≡ before
-  pub past-stays : drop answerWidth after ≡ drop answerWidth before
-
 -- All three, and what a rule can cost at most; accepted input is always answered
 pub record Demanded (table : List ℕ) (brought : Option (List ℕ)) (pattern bytes before : List ℕ) (allowance : ℕ) (a : Answer) (after : List ℕ) : Type 0 where
-  pub handled : Handled table brought pattern bytes (λ q t. ⊥) before a after
+  pub handled : Handled table brought (AcceptedTrees table pattern bytes) (λ x. ⊥) before (answerNumber a) (answerCount a) after
   pub published : answerWidth ≤ length before → broughtAccepted table brought ≡ true → (q : Pattern) (t : Term) → Input table pattern bytes q t → (n : NoRuns q)
       → Published table brought bytes allowance q n t a after
   pub answered : answerWidth ≤ length before → broughtAccepted table brought ≡ true → (q : Pattern) (t : Term) → Input table pattern bytes q t
@@ -150,8 +139,25 @@ pub record Demanded (table : List ℕ) (brought : Option (List ℕ)) (pattern by
 
 -- The next answer (document 02, L3): answer and final buffer after the answer with the given run lengths
 pub record NextDemanded (table : List ℕ) (brought : Option (List ℕ)) (pattern bytes given before : List ℕ) (allowance : ℕ) (a : Answer) (after : List ℕ) : Type 0 where
-  pub handled : Handled table brought pattern bytes (λ q t. UnknownLengths (languageOf table brought) q t given allowance) before a after
+  pub handled : Handled table brought (AcceptedTrees table pattern bytes) (λ x. UnknownLengths (languageOf table brought) (x .0) (x .1) given allowance) before
+      (answerNumber a) (answerCount a) after
   pub answered : answerWidth ≤ length before → broughtAccepted table brought ≡ true → (q : Pattern) (t : Term) → Input table pattern bytes q t
       → NextAnswered table brought pattern bytes given before allowance q t a after
   pub bounded : answerWidth ≤ length before → broughtAccepted table brought ≡ true → (q : Pattern) (t : Term) → Input table pattern bytes q t → NoRuns q
       → NextBounded allowance q a
+
+-- answer, final buffer and demands in one, which only a private function's contract cites
+abbrev pub NextCalled : List ℕ → Option (List ℕ) → List ℕ → List ℕ → List ℕ → List ℕ → ℕ → Answer → List ℕ → Type 0
+NextCalled table brought pattern bytes given before allowance a after =
+    (a ≡ nextOf table brought pattern bytes given allowance (length before))
+    × ((after ≡ nextBufferOf table brought pattern bytes given allowance before) × NextDemanded table brought pattern bytes given before allowance a after)
+
+-- What is demanded where only the final buffer is at hand: of the answer that the call has
+
+abbrev pub DemandedOf : List ℕ → Option (List ℕ) → List ℕ → List ℕ → List ℕ → ℕ → List ℕ → Type 0
+DemandedOf table brought pattern bytes before allowance after =
+    Demanded table brought pattern bytes before allowance (answerOf table brought pattern bytes allowance (length before)) after
+
+abbrev pub NextDemandedOf : List ℕ → Option (List ℕ) → List ℕ → List ℕ → List ℕ → List ℕ → ℕ → List ℕ → Type 0
+NextDemandedOf table brought pattern bytes given before allowance after =
+    NextDemanded table brought pattern bytes given before allowance (nextOf table brought pattern bytes given allowance (length before)) after

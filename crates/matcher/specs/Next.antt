@@ -2,11 +2,14 @@
 -- inputs.
 use Prim.Native.Nat.{ℕ}
 use mathlib.Core.List.{List}
-use mathlib.Core.Option.{Option}
+use mathlib.Core.Option.{Option, none}
 use lib.ListN.{length}
+use Rattle.term.specs.declared.Part.{Part}
 use Rattle.term.specs.declared.Refusal.the-variants.{Unknown}
 use Rattle.anti_pattern.specs.Next.{Following, follows, unknown, next}
-use Rattle.matcher.specs.Call.{languageOf, Checked, fault, trees, checked, told, written}
+use Rattle.call.specs.Brought.{languageOf}
+use Rattle.call.specs.Call.{answerBy, bufferBy}
+use Rattle.matcher.specs.Call.{checked, refusal, told, boundParts}
 use Rattle.matcher.specs.declared.Answer.{Answer}
 use Rattle.matcher.specs.declared.Answer.the-variants.{Refused}
 
@@ -15,22 +18,16 @@ abbrev pub toldNext : Following → Answer
 toldNext (follows o) = told o
 toldNext unknown = Refused Unknown
 
-abbrev pub nextBy : Checked → List ℕ → Option (List ℕ) → List ℕ → ℕ → Answer
-nextBy (fault r) table brought given allowance = Refused r
-nextBy (trees q t) table brought given allowance = toldNext (next (languageOf table brought) q t given allowance)
-
 unfoldable pub nextOf : List ℕ → Option (List ℕ) → List ℕ → List ℕ → List ℕ → ℕ → ℕ → Answer
-nextOf table brought pattern bytes given allowance width = nextBy (checked table brought pattern bytes width) table brought given allowance
+nextOf table brought pattern bytes given allowance width =
+    answerBy refusal (λ x. toldNext (next (languageOf table brought) (x .0) (x .1) given allowance)) (checked table brought pattern bytes width)
 
--- The answer buffer, untouched unless bound
-abbrev pub writtenNext : Following → List ℕ → List ℕ
-writtenNext (follows o) before = written o before
-writtenNext unknown before = before
+-- The answer buffer, by the part of each variable where the answer is bound
 
-abbrev pub nextBufferBy : Checked → List ℕ → Option (List ℕ) → List ℕ → ℕ → List ℕ → List ℕ
-nextBufferBy (fault r) table brought given allowance before = before
-nextBufferBy (trees q t) table brought given allowance before = writtenNext (next (languageOf table brought) q t given allowance) before
+abbrev pub boundNext : Following → Option (List Part)
+boundNext (follows o) = boundParts o
+boundNext unknown = none
 
 unfoldable pub nextBufferOf : List ℕ → Option (List ℕ) → List ℕ → List ℕ → List ℕ → ℕ → List ℕ → List ℕ
 nextBufferOf table brought pattern bytes given allowance before =
-    nextBufferBy (checked table brought pattern bytes (length before)) table brought given allowance before
+    bufferBy (λ x. boundNext (next (languageOf table brought) (x .0) (x .1) given allowance)) (checked table brought pattern bytes (length before)) before

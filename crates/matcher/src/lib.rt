@@ -8,11 +8,13 @@ ghost use mathlib.Core.List.{[]};
 ghost use mathlib.Core.Option.{none, some};
 ghost use Prim.Native.Nat.{_≤_};
 ghost use lib.ListN.{length};
-ghost use Rattle.matcher.specs.Call.{answerNumber, answerCount, broughtBy, classesOf, broughtAccepted, checked, checkOf, answerOf, bufferOf, answerOnBytes, bufferOnBytes, told};
+ghost use Rattle.term.specs.Moment.{old, new};
+ghost use Rattle.call.specs.Brought.{broughtBy, classesOf, broughtAccepted};
+ghost use Rattle.link.specs.OnBytes.{repliedBy, followingOnBytes};
+ghost use Rattle.matcher.specs.Call.{answerNumber, answerCount, checked, checkOf, answerOf, bufferOf, answerOnBytes, bufferOnBytes, told};
 ghost use Rattle.matcher.specs.Next.{toldNext, nextOf, nextBufferOf};
 ghost use Rattle.search.specs.Following.{nextPass, shownPass};
-ghost use Rattle.link.specs.OnBytes.{repliedBy, followingOnBytes};
-ghost use Rattle.matcher.specs.Demands.{Demanded, NextDemanded};
+ghost use Rattle.matcher.specs.Demands.{Demanded, NextDemanded, NextCalled};
 
 // How many numbers an answer has.
 pub const ANSWER_WIDTH: usize = search::ANSWER_WIDTH;
@@ -52,14 +54,14 @@ impl Answer {
 }
 
 // Whether every check is passed, or why not.
-enum Check {
+pub enum Check {
     Passed,
     Failed(Refusal),
 }
 
 // Whether the class list is accepted, if the call brings one.
 fn accepts_classes(table: &[u8], brings: bool, classes: &[u8]) -> bool
-    ensures { λ r. ⌜ r ≡ broughtAccepted (now (table .entry)) (broughtBy brings (now (classes .entry))) ⌝ }
+    ensures { λ r. ⌜ r ≡ broughtAccepted (old table) (broughtBy brings (old classes)) ⌝ }
 {
     if brings {
         return term::check_classes(table, classes);
@@ -76,7 +78,7 @@ fn check_input(
     record: &[u8],
     width: usize,
 ) -> Check
-    ensures { λ r. ⌜ r ≡ checkOf (checked (now (table .entry)) (broughtBy brings (now (classes .entry))) (now (pattern .entry)) (now («record» .entry)) width) ⌝ }
+    ensures { λ r. ⌜ r ≡ checkOf (checked (old table) (broughtBy brings (old classes)) (old pattern) (old «record») width) ⌝ }
 {
     if width < ANSWER_WIDTH {
         return Check::Failed(Refusal::Narrow);
@@ -120,8 +122,8 @@ pub fn match_checked(
     allowance: u32,
     answer: &mut [u16],
 ) -> Answer
-    ensures is { λ r. ⌜ r ≡ answerOnBytes (now (table .entry)) (now (classes .entry)) (now (pattern .entry)) (now («record» .entry)) allowance (length (now (answer .entry))) ⌝ }
-    ensures buffer { λ r. ⌜ now (answer .exit) ≡ bufferOnBytes (now (table .entry)) (now (classes .entry)) (now (pattern .entry)) (now («record» .entry)) allowance (now (answer .entry)) ⌝ }
+    ensures is { λ r. ⌜ r ≡ answerOnBytes (old table) (old classes) (old pattern) (old «record») allowance (length (old answer)) ⌝ }
+    ensures buffer { λ r. ⌜ new answer ≡ bufferOnBytes (old table) (old classes) (old pattern) (old «record») allowance (old answer) ⌝ }
 {
     if answer.len() < ANSWER_WIDTH {
         return Answer::Refused(Refusal::Narrow);
@@ -140,9 +142,9 @@ pub fn match_one(
     allowance: u32,
     answer: &mut [u16],
 ) -> Answer
-    ensures is { λ r. ⌜ r ≡ answerOf (now (table .entry)) none (now (pattern .entry)) (now («record» .entry)) allowance (length (now (answer .entry))) ⌝ }
-    ensures buffer { λ r. ⌜ now (answer .exit) ≡ bufferOf (now (table .entry)) none (now (pattern .entry)) (now («record» .entry)) allowance (now (answer .entry)) ⌝ }
-    ensures demand { λ r. ⌜ Demanded (now (table .entry)) none (now (pattern .entry)) (now («record» .entry)) (now (answer .entry)) allowance r (now (answer .exit)) ⌝ }
+    ensures is { λ r. ⌜ r ≡ answerOf (old table) none (old pattern) (old «record») allowance (length (old answer)) ⌝ }
+    ensures buffer { λ r. ⌜ new answer ≡ bufferOf (old table) none (old pattern) (old «record») allowance (old answer) ⌝ }
+    ensures demand { λ r. ⌜ Demanded (old table) none (old pattern) (old «record») (old answer) allowance r (new answer) ⌝ }
 {
     let classes = &table[..0];
     let checks = check_input(table, false, classes, pattern, record, answer.len());
@@ -161,9 +163,9 @@ pub fn match_one_with_classes(
     allowance: u32,
     answer: &mut [u16],
 ) -> Answer
-    ensures is { λ r. ⌜ r ≡ answerOf (now (table .entry)) (some (now (classes .entry))) (now (pattern .entry)) (now («record» .entry)) allowance (length (now (answer .entry))) ⌝ }
-    ensures buffer { λ r. ⌜ now (answer .exit) ≡ bufferOf (now (table .entry)) (some (now (classes .entry))) (now (pattern .entry)) (now («record» .entry)) allowance (now (answer .entry)) ⌝ }
-    ensures demand { λ r. ⌜ Demanded (now (table .entry)) (some (now (classes .entry))) (now (pattern .entry)) (now («record» .entry)) (now (answer .entry)) allowance r (now (answer .exit)) ⌝ }
+    ensures is { λ r. ⌜ r ≡ answerOf (old table) (some (old classes)) (old pattern) (old «record») allowance (length (old answer)) ⌝ }
+    ensures buffer { λ r. ⌜ new answer ≡ bufferOf (old table) (some (old classes)) (old pattern) (old «record») allowance (old answer) ⌝ }
+    ensures demand { λ r. ⌜ Demanded (old table) (some (old classes)) (old pattern) (old «record») (old answer) allowance r (new answer) ⌝ }
 {
     let checks = check_input(table, true, classes, pattern, record, answer.len());
     match checks {
@@ -182,8 +184,8 @@ fn next_checked(
     allowance: u32,
     answer: &mut [u16],
 ) -> Answer
-    ensures is { λ r. ⌜ r ≡ toldNext (followingOnBytes (now (table .entry)) (now (classes .entry)) (now (pattern .entry)) (now («record» .entry)) (now (given .entry)) allowance) ⌝ }
-    ensures buffer { λ r. ⌜ now (answer .exit) ≡ shownPass (nextPass (now (table .entry)) (now (classes .entry)) (now (pattern .entry)) (now («record» .entry)) (now (given .entry)) allowance) (now (answer .entry)) ⌝ }
+    ensures is { λ r. ⌜ r ≡ toldNext (followingOnBytes (old table) (old classes) (old pattern) (old «record») (old given) allowance) ⌝ }
+    ensures buffer { λ r. ⌜ new answer ≡ shownPass (nextPass (old table) (old classes) (old pattern) (old «record») (old given) allowance) (old answer) ⌝ }
 {
     let end = search::search_next(table, classes, pattern, record, given, allowance, answer);
     let known = end.known;
@@ -206,9 +208,7 @@ fn next_brought(
     answer: &mut [u16],
 ) -> Answer
     requires { ⌜ now classes ≡ classesOf (broughtBy brings (now classes)) ⌝ }
-    ensures is { λ r. ⌜ r ≡ nextOf (now (table .entry)) (broughtBy brings (now (classes .entry))) (now (pattern .entry)) (now («record» .entry)) (now (given .entry)) allowance (length (now (answer .entry))) ⌝ }
-    ensures buffer { λ r. ⌜ now (answer .exit) ≡ nextBufferOf (now (table .entry)) (broughtBy brings (now (classes .entry))) (now (pattern .entry)) (now («record» .entry)) (now (given .entry)) allowance (now (answer .entry)) ⌝ }
-    ensures demand { λ r. ⌜ NextDemanded (now (table .entry)) (broughtBy brings (now (classes .entry))) (now (pattern .entry)) (now («record» .entry)) (now (given .entry)) (now (answer .entry)) allowance r (now (answer .exit)) ⌝ }
+    ensures { λ r. ⌜ NextCalled (old table) (broughtBy brings (old classes)) (old pattern) (old «record») (old given) (old answer) allowance r (new answer) ⌝ }
 {
     let checks = check_input(table, brings, classes, pattern, record, answer.len());
     match checks {
@@ -227,9 +227,9 @@ pub fn next(
     allowance: u32,
     answer: &mut [u16],
 ) -> Answer
-    ensures is { λ r. ⌜ r ≡ nextOf (now (table .entry)) none (now (pattern .entry)) (now («record» .entry)) (now (given .entry)) allowance (length (now (answer .entry))) ⌝ }
-    ensures buffer { λ r. ⌜ now (answer .exit) ≡ nextBufferOf (now (table .entry)) none (now (pattern .entry)) (now («record» .entry)) (now (given .entry)) allowance (now (answer .entry)) ⌝ }
-    ensures demand { λ r. ⌜ NextDemanded (now (table .entry)) none (now (pattern .entry)) (now («record» .entry)) (now (given .entry)) (now (answer .entry)) allowance r (now (answer .exit)) ⌝ }
+    ensures is { λ r. ⌜ r ≡ nextOf (old table) none (old pattern) (old «record») (old given) allowance (length (old answer)) ⌝ }
+    ensures buffer { λ r. ⌜ new answer ≡ nextBufferOf (old table) none (old pattern) (old «record») (old given) allowance (old answer) ⌝ }
+    ensures demand { λ r. ⌜ NextDemanded (old table) none (old pattern) (old «record») (old given) (old answer) allowance r (new answer) ⌝ }
 {
     next_brought(
         table,
@@ -253,9 +253,9 @@ pub fn next_with_classes(
     allowance: u32,
     answer: &mut [u16],
 ) -> Answer
-    ensures is { λ r. ⌜ r ≡ nextOf (now (table .entry)) (some (now (classes .entry))) (now (pattern .entry)) (now («record» .entry)) (now (given .entry)) allowance (length (now (answer .entry))) ⌝ }
-    ensures buffer { λ r. ⌜ now (answer .exit) ≡ nextBufferOf (now (table .entry)) (some (now (classes .entry))) (now (pattern .entry)) (now («record» .entry)) (now (given .entry)) allowance (now (answer .entry)) ⌝ }
-    ensures demand { λ r. ⌜ NextDemanded (now (table .entry)) (some (now (classes .entry))) (now (pattern .entry)) (now («record» .entry)) (now (given .entry)) (now (answer .entry)) allowance r (now (answer .exit)) ⌝ }
+    ensures is { λ r. ⌜ r ≡ nextOf (old table) (some (old classes)) (old pattern) (old «record») (old given) allowance (length (old answer)) ⌝ }
+    ensures buffer { λ r. ⌜ new answer ≡ nextBufferOf (old table) (some (old classes)) (old pattern) (old «record») (old given) allowance (old answer) ⌝ }
+    ensures demand { λ r. ⌜ NextDemanded (old table) (some (old classes)) (old pattern) (old «record») (old given) (old answer) allowance r (new answer) ⌝ }
 {
     next_brought(
         table,

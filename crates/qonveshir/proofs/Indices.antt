@@ -6,12 +6,12 @@ use mathlib.Core.List.{List, [], _∷_}
 use mathlib.Core.Bool.{Bool, true, false, cond}
 use mathlib.Core.Option.{Option}
 use lib.ListN.{length}
-use lib.Dec.{leb, ltb}
+use lib.Dec.{leb}
 use borrow.Author.Tests.{leb-true}
 use Rattle.term.specs.Term.{Term}
 use Rattle.term.specs.Pattern.{Pattern}
 use Rattle.term.specs.Table.{tableAccepted}
-use Rattle.reader.specs.Reading.{Answer as Reading, refused, read, readPattern, readRecord}
+use Rattle.reader.specs.Reading.{Answer as Reading, refused, read, readRecord}
 use Rattle.reader.specs.declared.Read.{Read}
 use Rattle.reader.specs.declared.Read.the-variants.{Ends}
 use Rattle.term.specs.declared.Refusal.the-variants.{Table, Narrow, Long, Directory, Full, Class}
@@ -29,11 +29,14 @@ use Rattle.sheet.proofs.Checks.{accepted-directed}
 use Rattle.sheet.proofs.Contents.{contents-passed}
 use Rattle.sheet.proofs.Entries.{entries-count}
 use Rattle.sheet.proofs.Lengths.{split-length}
-use Rattle.matcher.specs.Call.{answerWidth, languageOf, broughtAccepted}
+use Rattle.call.specs.Brought.{languageOf, broughtAccepted}
+use Rattle.call.specs.Call.{answerWidth, checks, answerBy}
+use Rattle.call.specs.Verdict.{check, reading, both}
 use Rattle.rules.specs.Answer.{ruleIndex}
-use Rattle.rules.specs.Call.{fault, rulesOf, checkedBy, checked, told, answerBy, answerOf}
+use Rattle.rules.specs.Call.{rulesOf, rulesBy, told, answerOf}
 use Rattle.rules.proofs.Rules.{rules-few}
-use Rattle.rules.specs.Trial.{tryOne, tryEach}
+use Rattle.rules.specs.Trial.{tryOne, tryEach, tryRules}
+use Rattle.rules.specs.declared.RuleAnswer.{RuleAnswer}
 
 -- entries and records, which are checked one by one
 
@@ -116,19 +119,19 @@ trial-index own i sum (q ∷ qs) = go (own q) (λ s. trial-index own (i + 1) s q
 
 pub rules-index : (table : List ℕ) (brought : Option (List ℕ)) (sheet bytes : List ℕ) (allowance width : ℕ)
     → ruleIndex (answerOf table brought sheet bytes allowance width) ≤ longestSheet
-unfolding answerOf checked
+unfolding answerOf checks
 rules-index table brought sheet bytes allowance width =
-    go (ltb width answerWidth) (tableAccepted table) (broughtAccepted table brought) (checkRules table sheet) refl (readRecord table bytes)
+    go (leb answerWidth width) (tableAccepted table) (broughtAccepted table brought) (checkRules table sheet) refl (readRecord table bytes)
   where
-    go : (a p d : Bool) (x : Checked) → checkRules table sheet ≡ x → (y : Reading Term)
-        → ruleIndex (answerBy (cond a (fault Narrow 0) (cond p (cond d (checkedBy x (rulesOf table (entries sheet)) y) (fault Class 0)) (fault Table 0)))
-        table brought allowance) ≤ longestSheet
-    go true p d x e y = omega arith
-    go false false d x e y = omega arith
-    go false true false x e y = omega arith
-    go false true true (Checked.Refused r i) e y = omega (arith, rw e at (contents-index false table sheet))
-    go false true true (Accepted n) e (refused r) = omega arith
-    go false true true (Accepted n) e (read t m) =
+    go : (a b c : Bool) (x : Checked) → checkRules table sheet ≡ x → (y : Reading Term)
+        → ruleIndex (answerBy RuleAnswer.Refused (λ (z : List Pattern × Term). told (tryRules (languageOf table brought) (z .0) (z .1) allowance))
+        (check a Narrow (check b Table (check c Class (both (rulesBy x (rulesOf table (entries sheet))) (reading y)))))) ≤ longestSheet
+    go false b c x e y = omega arith
+    go true false c x e y = omega arith
+    go true true false x e y = omega arith
+    go true true true (Checked.Refused r i) e y = omega (arith, rw e at (contents-index false table sheet))
+    go true true true (Accepted n) e (refused r) = omega arith
+    go true true true (Accepted n) e (read t m) =
         let s = contents-passed false table sheet n e .sheet in
         omega (
           arith,

@@ -10,6 +10,8 @@ use Rattle.sheet.specs.Answer.{checkedNumber, checkedIndex, writingNumber, writ
 use Rattle.sheet.specs.declared.Checked.{Checked}
 use Rattle.sheet.specs.declared.Place.{Place}
 use Rattle.sheet.specs.declared.Writing.{Writing}
+use Rattle.stored.specs.Move.{moveNumber, moveLength}
+use Rattle.stored.specs.declared.Move.{Move}
 use Rattle.qonveshir.specs.declared.Outcome.{Outcome}
 use Rattle.qonveshir.specs.declared.Part.{Part}
 
@@ -44,3 +46,7 @@ placeShown p = part (placeNumber p) (placeOffset p) (placeLength p)
 -- the count of a cost is the bound
 abbrev pub costShown : Cost → Outcome
 costShown c = outcome (costNumber c) 0 (costCount c)
+
+-- the count of a move is the length that was written
+abbrev pub moveShown : Move → Outcome
+moveShown m = outcome (moveNumber m) 0 (moveLength m)

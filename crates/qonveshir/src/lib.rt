@@ -3,24 +3,30 @@ use cost::Cost;
 use matcher::Answer;
 use rules::RuleAnswer;
 use sheet::Checked;
+use stored::Move;
 ghost use mathlib.Core.Path.{_≡_};
 ghost use mathlib.Core.Option.{none, some};
 ghost use Prim.Native.Nat.{_≤_};
 ghost use lib.ListN.{length};
+ghost use Rattle.term.specs.Moment.{old, new};
 ghost use Rattle.cost.specs.Call.{costOf};
 ghost use Rattle.cost.specs.Demands.{Demanded as CostDemanded};
 ghost use Rattle.matcher.specs.Call.{answerOf, bufferOf};
-ghost use Rattle.matcher.specs.Demands.{Demanded, NextDemanded};
+ghost use Rattle.matcher.specs.Demands.{DemandedOf, NextDemandedOf};
 ghost use Rattle.matcher.specs.Next.{nextOf, nextBufferOf};
+ghost use Rattle.plain.specs.Call.{plainOf, plainBufferOf};
+ghost use Rattle.plain.specs.Demands.{PlainDemanded};
 ghost use Rattle.rules.specs.Answer.{ruleIndex};
 ghost use Rattle.rules.specs.Call.{answerOf as rulesAnswer, bufferOf as rulesBuffer};
-ghost use Rattle.rules.specs.Demands.{Demanded as RulesDemanded};
+ghost use Rattle.rules.specs.Demands.{DemandedOf as RulesDemandedOf};
 ghost use Rattle.sheet.specs.Answer.{checkedIndex};
 ghost use Rattle.sheet.specs.Entry.{placeOf};
 ghost use Rattle.sheet.specs.Contents.{checkRules, checkStates};
 ghost use Rattle.sheet.specs.Writing.{writing, outputAfter};
 ghost use Rattle.sheet.specs.Demands.{Demanded as SheetDemanded};
-ghost use Rattle.qonveshir.specs.Shown.{largest, outcome, part, answerShown, rulesShown, writingShown, checkShown, placeShown, costShown};
+ghost use Rattle.stored.specs.Move.{storing, restoring, moved, outputAfter as outputMoved};
+ghost use Rattle.stored.specs.Demands.{RecordOf, StoredOf, Demanded as MoveDemanded};
+ghost use Rattle.qonveshir.specs.Shown.{largest, outcome, part, answerShown, rulesShown, writingShown, checkShown, placeShown, costShown, moveShown};
 
 // Document 01's number, 0 where nothing is refused; the index of the rule shown or of the entry at fault, else 0; and the count.
 #[repr(C)]
@@ -85,6 +91,12 @@ fn cost_shown(c: Cost) -> Outcome
     shown(c.number(), 0, c.count() as u64)
 }
 
+fn move_shown(m: Move) -> Outcome
+    ensures { λ r. ⌜ r ≡ moveShown m ⌝ }
+{
+    shown(m.number(), 0, m.length() as u64)
+}
+
 // One pattern against one record.
 #[no_mangle]
 pub extern "C" fn qonveshir_match(
@@ -94,9 +106,9 @@ pub extern "C" fn qonveshir_match(
     allowance: u32,
     answer: &mut [u16],
 ) -> Outcome
-    ensures shown { λ r. ⌜ r ≡ answerShown (answerOf (now (table .entry)) none (now (pattern .entry)) (now («record» .entry)) allowance (length (now (answer .entry)))) ⌝ }
-    ensures buffer { λ _. ⌜ now (answer .exit) ≡ bufferOf (now (table .entry)) none (now (pattern .entry)) (now («record» .entry)) allowance (now (answer .entry)) ⌝ }
-    ensures demand { λ _. ⌜ Demanded (now (table .entry)) none (now (pattern .entry)) (now («record» .entry)) (now (answer .entry)) allowance (answerOf (now (table .entry)) none (now (pattern .entry)) (now («record» .entry)) allowance (length (now (answer .entry)))) (now (answer .exit)) ⌝ }
+    ensures is { λ r. ⌜ r ≡ answerShown (answerOf (old table) none (old pattern) (old «record») allowance (length (old answer))) ⌝ }
+    ensures buffer { λ _. ⌜ new answer ≡ bufferOf (old table) none (old pattern) (old «record») allowance (old answer) ⌝ }
+    ensures demand { λ _. ⌜ DemandedOf (old table) none (old pattern) (old «record») (old answer) allowance (new answer) ⌝ }
 {
     let a = matcher::match_one(table, pattern, record, allowance, answer);
     answer_shown(a)
@@ -112,9 +124,9 @@ pub extern "C" fn qonveshir_match_with_classes(
     allowance: u32,
     answer: &mut [u16],
 ) -> Outcome
-    ensures shown { λ r. ⌜ r ≡ answerShown (answerOf (now (table .entry)) (some (now (classes .entry))) (now (pattern .entry)) (now («record» .entry)) allowance (length (now (answer .entry)))) ⌝ }
-    ensures buffer { λ _. ⌜ now (answer .exit) ≡ bufferOf (now (table .entry)) (some (now (classes .entry))) (now (pattern .entry)) (now («record» .entry)) allowance (now (answer .entry)) ⌝ }
-    ensures demand { λ _. ⌜ Demanded (now (table .entry)) (some (now (classes .entry))) (now (pattern .entry)) (now («record» .entry)) (now (answer .entry)) allowance (answerOf (now (table .entry)) (some (now (classes .entry))) (now (pattern .entry)) (now («record» .entry)) allowance (length (now (answer .entry)))) (now (answer .exit)) ⌝ }
+    ensures is { λ r. ⌜ r ≡ answerShown (answerOf (old table) (some (old classes)) (old pattern) (old «record») allowance (length (old answer))) ⌝ }
+    ensures buffer { λ _. ⌜ new answer ≡ bufferOf (old table) (some (old classes)) (old pattern) (old «record») allowance (old answer) ⌝ }
+    ensures demand { λ _. ⌜ DemandedOf (old table) (some (old classes)) (old pattern) (old «record») (old answer) allowance (new answer) ⌝ }
 {
     let a = matcher::match_one_with_classes(table, classes, pattern, record, allowance, answer);
     answer_shown(a)
@@ -130,9 +142,9 @@ pub extern "C" fn qonveshir_next(
     allowance: u32,
     answer: &mut [u16],
 ) -> Outcome
-    ensures shown { λ r. ⌜ r ≡ answerShown (nextOf (now (table .entry)) none (now (pattern .entry)) (now («record» .entry)) (now (given .entry)) allowance (length (now (answer .entry)))) ⌝ }
-    ensures buffer { λ _. ⌜ now (answer .exit) ≡ nextBufferOf (now (table .entry)) none (now (pattern .entry)) (now («record» .entry)) (now (given .entry)) allowance (now (answer .entry)) ⌝ }
-    ensures demand { λ _. ⌜ NextDemanded (now (table .entry)) none (now (pattern .entry)) (now («record» .entry)) (now (given .entry)) (now (answer .entry)) allowance (nextOf (now (table .entry)) none (now (pattern .entry)) (now («record» .entry)) (now (given .entry)) allowance (length (now (answer .entry)))) (now (answer .exit)) ⌝ }
+    ensures is { λ r. ⌜ r ≡ answerShown (nextOf (old table) none (old pattern) (old «record») (old given) allowance (length (old answer))) ⌝ }
+    ensures buffer { λ _. ⌜ new answer ≡ nextBufferOf (old table) none (old pattern) (old «record») (old given) allowance (old answer) ⌝ }
+    ensures demand { λ _. ⌜ NextDemandedOf (old table) none (old pattern) (old «record») (old given) (old answer) allowance (new answer) ⌝ }
 {
     let a = matcher::next(table, pattern, record, given, allowance, answer);
     answer_shown(a)
@@ -149,11 +161,44 @@ pub extern "C" fn qonveshir_next_with_classes(
     allowance: u32,
     answer: &mut [u16],
 ) -> Outcome
-    ensures shown { λ r. ⌜ r ≡ answerShown (nextOf (now (table .entry)) (some (now (classes .entry))) (now (pattern .entry)) (now («record» .entry)) (now (given .entry)) allowance (length (now (answer .entry)))) ⌝ }
-    ensures buffer { λ _. ⌜ now (answer .exit) ≡ nextBufferOf (now (table .entry)) (some (now (classes .entry))) (now (pattern .entry)) (now («record» .entry)) (now (given .entry)) allowance (now (answer .entry)) ⌝ }
-    ensures demand { λ _. ⌜ NextDemanded (now (table .entry)) (some (now (classes .entry))) (now (pattern .entry)) (now («record» .entry)) (now (given .entry)) (now (answer .entry)) allowance (nextOf (now (table .entry)) (some (now (classes .entry))) (now (pattern .entry)) (now («record» .entry)) (now (given .entry)) allowance (length (now (answer .entry)))) (now (answer .exit)) ⌝ }
+    ensures is { λ r. ⌜ r ≡ answerShown (nextOf (old table) (some (old classes)) (old pattern) (old «record») (old given) allowance (length (old answer))) ⌝ }
+    ensures buffer { λ _. ⌜ new answer ≡ nextBufferOf (old table) (some (old classes)) (old pattern) (old «record») (old given) allowance (old answer) ⌝ }
+    ensures demand { λ _. ⌜ NextDemandedOf (old table) (some (old classes)) (old pattern) (old «record») (old given) (old answer) allowance (new answer) ⌝ }
 {
     let a = matcher::next_with_classes(table, classes, pattern, record, given, allowance, answer);
+    answer_shown(a)
+}
+
+// One plain pattern against one record, without an allowance.
+#[no_mangle]
+pub extern "C" fn qonveshir_match_plain(
+    table: &[u8],
+    pattern: &[u8],
+    record: &[u8],
+    answer: &mut [u16],
+) -> Outcome
+    ensures shown { λ r. ⌜ r ≡ answerShown (plainOf (old table) none (old pattern) (old «record») (length (old answer))) ⌝ }
+    ensures buffer { λ _. ⌜ new answer ≡ plainBufferOf (old table) none (old pattern) (old «record») (old answer) ⌝ }
+    ensures demand { λ _. ⌜ PlainDemanded (old table) none (old pattern) (old «record») (old answer) (plainOf (old table) none (old pattern) (old «record») (length (old answer))) (new answer) ⌝ }
+{
+    let a = plain::match_plain(table, pattern, record, answer);
+    answer_shown(a)
+}
+
+// One plain pattern against one record, up to class.
+#[no_mangle]
+pub extern "C" fn qonveshir_match_plain_with_classes(
+    table: &[u8],
+    classes: &[u8],
+    pattern: &[u8],
+    record: &[u8],
+    answer: &mut [u16],
+) -> Outcome
+    ensures shown { λ r. ⌜ r ≡ answerShown (plainOf (old table) (some (old classes)) (old pattern) (old «record») (length (old answer))) ⌝ }
+    ensures buffer { λ _. ⌜ new answer ≡ plainBufferOf (old table) (some (old classes)) (old pattern) (old «record») (old answer) ⌝ }
+    ensures demand { λ _. ⌜ PlainDemanded (old table) (some (old classes)) (old pattern) (old «record») (old answer) (plainOf (old table) (some (old classes)) (old pattern) (old «record») (length (old answer))) (new answer) ⌝ }
+{
+    let a = plain::match_plain_with_classes(table, classes, pattern, record, answer);
     answer_shown(a)
 }
 
@@ -166,9 +211,9 @@ pub extern "C" fn qonveshir_match_rules(
     allowance: u32,
     answer: &mut [u16],
 ) -> Outcome
-    ensures shown { λ r. ⌜ r ≡ rulesShown (rulesAnswer (now (table .entry)) none (now (rules .entry)) (now («record» .entry)) allowance (length (now (answer .entry)))) ⌝ }
-    ensures buffer { λ _. ⌜ now (answer .exit) ≡ rulesBuffer (now (table .entry)) none (now (rules .entry)) (now («record» .entry)) allowance (now (answer .entry)) ⌝ }
-    ensures demand { λ _. ⌜ RulesDemanded (now (table .entry)) none (now (rules .entry)) (now («record» .entry)) (now (answer .entry)) allowance (rulesAnswer (now (table .entry)) none (now (rules .entry)) (now («record» .entry)) allowance (length (now (answer .entry)))) (now (answer .exit)) ⌝ }
+    ensures is { λ r. ⌜ r ≡ rulesShown (rulesAnswer (old table) none (old rules) (old «record») allowance (length (old answer))) ⌝ }
+    ensures buffer { λ _. ⌜ new answer ≡ rulesBuffer (old table) none (old rules) (old «record») allowance (old answer) ⌝ }
+    ensures demand { λ _. ⌜ RulesDemandedOf (old table) none (old rules) (old «record») (old answer) allowance (new answer) ⌝ }
 {
     let a = rules::match_rules(table, rules, record, allowance, answer);
     rules_shown(a)
@@ -184,9 +229,9 @@ pub extern "C" fn qonveshir_match_rules_with_classes(
     allowance: u32,
     answer: &mut [u16],
 ) -> Outcome
-    ensures shown { λ r. ⌜ r ≡ rulesShown (rulesAnswer (now (table .entry)) (some (now (classes .entry))) (now (rules .entry)) (now («record» .entry)) allowance (length (now (answer .entry)))) ⌝ }
-    ensures buffer { λ _. ⌜ now (answer .exit) ≡ rulesBuffer (now (table .entry)) (some (now (classes .entry))) (now (rules .entry)) (now («record» .entry)) allowance (now (answer .entry)) ⌝ }
-    ensures demand { λ _. ⌜ RulesDemanded (now (table .entry)) (some (now (classes .entry))) (now (rules .entry)) (now («record» .entry)) (now (answer .entry)) allowance (rulesAnswer (now (table .entry)) (some (now (classes .entry))) (now (rules .entry)) (now («record» .entry)) allowance (length (now (answer .entry)))) (now (answer .exit)) ⌝ }
+    ensures is { λ r. ⌜ r ≡ rulesShown (rulesAnswer (old table) (some (old classes)) (old rules) (old «record») allowance (length (old answer))) ⌝ }
+    ensures buffer { λ _. ⌜ new answer ≡ rulesBuffer (old table) (some (old classes)) (old rules) (old «record») allowance (old answer) ⌝ }
+    ensures demand { λ _. ⌜ RulesDemandedOf (old table) (some (old classes)) (old rules) (old «record») (old answer) allowance (new answer) ⌝ }
 {
     rules_shown(rules::match_rules_with_classes(table, classes, rules, record, allowance, answer))
 }
@@ -199,9 +244,9 @@ pub extern "C" fn qonveshir_write_sheet(
     lengths: &[u16],
     output: &mut [u8],
 ) -> Outcome
-    ensures shown { λ r. ⌜ r ≡ writingShown (writing (now (table .entry)) (now (records .entry)) (now (lengths .entry)) (length (now (output .entry)))) ⌝ }
-    ensures contents { λ _. ⌜ now (output .exit) ≡ outputAfter (now (table .entry)) (now (records .entry)) (now (lengths .entry)) (now (output .entry)) ⌝ }
-    ensures demand { λ r. ⌜ SheetDemanded (now (table .entry)) (now (records .entry)) (now (lengths .entry)) (now (output .entry)) (r .number) (r .count) (now (output .exit)) ⌝ }
+    ensures is { λ r. ⌜ r ≡ writingShown (writing (old table) (old records) (old lengths) (length (old output))) ⌝ }
+    ensures contents { λ _. ⌜ new output ≡ outputAfter (old table) (old records) (old lengths) (old output) ⌝ }
+    ensures demand { λ r. ⌜ SheetDemanded (old table) (old records) (old lengths) (old output) (r .number) (r .count) (new output) ⌝ }
 {
     let w = sheet::write_sheet(table, records, lengths, output);
     shown(w.number(), w.index(), w.length() as u64)
@@ -210,7 +255,7 @@ pub extern "C" fn qonveshir_write_sheet(
 // Where an entry lies in its sheet.
 #[no_mangle]
 pub extern "C" fn qonveshir_entry(sheet: &[u8], index: u32) -> Part
-    ensures { λ r. ⌜ r ≡ placeShown (placeOf (now (sheet .entry)) index) ⌝ }
+    ensures { λ r. ⌜ r ≡ placeShown (placeOf (old sheet) index) ⌝ }
 {
     let place = sheet::place_of(sheet, index as usize);
     part_shown(place.number(), place.offset(), place.length())
@@ -219,7 +264,7 @@ pub extern "C" fn qonveshir_entry(sheet: &[u8], index: u32) -> Part
 // Checks a sheet of at most 64 patterns.
 #[no_mangle]
 pub extern "C" fn qonveshir_check_rules(table: &[u8], sheet: &[u8]) -> Outcome
-    ensures { λ r. ⌜ r ≡ checkShown (checkRules (now (table .entry)) (now (sheet .entry))) ⌝ }
+    ensures { λ r. ⌜ r ≡ checkShown (checkRules (old table) (old sheet)) ⌝ }
 {
     check_shown(sheet::check_rules(table, sheet))
 }
@@ -227,7 +272,7 @@ pub extern "C" fn qonveshir_check_rules(table: &[u8], sheet: &[u8]) -> Outcome
 // Checks a sheet of records.
 #[no_mangle]
 pub extern "C" fn qonveshir_check_states(table: &[u8], sheet: &[u8]) -> Outcome
-    ensures { λ r. ⌜ r ≡ checkShown (checkStates (now (table .entry)) (now (sheet .entry))) ⌝ }
+    ensures { λ r. ⌜ r ≡ checkShown (checkStates (old table) (old sheet)) ⌝ }
 {
     check_shown(sheet::check_states(table, sheet))
 }
@@ -235,9 +280,31 @@ pub extern "C" fn qonveshir_check_states(table: &[u8], sheet: &[u8]) -> Outcome
 // What a pattern can cost at most.
 #[no_mangle]
 pub extern "C" fn qonveshir_cost(table: &[u8], pattern: &[u8]) -> Outcome
-    ensures shown { λ r. ⌜ r ≡ costShown (costOf (now (table .entry)) (now (pattern .entry))) ⌝ }
-    ensures demand { λ _. ⌜ CostDemanded (now (table .entry)) (now (pattern .entry)) (costOf (now (table .entry)) (now (pattern .entry))) ⌝ }
+    ensures is { λ r. ⌜ r ≡ costShown (costOf (old table) (old pattern)) ⌝ }
+    ensures demand { λ _. ⌜ CostDemanded (old table) (old pattern) (costOf (old table) (old pattern)) ⌝ }
 {
     let c = cost::cost_of(table, pattern);
     cost_shown(c)
+}
+
+// Writes the stored form of a record.
+#[no_mangle]
+pub extern "C" fn qonveshir_store(table: &[u8], record: &[u8], output: &mut [u8]) -> Outcome
+    ensures shown { λ r. ⌜ r ≡ moveShown (moved (storing (old table) (old «record»)) (length (old output))) ⌝ }
+    ensures contents { λ _. ⌜ new output ≡ outputMoved (storing (old table) (old «record»)) (old output) ⌝ }
+    ensures demand { λ r. ⌜ MoveDemanded (RecordOf (old table)) (StoredOf (old table)) (restoring (old table)) (old «record») (old output) (r .number) (r .count) (new output) ⌝ }
+{
+    let m = stored::store(table, record, output);
+    move_shown(m)
+}
+
+// Writes the old form of a stored record.
+#[no_mangle]
+pub extern "C" fn qonveshir_restore(table: &[u8], stored: &[u8], output: &mut [u8]) -> Outcome
+    ensures shown { λ r. ⌜ r ≡ moveShown (moved (restoring (old table) (old stored)) (length (old output))) ⌝ }
+    ensures contents { λ _. ⌜ new output ≡ outputMoved (restoring (old table) (old stored)) (old output) ⌝ }
+    ensures demand { λ r. ⌜ MoveDemanded (StoredOf (old table)) (RecordOf (old table)) (storing (old table)) (old stored) (old output) (r .number) (r .count) (new output) ⌝ }
+{
+    let m = stored::restore(table, stored, output);
+    move_shown(m)
 }

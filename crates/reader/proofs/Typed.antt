@@ -20,7 +20,7 @@ unfolding shown mapAnswer
 shown-map f (refused r) = refl
 shown-map f (read a n) = refl
 
-map-read : {A B : Type 0} (f : A → B) (a : Answer A) (x : B) (n : ℕ) → mapAnswer f a ≡ read x n → (t : A) × (a ≡ read t n) × (f t ≡ x)
+pub map-read : {A B : Type 0} (f : A → B) (a : Answer A) (x : B) (n : ℕ) → mapAnswer f a ≡ read x n → (t : A) × (a ≡ read t n) × (f t ≡ x)
 unfolding mapAnswer
 map-read f (refused r) x n e = let z : _≡_ {A = ℕ} 0 1 = cc in absurd (omega arith)
 map-read f (read t m) x n e = let z : m ≡ n = cc in (t, ap (read t) z, cc)

@@ -9,6 +9,7 @@ use term::decode;
 ghost use mathlib.Core.Path.{_≡_};
 ghost use mathlib.Core.Bool.{true, false};
 ghost use Prim.Native.Nat.{_-_};
+ghost use Rattle.term.specs.Moment.{old};
 ghost use Rattle.term.specs.Code.{codeIn};
 ghost use Rattle.term.specs.Limits.{nesting, longest};
 ghost use Rattle.reader.specs.Node.{listNode, unlessDeep, codeNode, nodeAt};
@@ -121,7 +122,7 @@ fn stray_node(left: u8) -> Node
 
 // The node of a list symbol.
 fn list_node(s: &[u8], left: u8) -> Node
-    ensures { λ r. ⌜ r ≡ unlessDeep left (listNode (left - 1) (now (s .entry))) ⌝ }
+    ensures { λ r. ⌜ r ≡ unlessDeep left (listNode (left - 1) (old s)) ⌝ }
 {
     if left == 0 {
         return Node::Refused(Refusal::Deep);
@@ -139,7 +140,7 @@ fn list_node(s: &[u8], left: u8) -> Node
 
 // The node of a symbol.
 fn symbol_node(table: &[u8], s: &[u8], left: u8, b: u8) -> Node
-    ensures { λ r. ⌜ r ≡ codeNode (now (table .entry)) false left (now (s .entry)) (Code.Symbol b) ⌝ }
+    ensures { λ r. ⌜ r ≡ codeNode (old table) false left (old s) (Code.Symbol b) ⌝ }
 {
     let i = wide(b);
     if table.len() <= i {
@@ -152,8 +153,8 @@ fn symbol_node(table: &[u8], s: &[u8], left: u8, b: u8) -> Node
     plain_node(entry, left)
 }
 
-fn node_at(table: &[u8], s: &[u8], records: bool, in_list: bool, left: u8) -> Node
-    ensures { λ r. ⌜ r ≡ nodeAt (now (table .entry)) records «in_list» left (now (s .entry)) ⌝ }
+pub fn node_at(table: &[u8], s: &[u8], records: bool, in_list: bool, left: u8) -> Node
+    ensures { λ r. ⌜ r ≡ nodeAt (old table) records «in_list» left (old s) ⌝ }
 {
     if s.len() == 0 {
         return Node::Refused(Refusal::Short);
@@ -192,7 +193,7 @@ impl Frame {
 }
 
 // A refused node's refusal; an open node has none, and is never asked.
-fn node_refusal(n: Node) -> Read
+pub fn node_refusal(n: Node) -> Read
     ensures { λ r. ⌜ HandsOn n r ⌝ }
 {
     match n {
@@ -208,7 +209,7 @@ fn node_refusal(n: Node) -> Read
 
 // The tree at the start of s. Still to be read are the trees of `top`, and then those of the frames around it, the innermost first.
 fn read_tree(table: &[u8], s: &[u8], records: bool) -> Read
-    ensures { λ r. ⌜ r ≡ shown (readTree (now (table .entry)) records nesting false (now (s .entry))) ⌝ }
+    ensures { λ r. ⌜ r ≡ shown (readTree (old table) records nesting false (old s)) ⌝ }
 {
     let mut around = [Frame::EMPTY; FRAMES];
     let mut depth: usize = 0;
@@ -255,7 +256,7 @@ fn longest_of(records: bool) -> usize
 
 // The whole of s as one tree.
 fn read_whole(records: bool, table: &[u8], s: &[u8]) -> Read
-    ensures { λ r. ⌜ r ≡ shown (readWhole records (now (table .entry)) (now (s .entry))) ⌝ }
+    ensures { λ r. ⌜ r ≡ shown (readWhole records (old table) (old s)) ⌝ }
 {
     if longest_of(records) < s.len() {
         return Read::Refused(Refusal::Long);
@@ -272,7 +273,7 @@ fn read_whole(records: bool, table: &[u8], s: &[u8]) -> Read
 
 // Whether s is surely a record: with fewer than 32 lists and other nodes that have children, a tree is not nested deeper than 32 and needs no frames.
 fn is_shallow(table: &[u8], s: &[u8]) -> bool
-    ensures { λ r. ⌜ Shallow (now (table .entry)) (now (s .entry)) r ⌝ }
+    ensures { λ r. ⌜ Shallow (old table) (old s) r ⌝ }
 {
     if LONGEST_RECORD < s.len() {
         return false;
@@ -314,7 +315,7 @@ fn is_shallow(table: &[u8], s: &[u8]) -> bool
 
 // Reads a record by an accepted table.
 pub fn read_record(table: &[u8], bytes: &[u8]) -> Read
-    ensures { λ r. ⌜ r ≡ shown (readRecord (now (table .entry)) (now (bytes .entry))) ⌝ }
+    ensures { λ r. ⌜ r ≡ shown (readRecord (old table) (old bytes)) ⌝ }
 {
     if is_shallow(table, bytes) {
         return Read::Ends(bytes.len());
@@ -324,7 +325,7 @@ pub fn read_record(table: &[u8], bytes: &[u8]) -> Read
 
 // Reads a pattern by an accepted table.
 pub fn read_pattern(table: &[u8], bytes: &[u8]) -> Read
-    ensures { λ r. ⌜ r ≡ shown (readPattern (now (table .entry)) (now (bytes .entry))) ⌝ }
+    ensures { λ r. ⌜ r ≡ shown (readPattern (old table) (old bytes)) ⌝ }
 {
     read_whole(false, table, bytes)
 }

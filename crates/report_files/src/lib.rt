@@ -5,6 +5,7 @@ use report_lines::File;
 ghost use mathlib.Core.Path.{_≡_};
 ghost use Prim.Native.Nat.{_+_, _≤_};
 ghost use lib.ListN.{length, take};
+ghost use Rattle.term.specs.Moment.{old, new};
 ghost use Rattle.report_lines.specs.Report.{front};
 ghost use Rattle.report_files.specs.Files.{roomOf, startOf, nameOf, bytesOf, filesRoom};
 ghost use Rattle.report_files.specs.Loading.{Holds, Loads, loadedReport, Reported};
@@ -48,7 +49,7 @@ fn start_of(file: File) -> usize
 
 // The name of a file, of three.
 fn name_of<'a>(file: File, table: &'a [u8], rules: &'a [u8], states: &'a [u8]) -> &'a [u8]
-    ensures { λ r. ⌜ now r ≡ nameOf file (now (table .entry)) (now (rules .entry)) (now (states .entry)) ⌝ }
+    ensures { λ r. ⌜ now r ≡ nameOf file (old table) (old rules) (old states) ⌝ }
 {
     match file {
         File::Table => table,
@@ -59,7 +60,7 @@ fn name_of<'a>(file: File, table: &'a [u8], rules: &'a [u8], states: &'a [u8]) -
 
 // Reads until the buffer is full or the file ends.
 fn read_all(file: File, fd: i32, buffer: &mut [u8]) -> Loaded
-    ensures { λ r. ⌜ Holds r file (length (now (buffer .entry))) ⌝ }
+    ensures { λ r. ⌜ Holds r file (length (old buffer)) ⌝ }
 {
     let mut size: usize = 0;
     while size < buffer.len() {
@@ -93,7 +94,7 @@ fn load<'a>(
     files: &mut [u8],
 ) -> Loaded
     requires { ⌜ length (now files) ≡ filesRoom ⌝ }
-    ensures { λ r. ⌜ Loads r file (now (files .entry)) (now (files .exit)) ⌝ }
+    ensures { λ r. ⌜ Loads r file (old files) (new files) ⌝ }
 {
     let fd = os::open_read(name_of(file, table, rules, states));
     if fd < 0 {
@@ -114,7 +115,7 @@ fn load<'a>(
 fn bytes_of(file: File, size: usize, files: &[u8]) -> &[u8]
     requires { ⌜ size ≤ roomOf file ⌝ }
     requires { ⌜ length (now files) ≡ filesRoom ⌝ }
-    ensures { λ r. ⌜ now r ≡ bytesOf file size (now (files .entry)) ⌝ }
+    ensures { λ r. ⌜ now r ≡ bytesOf file size (old files) ⌝ }
 {
     let start = start_of(file);
     let end = start + size;
@@ -133,8 +134,8 @@ fn put_loaded(
     requires { ⌜ Holds r File.Rules (roomOf File.Rules) ⌝ }
     requires { ⌜ Holds s File.States (roomOf File.States) ⌝ }
     requires { ⌜ length (now files) ≡ filesRoom ⌝ }
-    ensures { λ n. ⌜ n ≡ length (loadedReport t r s (now (files .entry))) ⌝ }
-    ensures { λ _. ⌜ now (out .exit) ≡ front (loadedReport t r s (now (files .entry))) (now (out .entry)) ⌝ }
+    ensures { λ n. ⌜ n ≡ length (loadedReport t r s (old files)) ⌝ }
+    ensures { λ _. ⌜ new out ≡ front (loadedReport t r s (old files)) (old out) ⌝ }
 {
     report_lines::put_report(
         t.read,
@@ -154,7 +155,7 @@ pub fn read_report<'a>(
     states: &'a [u8],
     out: &mut [u8; report_lines::REPORT_ROOM],
 ) -> usize
-    ensures { λ r. ⌜ Reported r (now (out .entry)) (now (out .exit)) ⌝ }
+    ensures { λ r. ⌜ Reported r (old out) (new out) ⌝ }
 {
     let mut files = [0u8; FILES_ROOM];
     let t = load(File::Table, table, rules, states, &mut files);
@@ -165,7 +166,7 @@ pub fn read_report<'a>(
 
 // The first n bytes, or all of them.
 fn first(bytes: &[u8], n: usize) -> &[u8]
-    ensures { λ r. ⌜ now r ≡ take n (now (bytes .entry)) ⌝ }
+    ensures { λ r. ⌜ now r ≡ take n (old bytes) ⌝ }
 {
     if n < bytes.len() {
         return &bytes[0..n];

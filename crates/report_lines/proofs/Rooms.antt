@@ -4,7 +4,6 @@ use native.Mathlib.Omega.{arith}
 use mathlib.Core.Path.{_≡_, refl, _∙_}
 use mathlib.Core.List.{List, [], _∷_}
 use mathlib.Core.Bool.{Bool, true, false}
-use mathlib.Core.Option.{none}
 use lib.ListN.{length, length-append}
 use lib.Seq.{sets}
 use lib.Dec.{ltb}
@@ -27,7 +26,10 @@ use Rattle.sheet.proofs.Entries.{entries-count}
 use Rattle.sheet.proofs.Stores.{sets-front}
 use Rattle.rules.proofs.Rules.{rules-few}
 use Rattle.rules.specs.Trial.{Trial, boundAt, noneOf, spentAt, tryOne, tryEach, tryRules}
-use Rattle.rules.specs.Call.{rulesOf, checkedBy, checked, told, answerBy, answerOf}
+use Rattle.call.specs.Call.{checks, answerBy}
+use Rattle.call.specs.Verdict.{passed, both, reading}
+use Rattle.rules.specs.Call.{rulesOf, told, answerOf}
+use Rattle.rules.specs.declared.RuleAnswer.{RuleAnswer}
 use Rattle.report_lines.specs.Decimal.{decimal}
 use Rattle.report_lines.specs.Line.{header, boundWord, noneWord, spentWord, dash, answerLine, refusedWord, fileWord, refusalLine}
 use Rattle.report_lines.specs.Verdict.{verdict}
@@ -93,10 +95,12 @@ module _ (table rules : List ℕ) (m : ℕ) (p : checkRules table rules ≡ Acce
       omega (arith, rules-few table (entries rules), entries-count rules m (c .sheet), leb-true m mostRules (c .not-many))
 
   line-short : (k : ℕ) → k < 10000 → (e : List ℕ) → length (stateLine table rules k e) ≤ lineRoom
-  unfolding stateLine answerOf checked answerLine
+  unfolding stateLine answerOf checks answerLine
   line-short k h e = rw (contents-passed false table rules m p .tabled, p) (go (readRecord table e))
     where
-      go : (x : Reading Term) → length (answerLine k (answerBy (checkedBy (Accepted m) (rulesOf table (entries rules)) x) table none allowance)) ≤ lineRoom
+      go : (x : Reading Term) → length (answerLine k (answerBy RuleAnswer.Refused
+          (λ (y : List Pattern × Term). told (tryRules (language table []) (y .0) (y .1) allowance))
+          (both (passed (rulesOf table (entries rules))) (reading x)))) ≤ lineRoom
       go (refused r) = omega arith
       go (read t n) =
           told-short k h (tryRules (language table []) (rulesOf table (entries rules)) t allowance)

@@ -17,11 +17,12 @@ use Rattle.sheet.specs.Contents.{readEntry, checkEach, checkRules}
 use Rattle.sheet.specs.declared.Checked.the-variants.{Accepted}
 use Rattle.sheet.proofs.Contents.{contents-passed}
 use Rattle.sheet.proofs.Entries.{part-is-entry, entry-of-entries, entries-count, entries-octets}
-use Rattle.matcher.specs.Call.{answerWidth}
-use Rattle.rules.specs.Call.{Input, Checked as Inputs, trees, rulesOf, checked, told, answerOf, answerBy, answerOnBytes}
+use Rattle.call.specs.Call.{answerWidth, checks}
+use Rattle.call.specs.Verdict.{passed}
+use Rattle.rules.specs.Call.{Input, rulesOf, checked, told, answerOf, answerOnBytes}
 use Rattle.rules.specs.Trial.{tryRules}
 use Rattle.rules.specs.declared.RuleAnswer.{RuleAnswer}
-use Rattle.rules.proofs.Checks.{checked-input}
+use Rattle.rules.proofs.Checks.{checked-exactly}
 use Rattle.rules.proofs.Turns.{answer-answered}
 use Rattle.report_lines.specs.Verdict.{AllAccepted}
 use Rattle.report_lines.specs.Report.{allowance}
@@ -44,8 +45,8 @@ each-read table (e ∷ es) i n k a h = go (readRecord table e) refl k h (each-re
 
 -- accepted rules and a record that is read are checked input
 checked-trees : (table rules bytes : List ℕ) (m : ℕ) → checkRules table rules ≡ Accepted m → (t : Term) (k : ℕ) → readRecord table bytes ≡ read t k
-    → checked table none rules bytes answerWidth ≡ trees (rulesOf table (entries rules)) t
-unfolding checked
+    → checked table none rules bytes answerWidth ≡ passed (rulesOf table (entries rules), t)
+unfolding checks
 checked-trees table rules bytes m p t k e = rw (contents-passed false table rules m p .tabled, p, e)
 
 -- the record of a state, with the rules, is accepted input
@@ -57,7 +58,7 @@ module _ (table rules states : List ℕ) (n k : ℕ) (v : AllAccepted table rule
   pub record-entry : entryOf states k ≡ getD (entries states) k []
   record-entry = entry-of-entries states n (states-sheet table rules states n v) k h
 
-  state-checked : (t : Term) × (checked table none rules (entryOf states k) answerWidth ≡ trees (rulesOf table (entries rules)) t)
+  state-checked : (t : Term) × (checked table none rules (entryOf states k) answerWidth ≡ passed (rulesOf table (entries rules), t))
   state-checked =
       let both = lines-accepted true table true rules true states n v in
       let c = contents-passed true table states n (both .1) in
@@ -72,8 +73,8 @@ module _ (table rules states : List ℕ) (n k : ℕ) (v : AllAccepted table rule
       let c = state-checked in
       let octets : Octets (entryOf states k) = rw record-entry (entries-octets states so k) in (
         c .0,
-        checked-input table none rules (entryOf states k) answerWidth ro octets (rulesOf table (entries rules)) (c .0) (c .1) .2,
-        ap (λ (y : Inputs). answerBy y table none allowance) (c .1),
+        checked-exactly table rules (entryOf states k) ro octets none answerWidth (rulesOf table (entries rules)) (c .0) .0 (c .1) .2,
+        rw (c .1) refl,
       )
 
   -- matching without the checks answers as with them

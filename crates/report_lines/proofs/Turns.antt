@@ -13,7 +13,7 @@ use Rattle.sheet.specs.Entry.{entries, entryOf}
 use Rattle.sheet.proofs.Checks.{accepted-directed}
 use Rattle.sheet.proofs.Entries.{entries-count}
 use Rattle.sheet.proofs.Stores.{sets-append}
-use Rattle.matcher.specs.Call.{answerWidth}
+use Rattle.call.specs.Call.{answerWidth}
 use Rattle.rules.specs.Call.{answerOf}
 use Rattle.rules.specs.declared.RuleAnswer.{RuleAnswer}
 use Rattle.report_lines.specs.Line.{header, answerLine}

@@ -5,7 +5,7 @@ use mathlib.Core.Bool.{Bool}
 use mathlib.Core.Option.{none}
 use lib.ListN.{length, drop}
 use Rattle.sheet.specs.Entry.{entries}
-use Rattle.matcher.specs.Call.{answerWidth}
+use Rattle.call.specs.Call.{answerWidth}
 use Rattle.rules.specs.Call.{answerOf}
 use Rattle.report_lines.specs.Line.{header, answerLine, refusalLine}
 use Rattle.report_lines.specs.Verdict.{verdict}

@@ -7,10 +7,11 @@ ghost use mathlib.Core.Option.{none};
 ghost use Prim.Native.Nat.{_+_, _≤_, _<_};
 ghost use lib.ListN.{length};
 ghost use lib.Seq.{sets};
+ghost use Rattle.term.specs.Moment.{old, new};
 ghost use Rattle.sheet.specs.Check.{entryCount};
 ghost use Rattle.sheet.specs.Entry.{entryOf};
 ghost use Rattle.sheet.specs.Contents.{checkContents};
-ghost use Rattle.matcher.specs.Call.{answerWidth};
+ghost use Rattle.call.specs.Call.{answerWidth};
 ghost use Rattle.rules.specs.Call.{answerOf};
 ghost use Rattle.report_lines.specs.Decimal.{decimal};
 ghost use Rattle.report_lines.specs.Line.{field, line, noneWord, dash, answerLine, refusedWord, refusalLine};
@@ -48,7 +49,7 @@ enum Verdict {
 
 // Checks a sheet of records or of patterns: whether its file could be read, then what it holds.
 fn check_file(records: bool, read: bool, table: &[u8], sheet: &[u8]) -> Checked
-    ensures { λ r. ⌜ r ≡ readable read (checkContents records (now (table .entry)) (now (sheet .entry))) ⌝ }
+    ensures { λ r. ⌜ r ≡ readable read (checkContents records (old table) (old sheet)) ⌝ }
 {
     if !read {
         return Checked::Refused(Refusal::Unread, 0);
@@ -68,7 +69,7 @@ fn check_files(
     states_read: bool,
     states: &[u8],
 ) -> Verdict
-    ensures { λ r. ⌜ r ≡ verdict «table_read» (now (table .entry)) «rules_read» (now (rules .entry)) «states_read» (now (states .entry)) ⌝ }
+    ensures { λ r. ⌜ r ≡ verdict «table_read» (old table) «rules_read» (old rules) «states_read» (old states) ⌝ }
 {
     if !table_read {
         return Verdict::Refused(Refusal::Unread, File::Table, 0);
@@ -90,8 +91,8 @@ fn check_files(
 // Puts a text and the byte after it, and answers where they end.
 fn put_field(out: &mut [u8], at: usize, text: &[u8], end: u8) -> usize
     requires { ⌜ at + length (now text) + 1 ≤ length (now out) ⌝ }
-    ensures { λ _. ⌜ now (out .exit) ≡ sets (now (out .entry)) at (field (now (text .entry)) end) ⌝ }
-    ensures { λ r. ⌜ r ≡ at + length (now (text .entry)) + 1 ⌝ }
+    ensures { λ _. ⌜ new out ≡ sets (old out) at (field (old text) end) ⌝ }
+    ensures { λ r. ⌜ r ≡ at + length (old text) + 1 ⌝ }
 {
     let mut i: usize = 0;
     while i < text.len() {
@@ -105,7 +106,7 @@ fn put_field(out: &mut [u8], at: usize, text: &[u8], end: u8) -> usize
 // Puts a number in decimal and the byte after it, and answers where they end.
 fn put_number(out: &mut [u8], at: usize, n: u64, end: u8) -> usize
     requires { ⌜ at + length (decimal n) + 1 ≤ length (now out) ⌝ }
-    ensures { λ _. ⌜ now (out .exit) ≡ sets (now (out .entry)) at (field (decimal n) end) ⌝ }
+    ensures { λ _. ⌜ new out ≡ sets (old out) at (field (decimal n) end) ⌝ }
     ensures { λ r. ⌜ r ≡ at + length (decimal n) + 1 ⌝ }
 {
     let mut digits = [0u8; 20];
@@ -116,8 +117,8 @@ fn put_number(out: &mut [u8], at: usize, n: u64, end: u8) -> usize
 // Puts the line of a state by the rule that is shown, and answers where it ends.
 fn put_ruled(out: &mut [u8], at: usize, state: usize, rule: usize, word: &[u8], sum: u64) -> usize
     requires { ⌜ at + length (line (decimal state) (decimal rule) (now word) (decimal sum)) ≤ length (now out) ⌝ }
-    ensures { λ _. ⌜ now (out .exit) ≡ sets (now (out .entry)) at (line (decimal state) (decimal rule) (now (word .entry)) (decimal sum)) ⌝ }
-    ensures { λ r. ⌜ r ≡ at + length (line (decimal state) (decimal rule) (now (word .entry)) (decimal sum)) ⌝ }
+    ensures { λ _. ⌜ new out ≡ sets (old out) at (line (decimal state) (decimal rule) (old word) (decimal sum)) ⌝ }
+    ensures { λ r. ⌜ r ≡ at + length (line (decimal state) (decimal rule) (old word) (decimal sum)) ⌝ }
 {
     let mut end = put_number(out, at, state as u64, b' ');
     end = put_number(out, end, rule as u64, b' ');
@@ -128,7 +129,7 @@ fn put_ruled(out: &mut [u8], at: usize, state: usize, rule: usize, word: &[u8], 
 // Puts the line of a state that no rule is shown for, and answers where it ends.
 fn put_none(out: &mut [u8], at: usize, state: usize, sum: u64) -> usize
     requires { ⌜ at + length (line (decimal state) dash noneWord (decimal sum)) ≤ length (now out) ⌝ }
-    ensures { λ _. ⌜ now (out .exit) ≡ sets (now (out .entry)) at (line (decimal state) dash noneWord (decimal sum)) ⌝ }
+    ensures { λ _. ⌜ new out ≡ sets (old out) at (line (decimal state) dash noneWord (decimal sum)) ⌝ }
     ensures { λ r. ⌜ r ≡ at + length (line (decimal state) dash noneWord (decimal sum)) ⌝ }
 {
     let mut end = put_number(out, at, state as u64, b' ');
@@ -140,7 +141,7 @@ fn put_none(out: &mut [u8], at: usize, state: usize, sum: u64) -> usize
 // Puts the line of a state by what the rules answer on it, and answers where it ends.
 fn put_answer(out: &mut [u8], at: usize, state: usize, answer: RuleAnswer) -> usize
     requires { ⌜ at + length (answerLine state answer) ≤ length (now out) ⌝ }
-    ensures { λ _. ⌜ now (out .exit) ≡ sets (now (out .entry)) at (answerLine state answer) ⌝ }
+    ensures { λ _. ⌜ new out ≡ sets (old out) at (answerLine state answer) ⌝ }
     ensures { λ r. ⌜ r ≡ at + length (answerLine state answer) ⌝ }
 {
     match answer {
@@ -155,7 +156,7 @@ fn put_answer(out: &mut [u8], at: usize, state: usize, answer: RuleAnswer) -> us
 fn match_state(table: &[u8], rules: &[u8], states: &[u8], state: usize) -> RuleAnswer
     requires { ⌜ AllAccepted (now table) (now rules) (now states) (entryCount (now states)) ⌝ }
     requires { ⌜ state < entryCount (now states) ⌝ }
-    ensures { λ r. ⌜ r ≡ answerOf (now (table .entry)) none (now (rules .entry)) (entryOf (now (states .entry)) state) allowance answerWidth ⌝ }
+    ensures { λ r. ⌜ r ≡ answerOf (old table) none (old rules) (entryOf (old states) state) allowance answerWidth ⌝ }
 {
     let mut answer = [0u16; matcher::ANSWER_WIDTH];
     rules::match_rules_checked(
@@ -172,8 +173,8 @@ fn match_state(table: &[u8], rules: &[u8], states: &[u8], state: usize) -> RuleA
 fn put_lines(table: &[u8], rules: &[u8], states: &[u8], n: usize, out: &mut [u8]) -> usize
     requires { ⌜ AllAccepted (now table) (now rules) (now states) n ⌝ }
     requires { ⌜ reportRoom ≤ length (now out) ⌝ }
-    ensures { λ _. ⌜ now (out .exit) ≡ sets (now (out .entry)) 0 (lines (now (table .entry)) (now (rules .entry)) (now (states .entry))) ⌝ }
-    ensures { λ r. ⌜ r ≡ length (lines (now (table .entry)) (now (rules .entry)) (now (states .entry))) ⌝ }
+    ensures { λ _. ⌜ new out ≡ sets (old out) 0 (lines (old table) (old rules) (old states)) ⌝ }
+    ensures { λ r. ⌜ r ≡ length (lines (old table) (old rules) (old states)) ⌝ }
 {
     let mut at = put_field(out, 0, b"state rule word count", b'\n');
     let mut state: usize = 0;
@@ -188,8 +189,8 @@ fn put_lines(table: &[u8], rules: &[u8], states: &[u8], n: usize, out: &mut [u8]
 // Puts the line of a refusal by its number and its file's word, and answers its length.
 fn put_refused(out: &mut [u8], number: u8, word: &[u8], index: usize) -> usize
     requires { ⌜ length (line refusedWord (decimal number) (now word) (decimal index)) ≤ length (now out) ⌝ }
-    ensures { λ _. ⌜ now (out .exit) ≡ sets (now (out .entry)) 0 (line refusedWord (decimal number) (now (word .entry)) (decimal index)) ⌝ }
-    ensures { λ r. ⌜ r ≡ length (line refusedWord (decimal number) (now (word .entry)) (decimal index)) ⌝ }
+    ensures { λ _. ⌜ new out ≡ sets (old out) 0 (line refusedWord (decimal number) (old word) (decimal index)) ⌝ }
+    ensures { λ r. ⌜ r ≡ length (line refusedWord (decimal number) (old word) (decimal index)) ⌝ }
 {
     let mut end = put_field(out, 0, b"refused", b' ');
     end = put_number(out, end, number as u64, b' ');
@@ -200,7 +201,7 @@ fn put_refused(out: &mut [u8], number: u8, word: &[u8], index: usize) -> usize
 // Puts the line of a refusal, and answers its length.
 fn put_refusal(out: &mut [u8], refusal: Refusal, file: File, index: usize) -> usize
     requires { ⌜ length (refusalLine refusal file index) ≤ length (now out) ⌝ }
-    ensures { λ _. ⌜ now (out .exit) ≡ sets (now (out .entry)) 0 (refusalLine refusal file index) ⌝ }
+    ensures { λ _. ⌜ new out ≡ sets (old out) 0 (refusalLine refusal file index) ⌝ }
     ensures { λ r. ⌜ r ≡ length (refusalLine refusal file index) ⌝ }
 {
     let number = refusal.number();
@@ -221,8 +222,8 @@ pub fn put_report(
     states: &[u8],
     out: &mut [u8; REPORT_ROOM],
 ) -> usize
-    ensures size { λ r. ⌜ r ≡ length (report «table_read» (now (table .entry)) «rules_read» (now (rules .entry)) «states_read» (now (states .entry))) ⌝ }
-    ensures contents { λ _. ⌜ now (out .exit) ≡ front (report «table_read» (now (table .entry)) «rules_read» (now (rules .entry)) «states_read» (now (states .entry))) (now (out .entry)) ⌝ }
+    ensures size { λ r. ⌜ r ≡ length (report «table_read» (old table) «rules_read» (old rules) «states_read» (old states)) ⌝ }
+    ensures contents { λ _. ⌜ new out ≡ front (report «table_read» (old table) «rules_read» (old rules) «states_read» (old states)) (old out) ⌝ }
 {
     let verdict = check_files(table_read, table, rules_read, rules, states_read, states);
     match verdict {
@@ -234,7 +235,7 @@ pub fn put_report(
 // Puts the word of a kind, which ends its line, and answers where it ends.
 fn put_kind(out: &mut [u8], at: usize, kind: u8) -> usize
     requires { ⌜ at + length (kindWord kind) + 1 ≤ length (now out) ⌝ }
-    ensures { λ _. ⌜ now (out .exit) ≡ sets (now (out .entry)) at (field (kindWord kind) 10) ⌝ }
+    ensures { λ _. ⌜ new out ≡ sets (old out) at (field (kindWord kind) 10) ⌝ }
     ensures { λ r. ⌜ r ≡ at + length (kindWord kind) + 1 ⌝ }
 {
     match kind {
@@ -249,7 +250,7 @@ fn put_kind(out: &mut [u8], at: usize, kind: u8) -> usize
 // Puts the line of a code, the code and its kind, and answers where it ends.
 fn put_code(out: &mut [u8], at: usize, code: u8) -> usize
     requires { ⌜ at + length (codeLine code) ≤ length (now out) ⌝ }
-    ensures { λ _. ⌜ now (out .exit) ≡ sets (now (out .entry)) at (codeLine code) ⌝ }
+    ensures { λ _. ⌜ new out ≡ sets (old out) at (codeLine code) ⌝ }
     ensures { λ r. ⌜ r ≡ at + length (codeLine code) ⌝ }
 {
     let kind = kinds::kind_of(code);
@@ -260,7 +261,7 @@ fn put_code(out: &mut [u8], at: usize, code: u8) -> usize
 // Puts the lines of all codes, from code 0 up.
 fn put_each_code(out: &mut [u8])
     requires { ⌜ length (now out) ≡ codesRoom ⌝ }
-    ensures { λ _. ⌜ now (out .exit) ≡ sets (now (out .entry)) 0 codeList ⌝ }
+    ensures { λ _. ⌜ new out ≡ sets (old out) 0 codeList ⌝ }
 {
     let mut at: usize = 0;
     let mut code: usize = 0;
@@ -272,7 +273,7 @@ fn put_each_code(out: &mut [u8])
 
 // Puts the list of the codes, which fills the output.
 pub fn put_codes(out: &mut [u8; CODES_ROOM])
-    ensures { λ _. ⌜ now (out .exit) ≡ codeList ⌝ }
+    ensures { λ _. ⌜ new out ≡ codeList ⌝ }
 {
     put_each_code(out);
 }

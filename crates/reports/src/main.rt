@@ -4,13 +4,14 @@
 use libc::STDOUT_FILENO;
 ghost use Prim.Native.Nat.{_≤_};
 ghost use lib.ListN.{length};
+ghost use Rattle.term.specs.Moment.{old};
 
 // More than stated.txt has.
 const STATED_ROOM: usize = 131072;
 
 // How many bytes the first block takes, the empty line after it among them.
 fn block_end(stated: &[u8]) -> usize
-    ensures { λ r. ⌜ r ≤ length (now (stated .entry)) ⌝ }
+    ensures { λ r. ⌜ r ≤ length (old stated) ⌝ }
 {
     let mut i: usize = 1;
     while i < stated.len() {
@@ -26,7 +27,7 @@ fn block_end(stated: &[u8]) -> usize
 
 // How many bytes a text and the end of a line after it take at the front of a block, 0 where it has others there.
 fn passed(block: &[u8], text: &[u8]) -> usize
-    ensures { λ r. ⌜ r ≤ length (now (block .entry)) ⌝ }
+    ensures { λ r. ⌜ r ≤ length (old block) ⌝ }
 {
     let n = text.len();
     if block.len() <= n {

@@ -5,14 +5,15 @@ use mathlib.Core.Path.{_≡_, refl, sym, _∙_, ap, ap₂, subst}
 use mathlib.Core.Logic.{_⊎_, inl, inr}
 use mathlib.Core.List.{List, [], _∷_, _++_}
 use mathlib.Core.Bool.{true}
-use mathlib.Core.Option.{Option}
-use lib.ListN.{length, getD, drop, length-append}
+use mathlib.Core.Option.{Option, none}
+use lib.ListN.{length, getD, length-append}
 use lib.Seq.{getD-at}
 use Rattle.term.specs.Class.{Alike}
 use Rattle.term.specs.Term.{Term}
 use Rattle.term.specs.Pattern.{Pattern, name}
 use Rattle.term.specs.Limits.{Octets}
 use Rattle.term.specs.Refusal.{numberOf}
+use Rattle.term.specs.declared.Part.{Part}
 use Rattle.term.specs.declared.Refusal.{Refusal}
 use Rattle.term.proofs.Numbers.{word-or-refusal}
 use Rattle.anti_pattern.specs.AntiTerm.{Substitution}
@@ -29,19 +30,21 @@ use Rattle.anti_pattern.proofs.Within.{accepted-of}
 use Rattle.sheet.specs.declared.Checked.{Checked as SheetChecked}
 use Rattle.sheet.specs.declared.Checked.the-variants.{Accepted}
 use Rattle.sheet.specs.Entry.{partAt}
-use Rattle.matcher.specs.Call.{answerWidth, answerNumber, classesOf, languageOf, broughtAccepted, Input as PatternInput, told as ownTold, written as ownWritten}
+use Rattle.call.specs.Brought.{classesOf, languageOf, broughtAccepted}
+use Rattle.call.specs.Call.{answerWidth, written}
+use Rattle.call.proofs.Brought.{brought-alike}
+use Rattle.call.proofs.Handled.{handled, fails, passes}
+use Rattle.matcher.specs.Call.{answerNumber, Input as PatternInput, told as ownTold, boundParts as ownParts}
 use Rattle.matcher.specs.Demands.{Shows}
 use Rattle.matcher.proofs.Answered.{answered as own-answered}
-use Rattle.matcher.proofs.Buffers.{past-written}
-use Rattle.matcher.proofs.Checks.{brought-alike}
 use Rattle.rules.specs.Answer.{ruleNumber, ruleIndex, ruleCount, ShownAs}
 use Rattle.rules.specs.Trial.{Trial, boundAt, noneOf, spentAt, tryRules}
-use Rattle.rules.specs.Call.{Input, Checked, fault, trees, checked, checkOf, told, answerBy, answerOf, written, bufferBy, bufferOf, answerOnBytes, bufferOnBytes}
+use Rattle.rules.specs.Call.{Input, AcceptedTrees, trees, checked, checkOf, told, answerOf, boundParts, bufferOf, answerOnBytes, bufferOnBytes}
 use Rattle.rules.specs.Demands.{EachNone, counts, Reached, EachEnough, Answered, Published, Bounded, Demanded}
 use Rattle.rules.specs.declared.RuleAnswer.{RuleAnswer}
 use Rattle.rules.specs.declared.RuleAnswer.the-variants.{Bound, None, Spent, Refused}
 use Rattle.rules.proofs.Rules.{ruleAt, rule-input, part-octets}
-use Rattle.rules.proofs.Checks.{input-checked, checked-input}
+use Rattle.rules.proofs.Checks.{reads, checked-exactly, check-failed, check-passed}
 use Rattle.rules.proofs.Endings.{Ends, ends-bound, ends-none, ends-spent, trial-none, trial-bound, trial-spent, trial-ends, larger-trial}
 use Rattle.rules.proofs.Turns.{bytes-answered}
 
@@ -72,11 +75,10 @@ told-refused (boundAt k ps n) r e = word-or-refusal 0 refl r e
 told-refused (noneOf n) r e = word-or-refusal 10 refl r e
 told-refused (spentAt k n) r e = word-or-refusal 11 refl r e
 
-refused-count : (a : RuleAnswer) (r : Refusal) → ruleNumber a ≡ numberOf r → ruleCount a ≡ 0
-refused-count (Bound k n) r e = absurd (word-or-refusal 0 refl r e)
-refused-count (None n) r e = absurd (word-or-refusal 10 refl r e)
-refused-count (Spent k n) r e = absurd (word-or-refusal 11 refl r e)
-refused-count (Refused x i) r e = refl
+told-unbound : (x : Trial) → (ruleNumber (told x) ≡ 0 → ⊥) → boundParts x ≡ none
+told-unbound (boundAt k ps n) h = absurd (h refl)
+told-unbound (noneOf n) h = refl
+told-unbound (spentAt k n) h = refl
 
 -- the allowance is enough for a rule of such a sheet
 each-at : (allowance : ℕ) (ps : List Pattern) (q : Pattern) (qs : List Pattern) → EachEnough allowance (ps ++ (q ∷ qs)) → NoRuns q × Enough q allowance
@@ -165,27 +167,24 @@ module _ (table : List ℕ) (brought : Option (List ℕ)) (sheet bytes before : 
         )
 
     bound-shows : (k n : ℕ) {x : Trial} → Ends l t allowance qs x → told x ≡ Bound k n
-        → (q : Pattern) × (sum : ℕ) × Reached l qs t allowance k q sum × ((y : Assignment) × First l q t y × Shows table bytes q t y (written x before))
+        → (q : Pattern) × (sum : ℕ) × Reached l qs t allowance k q sum × ((y : Assignment) × First l q t y × Shows table bytes q t y (written (boundParts x) before))
     bound-shows k n (ends-bound {k = j} {q = q} {sum = sum} {ps = ps} {n = m} r f) e =
         let z : j ≡ k = cc in
         let p = part-of r in
         let s = own-answered table brought (partAt sheet j) bytes alike q t (p .0) allowance before (p .1) record-octets wide accepted .bound-shows
         (ap (λ (o : Outcome). answerNumber (ownTold o)) f) in
-        (q, sum, reached-at l qs t allowance z r, (s .0, s .1, subst (Shows table bytes q t (s .0)) (ap (λ (o : Outcome). ownWritten o before) f) (s .2)))
+        (q, sum, reached-at l qs t allowance z r, (s .0, s .1, subst (Shows table bytes q t (s .0)) (ap (λ (o : Outcome). written (ownParts o) before) f) (s .2)))
     bound-shows k n (ends-none h) e = let z : _≡_ {A = ℕ} 0 1 = cc in absurd (omega arith)
     bound-shows k n (ends-spent r f) e = let z : _≡_ {A = ℕ} 0 1 = cc in absurd (omega arith)
 
     same-call : (more : ℕ) → tryRules l qs t more ≡ trial
-        → (answerOf table brought sheet bytes more (length before) ≡ told trial) × (bufferOf table brought sheet bytes more before ≡ written trial before)
+        → (answerOf table brought sheet bytes more (length before) ≡ told trial) × (bufferOf table brought sheet bytes more before ≡ written (boundParts trial) before)
     unfolding answerOf bufferOf
     same-call more z =
-        let c : checked table brought sheet bytes (length before) ≡ trees qs t =
-        input-checked table brought sheet bytes (length before) sheet-octets record-octets qs t wide accepted i in (
-          ap (λ (x : Checked). answerBy x table brought more) c ∙ ap told z,
-          ap (λ (x : Checked). bufferBy x table brought more before) c ∙ ap (λ (x : Trial). written x before) z,
-        )
+        rw (checked-exactly table sheet bytes sheet-octets record-octets brought (length before) qs t .1 (wide, accepted, i))
+        (ap told z, ap (λ (x : Trial). written (boundParts x) before) z)
 
-    answered : Answered table brought sheet bytes before allowance qs t (told trial) (written trial before)
+    answered : Answered table brought sheet bytes before allowance qs t (told trial) (written (boundParts trial) before)
     answered = record {
       bound-exactly = λ k n. (
         λ h. bound-there l alike qs t of allowance k n ends (told-bound trial (h .0) ∙ ap₂ Bound (h .1) (h .2)),
@@ -237,7 +236,7 @@ module _ (table : List ℕ) (brought : Option (List ℕ)) (sheet bytes before : 
       same-rule : {k : ℕ} {p : Pattern} {sum rest : ℕ} → Reached l qs t allowance k p rest → Reached l qs t allowance k q sum → p ≡ q
       same-rule r s = sym (is-rule r) ∙ is-rule s
 
-      published : Published table brought bytes allowance qs t (told trial) (written trial before) q n
+      published : Published table brought bytes allowance qs t (told trial) (written (boundParts trial) before) q n
       published = record {
         none-exactly = (
           λ h. (h .0, λ σ s. h .1 (assignment σ) (agrees .solution-satisfies σ .0 s)),
@@ -258,19 +257,40 @@ module _ (table : List ℕ) (brought : Option (List ℕ)) (sheet bytes before : 
         bound-shows = λ sum h r.
             let b = answered .bound-shows h in
             let e = same-rule (b .2) r in
-            let x = subst (λ (p : Pattern). (y : Assignment) × First l p t y × Shows table bytes p t y (written trial before)) e (b .3) in
+            let x = subst (λ (p : Pattern). (y : Assignment) × First l p t y × Shows table bytes p t y (written (boundParts trial) before)) e (b .3) in
             let s = solved (x .0) (x .1 .satisfies) in
-            (s .0, s .1, subst (λ (y : Assignment). Shows table bytes q t y (written trial before)) (s .2) (x .2));
+            (s .0, s .1, subst (λ (y : Assignment). Shows table bytes q t y (written (boundParts trial) before)) (s .2) (x .2));
         only-one = agrees .at-most-one;
       }
 
-  refused-of : (c : Checked) → checked table brought sheet bytes (length before) ≡ c
-      → (answerWidth ≤ length before → broughtAccepted table brought ≡ true → (qs : List Pattern) (t : Term) → Input table sheet bytes qs t → ⊥)
-      → (r : Refusal) × (ruleNumber (answerBy c table brought allowance) ≡ numberOf r)
-  refused-of (fault r i) e h = (r, refl)
-  refused-of (trees qs t) e h =
-      let i = checked-input table brought sheet bytes (length before) sheet-octets record-octets qs t e in
-      absurd (h (i .0) (i .1) qs t (i .2))
+  -- the work on trees
+  abbrev work : List Pattern × Term → Trial
+  work x = tryRules l (x .0) (x .1) allowance
+
+  abbrev tells : List Pattern × Term → RuleAnswer
+  tells x = told (work x)
+
+  abbrev binds : List Pattern × Term → Option (List Part)
+  binds x = boundParts (work x)
+
+  demanded-of : length (bufferOf table brought sheet bytes allowance before) ≡ length before
+      → Demanded table brought sheet bytes before allowance (answerOf table brought sheet bytes allowance (length before))
+      (bufferOf table brought sheet bytes allowance before)
+  unfolding answerOf bufferOf
+  demanded-of same = record {
+    answered = λ wide b qs t i. let z = same-call wide b qs t i allowance refl in rw (z .0, z .1) (answered wide b qs t i);
+    published = λ wide b qs t i q n. let z = same-call wide b qs t i allowance refl in rw (z .0, z .1) (published wide b qs t i q n);
+    bounded = λ wide b qs t i. rw (same-call wide b qs t i allowance refl .0) (bounded wide b qs t i);
+    handled = handled Refused tells binds before table brought (trees table sheet bytes) (AcceptedTrees table sheet bytes) (λ x. ⊥)
+        (reads table sheet bytes sheet-octets record-octets) ruleNumber ruleCount
+        (record {
+          numbered = λ r i. refl;
+          uncounted = λ r i. refl;
+          told-uncounted = λ x r e. absurd (told-refused (work x) r e);
+          unbound = λ x. told-unbound (work x);
+        })
+        (λ wide b x i. (λ e. told-refused (work x) (e .0) (e .1), λ h. absurd h)) same;
+  }
 
   -- the whole contract
   abbrev Called : RuleAnswer → List ℕ → Type 0
@@ -278,72 +298,24 @@ module _ (table : List ℕ) (brought : Option (List ℕ)) (sheet bytes before : 
       (a ≡ answerOf table brought sheet bytes allowance (length before))
       × ((after ≡ bufferOf table brought sheet bytes allowance before) × Demanded table brought sheet bytes before allowance a after)
 
-  called : (a : RuleAnswer) (after : List ℕ) → a ≡ answerOf table brought sheet bytes allowance (length before)
-      → after ≡ bufferOf table brought sheet bytes allowance before → length after ≡ length before → Called a after
-  unfolding answerOf bufferOf
-  called a after e f same = (
-    e,
-    (
-      f,
-      record {
-        answered = λ wide b qs t i. let z = same-call wide b qs t i allowance refl in rw (e ∙ z .0, f ∙ z .1) (answered wide b qs t i);
-        published = λ wide b qs t i q n. let z = same-call wide b qs t i allowance refl in rw (e ∙ z .0, f ∙ z .1) (published wide b qs t i q n);
-        bounded = λ wide b qs t i. rw (e ∙ same-call wide b qs t i allowance refl .0) (bounded wide b qs t i);
-        handled = record {
-          refused-exactly = (
-            λ r wide b qs t i. told-refused (tryRules l qs t allowance) (r .0) (sym (ap ruleNumber (e ∙ same-call wide b qs t i allowance refl .0)) ∙ r .1),
-            λ h. let r = refused-of (checked table brought sheet bytes (length before)) refl h in (r .0, ap ruleNumber e ∙ r .1),
-          );
-          refused-shows = refused-count a;
-          past-stays = past-of (checked table brought sheet bytes (length before)) f;
-          untouched = λ h. f ∙ untouched-of (checked table brought sheet bytes (length before)) (λ z. h (ap ruleNumber e ∙ z));
-        };
-      },
-    ),
-  )
-    where
-      past-by : (x : Trial) → after ≡ written x before → drop answerWidth after ≡ drop answerWidth before
-      past-by (boundAt k ps n) g = past-written ps before after same g
-      past-by (noneOf n) g = ap (drop answerWidth) g
-      past-by (spentAt k n) g = ap (drop answerWidth) g
-
-      past-of : (c : Checked) → after ≡ bufferBy c table brought allowance before → drop answerWidth after ≡ drop answerWidth before
-      past-of (fault r i) g = ap (drop answerWidth) g
-      past-of (trees qs t) g = past-by (tryRules l qs t allowance) g
-
-      untouched-by : (x : Trial) → (ruleNumber (told x) ≡ 0 → ⊥) → written x before ≡ before
-      untouched-by (boundAt k ps n) h = absurd (h refl)
-      untouched-by (noneOf n) h = refl
-      untouched-by (spentAt k n) h = refl
-
-      untouched-of : (c : Checked) → (ruleNumber (answerBy c table brought allowance) ≡ 0 → ⊥) → bufferBy c table brought allowance before ≡ before
-      untouched-of (fault r i) h = refl
-      untouched-of (trees qs t) h = untouched-by (tryRules l qs t allowance) h
-
-  fails-by : (c : Checked) (r : Refusal) (i : ℕ) → SheetChecked.Refused r i ≡ checkOf c
-      → (Refused r i ≡ answerBy c table brought allowance) × (before ≡ bufferBy c table brought allowance before)
-  fails-by (fault x j) r i e = (cc, refl)
-  fails-by (trees qs t) r i e = let z : _≡_ {A = ℕ} 0 1 = cc in absurd (omega arith)
-
   -- where a check fails
   pub fails-called : (r : Refusal) (i : ℕ) → SheetChecked.Refused r i ≡ checkOf (checked table brought sheet bytes (length before))
       → Called (Refused r i) before
   unfolding answerOf bufferOf
-  fails-called r i e = let z = fails-by (checked table brought sheet bytes (length before)) r i e in called (Refused r i) before (z .0) (z .1) refl
-
-  passes-by : (c : Checked) (n : ℕ) → Accepted n ≡ checkOf c → (qs : List Pattern) × (t : Term) × (c ≡ trees qs t)
-  passes-by (fault x j) n e = let z : _≡_ {A = ℕ} 0 1 = cc in absurd (omega arith)
-  passes-by (trees qs t) n e = (qs, t, refl)
+  fails-called r i e =
+      fails Refused tells binds before (checked table brought sheet bytes (length before)) (Demanded table brought sheet bytes before allowance) demanded-of r i
+      (check-failed (checked table brought sheet bytes (length before)) r i e)
 
   -- where all pass, and the rules are tried with the class list that is brought, or an empty one
   pub passes-called : (n : ℕ) → Accepted n ≡ checkOf (checked table brought sheet bytes (length before))
       → (classes : List ℕ) → classes ≡ classesOf brought → (a : RuleAnswer) (after : List ℕ)
       → (a ≡ answerOnBytes table classes sheet bytes allowance (length before)) × (after ≡ bufferOnBytes table classes sheet bytes allowance before)
       → length after ≡ length before → Called a after
-  passes-called n e classes same a after m long =
-      let c = passes-by (checked table brought sheet bytes (length before)) n e in
-      let i = checked-input table brought sheet bytes (length before) sheet-octets record-octets (c .0) (c .1) (c .2) in
-      let z = same-call (i .0) (i .1) (c .0) (c .1) (i .2) allowance refl in
+  unfolding answerOf bufferOf
+  passes-called n e classes same a after m =
+      let c = check-passed (checked table brought sheet bytes (length before)) n e in
+      let i = checked-exactly table sheet bytes sheet-octets record-octets brought (length before) (c .0) (c .1) .0 (c .2) in
       let g = bytes-answered table (classesOf brought) sheet bytes allowance before (i .0) (brought-alike table brought (i .1)) (c .0) (c .1) (i .2) in
       let n = rw same at m in
-      called a after (n .0 ∙ g .0 ∙ sym (z .0)) (n .1 ∙ g .1 ∙ sym (z .1)) long
+      passes Refused tells binds before (checked table brought sheet bytes (length before)) (Demanded table brought sheet bytes before allowance) demanded-of
+      (c .0, c .1) (c .2) a after (n .0 ∙ g .0) (n .1 ∙ g .1)

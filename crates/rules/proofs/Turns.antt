@@ -15,12 +15,13 @@ use Rattle.anti_pattern.specs.Answer.{Answer as Outcome, bound, nothing, spent,
 use Rattle.anti_pattern.specs.Language.{language}
 use Rattle.sheet.specs.Check.{entryCount}
 use Rattle.sheet.specs.Entry.{partAt}
+use Rattle.call.specs.Call.{answerWidth, written}
 use Rattle.link.specs.OnBytes.{outcomeOnBytes}
-use Rattle.matcher.specs.Call.{answerWidth, told as ownTold, written as ownWritten, answerOnBytes as ownAnswer, bufferOnBytes as ownBuffer}
+use Rattle.matcher.specs.Call.{told as ownTold, boundParts as ownParts, answerOnBytes as ownAnswer, bufferOnBytes as ownBuffer}
 use Rattle.matcher.specs.declared.Answer.{Answer}
 use Rattle.link.proofs.Linked.{linked}
 use Rattle.rules.specs.Trial.{Trial, noneOf, tryOne, tryEach, tryRules}
-use Rattle.rules.specs.Call.{Input, told, written, partsFrom, tryParts, answerOnBytes, bufferOnBytes}
+use Rattle.rules.specs.Call.{Input, told, boundParts, partsFrom, tryParts, answerOnBytes, bufferOnBytes}
 use Rattle.rules.specs.declared.RuleAnswer.{RuleAnswer}
 use Rattle.rules.specs.declared.RuleAnswer.the-variants.{Bound, None, Spent, Refused}
 use Rattle.rules.proofs.Rules.{ruleAt, input-directed, rule-input}
@@ -93,18 +94,18 @@ module _ (table classes sheet bytes : List ℕ) (allowance : ℕ) where
     narrow-matched h = rw (lt-ltb (length before) answerWidth h) (refl, refl)
 
     -- by what trying the parts comes to
-    tried : answerWidth ≤ length before → (x : Trial) → trial ≡ x → (a : RuleAnswer) (after : List ℕ) → a ≡ told x → after ≡ written x before → OnBytes a after
+    tried : answerWidth ≤ length before → (x : Trial) → trial ≡ x → (a : RuleAnswer) (after : List ℕ) → a ≡ told x → after ≡ written (boundParts x) before → OnBytes a after
     unfolding answerOnBytes bufferOnBytes
     tried wide x z a after e f =
-        rw (le-ltb (length before) answerWidth wide) (e ∙ ap told (sym z), f ∙ ap (λ (y : Trial). written y before) (sym z))
+        rw (le-ltb (length before) answerWidth wide) (e ∙ ap told (sym z), f ∙ ap (λ (y : Trial). written (boundParts y) before) (sym z))
 
     pub bytes-answered : answerWidth ≤ length before → Alike table classes → (qs : List Pattern) (t : Term) → Input table sheet bytes qs t
         → (answerOnBytes table classes sheet bytes allowance (length before) ≡ told (tryRules (language table classes) qs t allowance))
-        × (bufferOnBytes table classes sheet bytes allowance before ≡ written (tryRules (language table classes) qs t allowance) before)
+        × (bufferOnBytes table classes sheet bytes allowance before ≡ written (boundParts (tryRules (language table classes) qs t allowance)) before)
     unfolding bufferOnBytes
     bytes-answered wide alike qs t i = (
       answer-answered (length before) wide alike qs t i,
-      rw (le-ltb (length before) answerWidth wide) (ap (λ (y : Trial). written y before) (trial-accepted alike qs t i)),
+      rw (le-ltb (length before) answerWidth wide) (ap (λ (y : Trial). written (boundParts y) before) (trial-accepted alike qs t i)),
     )
 
     -- After k turns over so many parts: the trial of all is that of the parts from index k on, with the sum of the counts so far; the buffer is
@@ -144,13 +145,13 @@ Stops (Answer.Spent n) = Unit {0}
 Stops (Answer.Refused r) = Unit {0}
 
 stop-told : (k sum : ℕ) (o : Outcome) (next : ℕ → Trial) (before : List ℕ) → Stops (ownTold o)
-    → (stopOf k sum (ownTold o) ≡ told (tryOne k sum o next)) × (ownWritten o before ≡ written (tryOne k sum o next) before)
+    → (stopOf k sum (ownTold o) ≡ told (tryOne k sum o next)) × (written (ownParts o) before ≡ written (boundParts (tryOne k sum o next)) before)
 stop-told k sum (bound parts n) next before h = (refl, refl)
 stop-told k sum (nothing n) next before h = absurd h
 stop-told k sum (spent n) next before h = (refl, refl)
 
 none-told : (k sum : ℕ) (o : Outcome) (next : ℕ → Trial) (n : ℕ) (before : List ℕ) → ownTold o ≡ Answer.None n
-    → (tryOne k sum o next ≡ next (sum + n)) × (ownWritten o before ≡ before)
+    → (tryOne k sum o next ≡ next (sum + n)) × (written (ownParts o) before ≡ before)
 none-told k sum (bound parts m) next n before e = let z : _≡_ {A = ℕ} 0 1 = cc in absurd (omega arith)
 none-told k sum (nothing m) next n before e = let z : m ≡ n = cc in (ap (λ (x : ℕ). next (sum + x)) z, refl)
 none-told k sum (spent m) next n before e = let z : _≡_ {A = ℕ} 0 1 = cc in absurd (omega arith)
@@ -183,7 +184,7 @@ module _ {table classes sheet bytes : List ℕ} {allowance : ℕ} {before : List
     abbrev later : ℕ → Trial
     later s = tryEach (own table classes sheet bytes allowance) (k + 1) s (drop (k + 1) (parts table classes sheet bytes allowance))
 
-    answers : (a ≡ ownTold outcome) × (after ≡ ownWritten outcome before)
+    answers : (a ≡ ownTold outcome) × (after ≡ written (ownParts outcome) before)
     unfolding ownAnswer ownBuffer
     answers =
         let c = rw (is-part, turn .untouched, le-ltb (length before) answerWidth (turn .wide)) at called in

@@ -1,30 +1,32 @@
 -- The call: what a rule sheet against one record answers, and what it leaves in the answer buffer, on all inputs.
 use Prim.Native.Nat.{ℕ, zero, suc, _+_, _≤_}
 use mathlib.Core.Path.{_≡_}
-use mathlib.Core.List.{List, [], _∷_, _++_, map}
-use mathlib.Core.Bool.{Bool, true, false, cond, _&&_, not}
-use mathlib.Core.Option.{Option}
-use lib.ListN.{length, drop}
-use lib.Dec.{ltb}
+use mathlib.Core.List.{List, [], _∷_, map}
+use mathlib.Core.Bool.{Bool, true, cond, _&&_, not}
+use mathlib.Core.Option.{Option, none, some}
+use lib.ListN.{length}
+use lib.Dec.{leb, ltb}
 use Rattle.term.specs.Class.{classesAccepted}
 use Rattle.term.specs.Table.{tableAccepted}
 use Rattle.term.specs.Term.{Term, termBytes}
 use Rattle.term.specs.Pattern.{Pattern, patternBytes}
 use Rattle.term.specs.Limits.{TermAccepted, PatternAccepted}
 use Rattle.reader.specs.Reading.{Answer as Reading, refused, read, readPattern, readRecord}
-use Rattle.term.specs.declared.Refusal.{Refusal}
-use Rattle.term.specs.declared.Refusal.the-variants.{Table, Narrow, Class}
+use Rattle.term.specs.declared.Part.{Part}
+use Rattle.term.specs.declared.Refusal.the-variants.{Narrow}
+use Rattle.call.specs.Brought.{languageOf}
+use Rattle.call.specs.Call.{answerWidth, checks, answerBy, written, bufferBy}
+use Rattle.call.specs.Verdict.{Verdict, passed, fault, reading, both}
 use Rattle.sheet.specs.Sheet.{sheetBytes}
 use Rattle.sheet.specs.Check.{longestSheet, entryCount}
 use Rattle.sheet.specs.Entry.{entries, partAt}
-use Rattle.sheet.specs.Contents.{checkRules}
+use Rattle.sheet.specs.Contents.{mostRules, checkRules}
 use Rattle.sheet.specs.declared.Checked.{Checked as SheetChecked}
 use Rattle.sheet.specs.declared.Checked.the-variants.{Accepted}
 use Rattle.link.specs.OnBytes.{outcomeOnBytes}
-use Rattle.matcher.specs.Call.{answerWidth, numbers, languageOf, broughtAccepted}
 use Rattle.rules.specs.Trial.{Trial, boundAt, noneOf, spentAt, tryEach, tryRules}
 use Rattle.rules.specs.declared.RuleAnswer.{RuleAnswer}
-use Rattle.rules.specs.declared.RuleAnswer.the-variants.{Bound, None, Spent}
+use Rattle.rules.specs.declared.RuleAnswer.the-variants.{Bound, None, Spent, Refused}
 
 -- Accepted input: a table, the bytes of a sheet of at most 64 patterns, and those of a record, that pass every check
 
@@ -40,15 +42,16 @@ pub record Input (table sheet bytes : List ℕ) (qs : List Pattern) (t : Term) :
   pub table-accepted : tableAccepted table ≡ true
   pub sheet-bytes : sheetBytes (rulesBytes table qs) ≡ sheet
   pub sheet-short : length sheet ≤ longestSheet
-  pub few-rules : length qs ≤ 64
+  pub few-rules : length qs ≤ mostRules
   pub rules-accepted : AllAccepted table qs
   pub record-bytes : termBytes table t [] ≡ bytes
   pub record-accepted : TermAccepted table t
 
--- The checks: the first refusal with the index of its entry, or the trees of the rules and of the record
-pub data Checked : Type 0 where
-  fault : Refusal → ℕ → Checked
-  trees : List Pattern → Term → Checked
+-- the same of the rules and the record's tree as one
+abbrev pub AcceptedTrees : List ℕ → List ℕ → List ℕ → List Pattern × Term → Type 0
+AcceptedTrees table sheet bytes x = Input table sheet bytes (x .0) (x .1)
+
+-- The checks, in order: those of every call, the rule sheet's, the record's; they read all trees
 
 -- the rules: the patterns that entries are read as. In a sheet that is accepted each is
 abbrev pub withRule : Reading Pattern → List Pattern → List Pattern
@@ -59,28 +62,25 @@ unfoldable pub rulesOf : List ℕ → List (List ℕ) → List Pattern
 rulesOf table [] = []
 rulesOf table (e ∷ es) = withRule (readPattern table e) (rulesOf table es)
 
--- a refused record shows index 0
-abbrev pub checkedBy : SheetChecked → List Pattern → Reading Term → Checked
-checkedBy (SheetChecked.Refused r i) qs y = fault r i
-checkedBy (Accepted n) qs (refused r) = fault r 0
-checkedBy (Accepted n) qs (read t m) = trees qs t
+-- they are read where the sheet passes its checks
+abbrev pub rulesBy : SheetChecked → List Pattern → Verdict (List Pattern)
+rulesBy (SheetChecked.Refused r i) qs = fault r i
+rulesBy (Accepted n) qs = passed qs
 
--- in order: 8, 1, 14, the rule sheet's, the record's
-unfoldable pub checked : List ℕ → Option (List ℕ) → List ℕ → List ℕ → ℕ → Checked
-checked table brought sheet bytes width =
-    cond (ltb width answerWidth) (fault Narrow 0)
-    (cond (tableAccepted table)
-    (cond (broughtAccepted table brought) (checkedBy (checkRules table sheet) (rulesOf table (entries sheet)) (readRecord table bytes)) (fault Class 0))
-    (fault Table 0))
+abbrev pub trees : List ℕ → List ℕ → List ℕ → Verdict (List Pattern × Term)
+trees table sheet bytes = both (rulesBy (checkRules table sheet) (rulesOf table (entries sheet))) (reading (readRecord table bytes))
+
+abbrev pub checked : List ℕ → Option (List ℕ) → List ℕ → List ℕ → ℕ → Verdict (List Pattern × Term)
+checked table brought sheet bytes width = checks table brought width (trees table sheet bytes)
 
 -- whether it is the class list that is at fault
 unfoldable pub classFault : List ℕ → List ℕ → ℕ → Bool
-classFault table classes width = cond (ltb width answerWidth) false (tableAccepted table && not (classesAccepted table classes))
+classFault table classes width = leb answerWidth width && tableAccepted table && not (classesAccepted table classes)
 
 -- the number of rules, or the refusal
-abbrev pub checkOf : Checked → SheetChecked
+abbrev pub checkOf : Verdict (List Pattern × Term) → SheetChecked
 checkOf (fault r i) = SheetChecked.Refused r i
-checkOf (trees qs t) = Accepted (length qs)
+checkOf (passed x) = Accepted (length (x .0))
 
 -- The answer
 
@@ -89,26 +89,20 @@ told (boundAt i parts sum) = Bound i sum
 told (noneOf sum) = None sum
 told (spentAt i sum) = Spent i sum
 
-abbrev pub answerBy : Checked → List ℕ → Option (List ℕ) → ℕ → RuleAnswer
-answerBy (fault r i) table brought allowance = RuleAnswer.Refused r i
-answerBy (trees qs t) table brought allowance = told (tryRules (languageOf table brought) qs t allowance)
-
 unfoldable pub answerOf : List ℕ → Option (List ℕ) → List ℕ → List ℕ → ℕ → ℕ → RuleAnswer
-answerOf table brought sheet bytes allowance width = answerBy (checked table brought sheet bytes width) table brought allowance
+answerOf table brought sheet bytes allowance width =
+    answerBy Refused (λ x. told (tryRules (languageOf table brought) (x .0) (x .1) allowance)) (checked table brought sheet bytes width)
 
--- The answer buffer: the entries of the rule that is bound. "what lies past 144 stays"; "All but bound leave the answer buffer untouched."
+-- The answer buffer, by the part of each variable of the rule that is bound
 
-abbrev pub written : Trial → List ℕ → List ℕ
-written (boundAt i parts sum) before = numbers parts ++ drop answerWidth before
-written (noneOf sum) before = before
-written (spentAt i sum) before = before
-
-abbrev pub bufferBy : Checked → List ℕ → Option (List ℕ) → ℕ → List ℕ → List ℕ
-bufferBy (fault r i) table brought allowance before = before
-bufferBy (trees qs t) table brought allowance before = written (tryRules (languageOf table brought) qs t allowance) before
+abbrev pub boundParts : Trial → Option (List Part)
+boundParts (boundAt i parts sum) = some parts
+boundParts (noneOf sum) = none
+boundParts (spentAt i sum) = none
 
 unfoldable pub bufferOf : List ℕ → Option (List ℕ) → List ℕ → List ℕ → ℕ → List ℕ → List ℕ
-bufferOf table brought sheet bytes allowance before = bufferBy (checked table brought sheet bytes (length before)) table brought allowance before
+bufferOf table brought sheet bytes allowance before =
+    bufferBy (λ x. boundParts (tryRules (languageOf table brought) (x .0) (x .1) allowance)) (checked table brought sheet bytes (length before)) before
 
 -- The match of any bytes, without the checks but for the buffer's: the parts that the sheet's directory tells are tried as rules. On accepted
 -- input it is the answer above (proofs/Turns).
@@ -124,8 +118,8 @@ tryParts table classes sheet bytes allowance =
 
 unfoldable pub answerOnBytes : List ℕ → List ℕ → List ℕ → List ℕ → ℕ → ℕ → RuleAnswer
 answerOnBytes table classes sheet bytes allowance width =
-    cond (ltb width answerWidth) (RuleAnswer.Refused Narrow 0) (told (tryParts table classes sheet bytes allowance))
+    cond (ltb width answerWidth) (Refused Narrow 0) (told (tryParts table classes sheet bytes allowance))
 
 unfoldable pub bufferOnBytes : List ℕ → List ℕ → List ℕ → List ℕ → ℕ → List ℕ → List ℕ
 bufferOnBytes table classes sheet bytes allowance before =
-    cond (ltb (length before) answerWidth) before (written (tryParts table classes sheet bytes allowance) before)
+    cond (ltb (length before) answerWidth) before (written (boundParts (tryParts table classes sheet bytes allowance)) before)

@@ -5,11 +5,9 @@ use mathlib.Core.Logic.{_⊎_, _↔_}
 use mathlib.Core.List.{List, [], _∷_, _++_}
 use mathlib.Core.Bool.{true}
 use mathlib.Core.Option.{Option}
-use lib.ListN.{length, drop}
+use lib.ListN.{length}
 use Rattle.term.specs.Term.{Term}
 use Rattle.term.specs.Pattern.{Pattern}
-use Rattle.term.specs.Refusal.{numberOf}
-use Rattle.term.specs.declared.Refusal.{Refusal}
 use Rattle.anti_pattern.specs.AntiTerm.{Substitution}
 use Rattle.anti_pattern.specs.Answer.{countOf}
 use Rattle.anti_pattern.specs.Cost.{Enough}
@@ -17,10 +15,12 @@ use Rattle.anti_pattern.specs.Demands.{First, Unsatisfied}
 use Rattle.anti_pattern.specs.Language.{Language}
 use Rattle.anti_pattern.specs.Meaning.{Assignment, CountAsOne}
 use Rattle.anti_pattern.specs.Published.{Solution, NoRuns, anti, assignment}
-use Rattle.matcher.specs.Call.{answerWidth, languageOf, broughtAccepted}
+use Rattle.call.specs.Brought.{languageOf, broughtAccepted}
+use Rattle.call.specs.Call.{answerWidth}
+use Rattle.call.specs.Demands.{Handled}
 use Rattle.matcher.specs.Demands.{Shows}
 use Rattle.rules.specs.Answer.{ruleNumber, ruleIndex, ruleCount, ShownAs}
-use Rattle.rules.specs.Call.{Input, answerOf, bufferOf}
+use Rattle.rules.specs.Call.{Input, AcceptedTrees, answerOf, bufferOf}
 use Rattle.rules.specs.declared.RuleAnswer.{RuleAnswer}
 
 module _ (l : Language) where
@@ -96,23 +96,18 @@ module _ (table : List ℕ) (brought : Option (List ℕ)) where
     -- nor on a sheet of them
     pub bound-or-none : EachEnough allowance qs → (ruleNumber a ≡ 0) ⊎ (ruleNumber a ≡ 10)
 
--- Demand 1: any input gets an answer or a numbered refusal; the order of the checks is that of `checked` (Call)
-pub record Handled (table : List ℕ) (brought : Option (List ℕ)) (sheet bytes before : List ℕ) (a : RuleAnswer) (after : List ℕ) : Type 0 where
-  -- refused exactly when the buffer is narrow, or the class list or the input is not accepted; a refusal shows count 0
-  pub refused-exactly : ((r : Refusal) × (ruleNumber a ≡ numberOf r))
-      ↔ (answerWidth ≤ length before → broughtAccepted table brought ≡ true → (qs : List Pattern) (t : Term) → Input table sheet bytes qs t → ⊥)
-  pub refused-shows : (r : Refusal) → ruleNumber a ≡ numberOf r → ruleCount a ≡ 0
-  -- "Unless a rule was bound the answer buffer is untouched"; "what lies past 144 stays"
-  pub untouched : (ruleNumber a ≡ 0 → ⊥) → after ≡ before
-  pub past-stays : drop answerWidth after ≡ drop answerWidth before
-
--- All three, and what a rule can cost at most
+-- All three, and what a rule can cost at most; accepted input is always answered
 pub record Demanded (table : List ℕ) (brought : Option (List ℕ)) (sheet bytes before : List ℕ) (allowance : ℕ) (a : RuleAnswer)
     (after : List ℕ) : Type 0 where
-  pub handled : Handled table brought sheet bytes before a after
+  pub handled : Handled table brought (AcceptedTrees table sheet bytes) (λ x. ⊥) before (ruleNumber a) (ruleCount a) after
   pub published : answerWidth ≤ length before → broughtAccepted table brought ≡ true → (qs : List Pattern) (t : Term) → Input table sheet bytes qs t
       → (q : Pattern) (n : NoRuns q) → Published table brought bytes allowance qs t a after q n
   pub answered : answerWidth ≤ length before → broughtAccepted table brought ≡ true → (qs : List Pattern) (t : Term) → Input table sheet bytes qs t
       → Answered table brought sheet bytes before allowance qs t a after
   pub bounded : answerWidth ≤ length before → broughtAccepted table brought ≡ true → (qs : List Pattern) (t : Term) → Input table sheet bytes qs t
       → Bounded table brought allowance qs t a
+
+-- What is demanded where only the final buffer is at hand: of the answer that the call has
+abbrev pub DemandedOf : List ℕ → Option (List ℕ) → List ℕ → List ℕ → List ℕ → ℕ → List ℕ → Type 0
+DemandedOf table brought sheet bytes before allowance after =
+    Demanded table brought sheet bytes before allowance (answerOf table brought sheet bytes allowance (length before)) after

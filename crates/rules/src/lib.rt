@@ -7,6 +7,7 @@ ghost use mathlib.Core.Path.{_≡_};
 ghost use mathlib.Core.Option.{none, some};
 ghost use Prim.Native.Nat.{_+_};
 ghost use lib.ListN.{length};
+ghost use Rattle.term.specs.Moment.{old, new};
 ghost use Rattle.rules.specs.Answer.{ruleNumber, ruleIndex, ruleCount};
 ghost use Rattle.rules.specs.Call.{checked, classFault, checkOf, answerOf, bufferOf, answerOnBytes, bufferOnBytes};
 ghost use Rattle.rules.specs.Demands.{Demanded};
@@ -60,7 +61,7 @@ impl RuleAnswer {
 
 // Whether a class list is at fault, where a buffer of so many numbers and the table are not.
 fn refuses_classes(table: &[u8], classes: &[u8], width: usize) -> bool
-    ensures { λ r. ⌜ r ≡ classFault (now (table .entry)) (now (classes .entry)) width ⌝ }
+    ensures { λ r. ⌜ r ≡ classFault (old table) (old classes) width ⌝ }
 {
     if width < matcher::ANSWER_WIDTH {
         return false;
@@ -73,7 +74,7 @@ fn refuses_classes(table: &[u8], classes: &[u8], width: usize) -> bool
 
 // The checks in order, without a class list and for a buffer of so many numbers: the number of rules, or the refusal.
 fn check_input(table: &[u8], sheet: &[u8], record: &[u8], width: usize) -> Checked
-    ensures { λ r. ⌜ r ≡ checkOf (checked (now (table .entry)) none (now (sheet .entry)) (now («record» .entry)) width) ⌝ }
+    ensures { λ r. ⌜ r ≡ checkOf (checked (old table) none (old sheet) (old «record») width) ⌝ }
 {
     if width < matcher::ANSWER_WIDTH {
         return Checked::Refused(Refusal::Narrow, 0);
@@ -99,8 +100,8 @@ pub fn match_rules_checked(
     allowance: u32,
     answer: &mut [u16],
 ) -> RuleAnswer
-    ensures is { λ r. ⌜ r ≡ answerOnBytes (now (table .entry)) (now (classes .entry)) (now (sheet .entry)) (now («record» .entry)) allowance (length (now (answer .entry))) ⌝ }
-    ensures buffer { λ r. ⌜ now (answer .exit) ≡ bufferOnBytes (now (table .entry)) (now (classes .entry)) (now (sheet .entry)) (now («record» .entry)) allowance (now (answer .entry)) ⌝ }
+    ensures is { λ r. ⌜ r ≡ answerOnBytes (old table) (old classes) (old sheet) (old «record») allowance (length (old answer)) ⌝ }
+    ensures buffer { λ r. ⌜ new answer ≡ bufferOnBytes (old table) (old classes) (old sheet) (old «record») allowance (old answer) ⌝ }
 {
     if answer.len() < matcher::ANSWER_WIDTH {
         return RuleAnswer::Refused(Refusal::Narrow, 0);
@@ -144,9 +145,9 @@ pub fn match_rules(
     allowance: u32,
     answer: &mut [u16],
 ) -> RuleAnswer
-    ensures is { λ r. ⌜ r ≡ answerOf (now (table .entry)) none (now (sheet .entry)) (now («record» .entry)) allowance (length (now (answer .entry))) ⌝ }
-    ensures buffer { λ r. ⌜ now (answer .exit) ≡ bufferOf (now (table .entry)) none (now (sheet .entry)) (now («record» .entry)) allowance (now (answer .entry)) ⌝ }
-    ensures demand { λ r. ⌜ Demanded (now (table .entry)) none (now (sheet .entry)) (now («record» .entry)) (now (answer .entry)) allowance r (now (answer .exit)) ⌝ }
+    ensures is { λ r. ⌜ r ≡ answerOf (old table) none (old sheet) (old «record») allowance (length (old answer)) ⌝ }
+    ensures buffer { λ r. ⌜ new answer ≡ bufferOf (old table) none (old sheet) (old «record») allowance (old answer) ⌝ }
+    ensures demand { λ r. ⌜ Demanded (old table) none (old sheet) (old «record») (old answer) allowance r (new answer) ⌝ }
 {
     let checks = check_input(table, sheet, record, answer.len());
     match checks {
@@ -171,9 +172,9 @@ pub fn match_rules_with_classes(
     allowance: u32,
     answer: &mut [u16],
 ) -> RuleAnswer
-    ensures is { λ r. ⌜ r ≡ answerOf (now (table .entry)) (some (now (classes .entry))) (now (sheet .entry)) (now («record» .entry)) allowance (length (now (answer .entry))) ⌝ }
-    ensures buffer { λ r. ⌜ now (answer .exit) ≡ bufferOf (now (table .entry)) (some (now (classes .entry))) (now (sheet .entry)) (now («record» .entry)) allowance (now (answer .entry)) ⌝ }
-    ensures demand { λ r. ⌜ Demanded (now (table .entry)) (some (now (classes .entry))) (now (sheet .entry)) (now («record» .entry)) (now (answer .entry)) allowance r (now (answer .exit)) ⌝ }
+    ensures is { λ r. ⌜ r ≡ answerOf (old table) (some (old classes)) (old sheet) (old «record») allowance (length (old answer)) ⌝ }
+    ensures buffer { λ r. ⌜ new answer ≡ bufferOf (old table) (some (old classes)) (old sheet) (old «record») allowance (old answer) ⌝ }
+    ensures demand { λ r. ⌜ Demanded (old table) (some (old classes)) (old sheet) (old «record») (old answer) allowance r (new answer) ⌝ }
 {
     if refuses_classes(table, classes, answer.len()) {
         return RuleAnswer::Refused(Refusal::Class, 0);

@@ -4,7 +4,7 @@ use Prim.Native.Nat.{ℕ, _+_, _-_, _<_, _≤_}
 use native.Mathlib.Omega.{arith}
 use mathlib.Core.Path.{_≡_, refl, sym, ap, subst, _∙_}
 use mathlib.Core.List.{List}
-use mathlib.Core.Bool.{Bool, true, false, true≢false}
+use mathlib.Core.Bool.{Bool, false, true≢false}
 use lib.ListN.{set}
 use lib.Seq.{getD-set-same}
 use Rattle.term.specs.Code.{variables}
@@ -51,6 +51,7 @@ none-begun {codes} {bytes} {assigned} {parts} {stack} {m} {p} halts h small = re
   behind = omega arith;
   within = h .holds .node;
   named = λ l. absurd (omega (arith, l));
+  all = λ l. absurd (omega (arith, l));
   written = λ l. absurd (omega (arith, l));
   halting = record { none = λ e. (refl, refl, refl, omega arith) };
 }
@@ -83,6 +84,7 @@ run-begun {codes} {bytes} {assigned} {parts} {stack} {m} {p} v n size x h at low
   behind = omega arith;
   within = within;
   named = λ i. low;
+  all = λ i. refl;
   written = λ i.
       let z : p .node + size - p .node ≡ size = omega arith in
       getD-set-same parts v x 0 (omega (arith, low, h .holds .sized .of-parts)) ∙ is-x ∙ ap (λ (y : ℕ). packed (boundPart (p .node) y n)) (sym z);

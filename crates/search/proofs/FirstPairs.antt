@@ -2,31 +2,38 @@
 use Prim.Native.Nat.{ℕ, _+_, _-_, _<_, _≤_}
 use native.Mathlib.Omega.{arith}
 use native.Mathlib.Nat.{pos-of-ne-zero}
-use mathlib.Core.Path.{_≡_, refl, sym, ap, _∙_}
-use mathlib.Core.Bool.{true, false}
+use mathlib.Core.Path.{_≡_, refl, sym, ap, subst, _∙_}
+use mathlib.Core.Bool.{true, false, and-false}
 use mathlib.Core.List.{List, []}
-use lib.ListN.{length, getD, take, drop}
+use lib.ListN.{length, getD, take, drop, set}
+use lib.Dec.{leb}
+use borrow.Author.Tests.{le-leb}
 use lib.Seq.{getD-drop}
 use Rattle.term.specs.Same.{sameByte}
-use Rattle.term.specs.Code.{decodeOf}
-use Rattle.term.specs.Extent.{entryOf}
+use Rattle.term.specs.Code.{variables, decodeOf}
+use Rattle.term.specs.Extent.{entryOf, extentOf}
+use Rattle.term.specs.Part.{part, isAbsent, boundPart}
 use Rattle.term.specs.declared.Code.{Code}
-use Rattle.term.specs.declared.Code.the-variants.{Symbol}
+use Rattle.term.specs.declared.Code.the-variants.{Symbol, Name}
 use Rattle.term.specs.declared.Part.{Part}
-use Rattle.search.specs.State.{turns, PutBy, place, state, passed, partAt, walked, symbolStep, pairStep, codeStep, overStep, stepOf, variableAt, nextOf, walkOf}
+use Rattle.search.specs.State.{turns, PutBy, place, state, passed, partAt, walked, standsOf, symbolStep, assignedStep, nameStep, pairStep, codeStep, overStep, stepOf, variableAt, nextOf, walkOf}
 use Rattle.search.specs.Level.{reply, failedAt, startOf, insideOf, complementsOf, levelOf, endOf}
-use Rattle.search.specs.Inner.Replies.{turned, replyWith, EndsAtOnce, ComplementIs}
+use Rattle.search.specs.Inner.Replies.{turned, replyWith, EndsAtOnce, EndsInside, ComplementIs}
+use Rattle.search.specs.Inner.Memory.{partIn}
 use Rattle.search.specs.declared.Marks.{Marks}
 use Rattle.search.specs.declared.Step.{Step}
-use Rattle.search.specs.declared.Step.the-variants.{Fails, Passes}
+use Rattle.search.specs.declared.Step.the-variants.{Fails, Passes, Binds}
 use Rattle.search.specs.declared.Stop.the-variants.{Failure, NoPair}
 use Rattle.search.specs.declared.Ended.{Ended}
 use Rattle.search.specs.declared.Outcome.{Outcome}
 use Rattle.search.specs.declared.Outcome.the-variants.{Found, Failed, Spent}
-use Rattle.search.proofs.Steps.{rest-drop, symbol-leaf, plain-pair, step-at}
+use Rattle.skips.proofs.Passing.{rest-drop}
+use Rattle.search.proofs.Steps.{symbol-leaf, plain-pair, step-at}
 use Rattle.search.proofs.Walks.{walk-suc}
 use Rattle.search.proofs.Kept.{kept-all}
-use Rattle.search.proofs.Levels.{level-stops, taken, inside-is}
+use Rattle.search.proofs.Skips.{level-fails}
+use Rattle.search.proofs.Tries.{level-stops}
+use Rattle.search.proofs.Levels.{taken, inside-is}
 
 module _ (table classes pattern bytes : List ℕ) (node left b : ℕ) (some : left ≡ 0 → ⊥) (codes : 0 < length pattern) (within : node < length bytes)
     (code : Code) (is-code : code ≡ decodeOf (getD pattern 0 0)) (is-symbol : code ≡ Symbol b) where
@@ -90,22 +97,93 @@ end-with Found left shown = refl
 end-with Failed left shown = refl
 end-with Spent left shown = refl
 
+-- A name
+
+module _ (table classes pattern bytes : List ℕ) (assigned : ℕ) (parts : List ℕ) (node left v : ℕ) (some : left ≡ 0 → ⊥) (codes : 0 < length pattern)
+    (within : node < length bytes) (code : Code) (is-code : code ≡ decodeOf (getD pattern 0 0)) (is-name : code ≡ Name v) (low : v < variables)
+    (had : Part) (is-had : had ≡ partIn assigned parts v) where
+  abbrev from : List ℕ
+  from = take (length bytes - node) (drop node bytes)
+
+  abbrev Shows : List Part → Type 0
+  Shows shown = (w : ℕ) → w < variables → getD shown w (part 0 0 0) ≡ partIn assigned parts w
+
+  name-step : (shown : List Part) → Shows shown → (x : Step) → x ≡ nameStep table classes bytes from v had 1
+      → x ≡ stepOf true table classes pattern bytes (partAt (startOf shown node) (variableAt pattern 0)) (place 1 1 0 node) left
+  unfolding pairStep codeStep
+  name-step shown all x e =
+      step-at true table classes pattern bytes (partAt (startOf shown node)) (place 1 1 0 node) left (Name v) x (λ z. omega arith) codes
+      (sym is-name ∙ is-code)
+      (plain-pair true (Name v) table classes pattern bytes _ (place 1 1 0 node) left x (λ z. omega arith) within some
+      (e ∙ ap (λ (h : Part). nameStep table classes bytes from v h 1) (is-had ∙ sym (all v low))))
+
+  -- it takes the node, with these parts, and no pair is left
+  taken-whole : (shown shown′ : List Part) (size n : ℕ) → 0 < n
+      → walkOf turns table classes pattern bytes (startOf shown node) left
+      ≡ walkOf (turns - 1) table classes pattern bytes (state shown′ [] [] (passed (place 1 1 0 node) 1 1 size)) (left - 1)
+      → endOf (levelOf n table classes bytes pattern (startOf shown node) left) ≡ record { outcome = Found; left = left - 1 }
+  unfolding nextOf stepOf overStep complementsOf
+  taken-whole shown shown′ size n h e =
+      sym (ap endOf (level-stops n table classes pattern bytes (startOf shown node) left NoPair (left - 1)
+      (state shown′ [] [] (passed (place 1 1 0 node) 1 1 size)) (reply Found (left - 1) shown′) h
+      (e ∙ walk-suc table classes pattern bytes (turns - 1) (state shown′ [] [] (passed (place 1 1 0 node) 1 1 size)) (left - 1) (omega arith)) refl))
+
+  pub name-free : isAbsent had ≡ true → EndsInside table classes pattern bytes assigned parts node left Found
+  unfolding nameStep nextOf
+  name-free a = record {
+    some = pos-of-ne-zero some;
+    ends = λ shown all n h.
+        taken-whole shown (set shown v (boundPart node (extentOf table from) 1)) (extentOf table from) n h
+        (walk-suc table classes pattern bytes turns (startOf shown node) left (omega arith)
+        ∙ rw (← name-step shown all (Binds v (extentOf table from)) (rw a)));
+  }
+
+  module _ (a : isAbsent had ≡ false) where
+    pub name-stands : had .elements ≡ 1 → standsOf table classes bytes had from ≡ true
+        → EndsInside table classes pattern bytes assigned parts node left Found
+    unfolding nameStep assignedStep nextOf
+    name-stands one b = record {
+      some = pos-of-ne-zero some;
+      ends = λ shown all n h.
+          taken-whole shown shown (had .length) n h
+          (walk-suc table classes pattern bytes turns (startOf shown node) left (omega arith)
+          ∙ rw (← name-step shown all (Passes 1 (had .length)) (subst (λ (k : ℕ). Passes k (had .length) ≡ nameStep table classes bytes from v had 1) one
+          (rw (a, b, le-leb (had .elements) 1 (omega (arith, one)))))));
+    }
+
+    pub name-differs : standsOf table classes bytes had from ≡ false → EndsInside table classes pattern bytes assigned parts node left Failed
+    unfolding nameStep assignedStep
+    name-differs b = record {
+      some = pos-of-ne-zero some;
+      ends = λ shown all n h.
+          ap endOf (level-fails n table classes pattern bytes (startOf shown node) left h
+          (name-step shown all Fails (rw (a, b, and-false (leb (had .elements) 1)))));
+    }
+
+-- where any parts are right, those that the buffers hold are
+pub ends-inside : {table classes pattern bytes : List ℕ} {assigned : ℕ} {parts : List ℕ} {node left : ℕ} {o : Outcome}
+    → EndsAtOnce table classes pattern bytes node left o → EndsInside table classes pattern bytes assigned parts node left o
+ends-inside {left = left} {o = o} d = record {
+  some = d .some;
+  ends = λ shown all n h. ap endOf (d .ends shown n h) ∙ end-with o (left - 1) shown;
+}
+
 -- a complement whose inside ends at its first pair
 pub complement-ends : (pattern : List ℕ) (c : PutBy) (within : c .at + 1 + c .size ≤ length pattern)
     (table classes bytes : List ℕ) (assigned left : ℕ) (parts stack : List ℕ) (m : Marks) {o o′ : Outcome}
-    → EndsAtOnce table classes (taken pattern c within) bytes (c .node) left o → o′ ≡ turned o
+    → EndsInside table classes (taken pattern c within) bytes assigned parts (c .node) left o → o′ ≡ turned o
     → ComplementIs table classes pattern bytes assigned left parts stack c m o′ (left - 1) parts stack
 unfolding insideOf
 complement-ends pattern c within table classes bytes assigned left parts stack m {o} {o′} d e = record {
-  replies = λ shown h n l. let x = is shown n (omega arith) in (
+  replies = λ shown h n l. let x = is shown (h .shown) n (omega arith) in (
     e ∙ ap (λ (y : Ended). turned (y .outcome)) (sym x),
     ap (λ (y : Ended). y .left) (sym x),
   );
   kept = kept-all;
 }
   where
-    is : (shown : List Part) (n : ℕ) → 0 < n
+    is : (shown : List Part) → ((v : ℕ) → v < variables → getD shown v (part 0 0 0) ≡ partIn assigned parts v) → (n : ℕ) → 0 < n
         → endOf (levelOf n table classes bytes (take (c .size) (drop (c .at + 1) pattern)) (startOf shown (c .node)) left) ≡ record { outcome = o; left = left - 1 }
-    is shown n h =
+    is shown all n h =
         ap (λ (q : List ℕ). endOf (levelOf n table classes bytes q (startOf shown (c .node)) left)) (sym (inside-is pattern c within))
-        ∙ ap endOf (d .ends shown n h) ∙ end-with o (left - 1) shown
+        ∙ d .ends shown all n h

@@ -32,10 +32,11 @@ use Rattle.search.specs.declared.Outcome.the-variants.{Found, Failed, Sp
 use Rattle.search.specs.declared.Known.{Known}
 use Rattle.search.specs.declared.Known.the-variants.{Ended, Unknown}
 use Rattle.search.proofs.Masks.{bit-still}
-use Rattle.search.proofs.Steps.{rest-drop}
+use Rattle.skips.proofs.Passing.{rest-drop}
 use Rattle.search.proofs.Held.{kept-part}
 use Rattle.search.proofs.Kept.{kept-all, kept-then, restored, past, past-holds, given-holds}
-use Rattle.search.proofs.Levels.{lengths-tries, given-past, level-stops, failure-is}
+use Rattle.search.proofs.Tries.{lengths-tries, given-past, level-stops}
+use Rattle.search.proofs.Levels.{failure-is}
 use Rattle.search.proofs.Reporting.{met, met-fails, met-parts, walk-stays}
 
 -- The byte behind so many elements

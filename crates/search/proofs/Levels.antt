@@ -1,38 +1,42 @@
 -- The laws of the search of levels, one for each way that a turn of its loops goes.
 -- Assumes nothing.
-use Prim.Native.Nat.{ℕ, zero, suc, _+_, _-_, _*_, _^_, _<_, _≤_}
+use Prim.Native.Nat.{ℕ, suc, _+_, _-_, _*_, _^_, _<_, _≤_}
 use native.Mathlib.Omega.{arith}
 use native.Mathlib.Nat.{sub-zero, le-refl}
 use mathlib.Core.Path.{_≡_, refl, sym, ap, subst, _∙_, ap₂}
 use mathlib.Core.List.{List, [], _∷_}
-use mathlib.Core.Bool.{Bool, true, false, cond, _&&_, true≢false}
+use mathlib.Core.Bool.{Bool, true, false, _&&_, true≢false}
 use lib.Bits.{bitOr}
 use lib.ListN.{length, getD, take, drop, set, replicate, length-drop}
 use lib.Seq.{length-take-le, set-out, getD-set-same}
-use lib.Dec.{leb, eqb}
+use lib.Dec.{leb}
 use borrow.Author.Tests.{le-leb, eq-eqb, ne-eqb}
 use Rattle.term.specs.Limits.{longestRecord, longestPattern}
 use Rattle.term.specs.Code.{variables}
 use Rattle.term.specs.Extent.{extentOf}
 use Rattle.term.specs.Part.{absent, boundPart}
 use Rattle.term.specs.declared.Part.{Part}
-use Rattle.search.specs.State.{turns, PutBy, State, place, passed, walked, walkOf}
-use Rattle.search.specs.Level.{Reply, reply, failedAt, spentAt, failed, refuted, startOf, tried, lengthsOf, insideOf, complementsOf, stopBy, afterWalk, levelOf, levels, searchOf}
-use Rattle.search.specs.Inner.Memory.{marks, bit, packed, putByIn, Queued, Insides, Sized, Holds, Holding, Kept}
-use Rattle.search.specs.Inner.Bounds.{Walks}
+use Rattle.search.specs.State.{turns, PutBy, State, place, passed, walkOf}
+use Rattle.search.specs.Level.{Reply, reply, failedAt, spentAt, failed, refuted, startOf, tried, insideOf, complementsOf, levelOf, levels, searchOf}
+use Rattle.search.specs.Inner.Memory.{marks, bit, packed, partPlaces, putByIn, Queued, Insides, Sized, Holds, Holding, Kept}
 use Rattle.search.specs.Inner.Replies.{failure, found, turned, partsIn, replyOf, given, triesOf, runStart, inside, Free, Resting, Testable, LevelIs, RestIs, FollowIs, ComplementIs, ComplementsAre}
+use Rattle.search.specs.Inner.Onward.{Onward}
+use Rattle.search.specs.Inner.Skips.{behindIn, Skips, Lengthened, Lengthens}
 use Rattle.search.specs.Inner.Halts.{Reports, Told, Halts, Halting, RestBy, LevelBy, Begun, Levels}
 use Rattle.search.specs.declared.Place.{Place}
 use Rattle.search.specs.declared.Marks.{Marks}
 use Rattle.search.specs.declared.Stop.{Stop}
 use Rattle.search.specs.declared.Stop.the-variants.{Failure, NoAllowance, NoPair, RunName}
 use Rattle.search.specs.declared.Reached.{Reached}
+use Rattle.search.specs.declared.Lengthening.{Lengthening}
+use Rattle.search.specs.declared.Skipped.{Skipped}
 use Rattle.search.specs.declared.Outcome.{Outcome}
 use Rattle.search.specs.declared.Outcome.the-variants.{Found, Failed, Spent}
 use Rattle.search.proofs.Masks.{bit-new, bit-still, packed-longer, packed-below}
-use Rattle.search.proofs.Steps.{rest-drop}
 use Rattle.search.proofs.Held.{kept-part}
 use Rattle.search.proofs.Kept.{kept-all, kept-then, kept-back, restored, past, past-holds, given-holds, start-holds, first-holds, state-shown}
+use Rattle.search.proofs.Tries.{tries-last, tries-hit, tries-spent, tries-more, tries-at, lengths-tries}
+use Rattle.search.proofs.Skips.{Stays, Fair, skips-fair, skip-tries, skip-over, extent-within}
 use Rattle.search.proofs.Begins.{place-is, level-from, run-here, none-begun, run-start, kept-unassigned, run-begun}
 
 -- Replies
@@ -48,74 +52,21 @@ module _ (left assigned : ℕ) (parts : List ℕ) where
   reply-left Failed = refl
   reply-left Spent = refl
 
--- Lengths
-
-module _ (lv : State → ℕ → Reply) (table bytes : List ℕ) (v : ℕ) (s : State) where
-  tries-last : (k n size left : ℕ) → k ≡ 0 → lv (given s v n size) left ≡ triesOf lv table bytes v s k n size left
-  unfolding triesOf
-  tries-last zero n size left e = refl
-  tries-last (suc k) n size left e = absurd (omega arith)
-
-  tries-hit : (k n size left : ℕ) (r : Reply) → r ≡ lv (given s v n size) left → failed (r .outcome) ≡ false → r ≡ triesOf lv table bytes v s k n size left
-  unfolding triesOf
-  tries-hit zero n size left r e f = e
-  tries-hit (suc k) n size left r e f = rw (← e, f)
-
-  tries-spent : (k n size left : ℕ) (r : Reply) → 0 < k → r ≡ lv (given s v n size) left → failed (r .outcome) ≡ true → r .left ≡ 0
-      → spentAt (r .left) ≡ triesOf lv table bytes v s k n size left
-  unfolding triesOf
-  tries-spent zero n size left r z e f h = absurd (omega arith)
-  tries-spent (suc k) n size left r z e f h = rw (← e, f, eq-eqb (r .left) 0 h)
-
-  tries-more : (k n size left : ℕ) (r : Reply) → 0 < k → r ≡ lv (given s v n size) left → failed (r .outcome) ≡ true → (r .left ≡ 0 → ⊥)
-      → triesOf lv table bytes v s k n size left
-      ≡ triesOf lv table bytes v s (k - 1) (n + 1) (size + extentOf table (drop (s .place .node + size) bytes)) (r .left - 1)
-  unfolding triesOf
-  tries-more zero n size left r z e f h = absurd (omega arith)
-  tries-more (suc k) n size left r z e f h = let i : suc k - 1 ≡ k = omega arith in rw (← e, f, ne-eqb (r .left) 0 h, i)
-
-  pub given-past : (n size : ℕ) → given (past s) v n size ≡ tried s v n size
-  given-past n size =
-      let a : s .place .elements - 0 ≡ s .place .elements = omega arith in
-      let b : s .place .node + 0 ≡ s .place .node = omega arith in
-      rw (a, b)
-
-  -- an unassigned run name counts its first length, and then tries
-  pub lengths-tries : (k n size left : ℕ)
-      → lengthsOf lv table bytes v s k n size left ≡ cond (eqb left 0) (spentAt left) (triesOf lv table bytes v (past s) k n size (left - 1))
-  unfolding lengthsOf triesOf
-  lengths-tries zero n size left = rw (given-past n size)
-  lengths-tries (suc k) n size left =
-      let b : s .place .node + 0 + size ≡ s .place .node + size = omega arith in
-      rw (
-        given-past n size,
-        b,
-        lengths-tries k (n + 1) (size + extentOf table (drop (s .place .node + size) bytes)) (lv (tried s v n size) (left - 1) .left),
-      )
-
--- The rest of a level, by the stop of its walk
-
-pub level-stops : (n : ℕ) (table classes pattern bytes : List ℕ) (s : State) (left : ℕ) (stop : Stop) (l : ℕ) (end : State) (r : Reply)
-    → 0 < n → walkOf turns table classes pattern bytes s left ≡ walked stop l end
-    → r ≡ stopBy stop (levelOf (n - 1) table classes bytes) table pattern bytes end l
-    → r ≡ levelOf n table classes bytes pattern s left
-unfolding levelOf afterWalk
-level-stops zero table classes pattern bytes s left stop l end r h e g = absurd (omega arith)
-level-stops (suc n) table classes pattern bytes s left stop l end r h e g = let z : suc n - 1 ≡ n = omega arith in rw e (g ∙ rw z)
+-- The rest of a level, by what its pairs come to
 
 pub rest-follows : {table classes pattern bytes : List ℕ} {assigned left : ℕ} {parts stack : List ℕ} {m : Marks} {p : Place} {r : Reached}
-    {parts₁ stack₁ : List ℕ} {o : Outcome} {assigned₂ left₂ : ℕ} {parts₂ stack₂ : List ℕ}
+    {parts₁ stack₁ : List ℕ} {o : Outcome} {assigned₂ left₂ : ℕ} {parts₂ stack₂ : List ℕ} {halts : Bool}
     → Holding (length pattern) (length bytes) assigned parts stack m p
-    → Walks table classes pattern bytes assigned left parts stack m p parts₁ stack₁ r
+    → Onward halts table classes pattern bytes assigned left parts stack m p parts₁ stack₁ r
     → FollowIs table classes pattern bytes (r .assigned) (r .left) parts₁ stack₁ (r .stop) (r .marks) (r .place) o assigned₂ left₂ parts₂ stack₂
     → RestIs table classes pattern bytes assigned left parts stack m p o assigned₂ left₂ parts₂ stack₂
-rest-follows {table} {classes} {pattern} {bytes} {left = left} {r = r} {o = o} {assigned₂ = assigned₂} {left₂ = left₂} {parts₂ = parts₂} holding walks follows = record {
+rest-follows holding onward follows = record {
   replies = λ s h k l.
-      let w = walks s h in
-      level-stops k table classes pattern bytes s left (r .stop) (r .left) (w .end) (replyOf o left₂ assigned₂ parts₂) (omega arith) (w .is)
-      (follows .replies (w .end) (w .holds) (k - 1) (omega (arith, w .further, l)));
+      let w = onward .going s h in
+      let c = w .comes k l in
+      follows .replies (w .end) (w .holds) (c .within) (c .enough) ∙ sym (c .same);
   kept =
-      let w = walks (holding .state) (holding .holds) in
+      let w = onward .going (holding .state) (holding .holds) in
       kept-then (w .still) (w .more-frames) (w .more-waiting) (w .kept) (follows .kept);
 }
 
@@ -257,34 +208,98 @@ module _ (table classes pattern bytes : List ℕ) (assigned allowance : ℕ) (pa
         pub part-there : v < variables → getD parts₂ v 0 ≡ packed (boundPart (start .node) size n)
         part-there low = rest .kept .of-parts v low (rw (q .is-seen) (bit-new assigned v)) ∙ t .written low
 
-        pub try-more : failed o ≡ true → n < most → v < variables → (left₂ ≡ 0 → ⊥) → (p′ : Place) (e x : ℕ)
-            → e ≡ extentOf table (take (length bytes - p .node) (drop (p .node) bytes))
-            → p′ .children ≡ p .children → p′ .elements ≡ p .elements - 1 → p′ .at ≡ p .at → p′ .node ≡ p .node + e → p .node + e ≤ length bytes
-            → x ≡ getD parts₂ v 0 + 65536 * e + 4294967296
-            → Trying (left₂ - 1) (set parts₂ v x) stack₂ p′ (n + 1)
-        try-more f i low z p′ e x is-e a b c d w is-x = record {
-          few = omega arith;
-          children = a ∙ t .children;
-          elements = omega (arith, b, t .elements);
-          at = c ∙ t .at;
-          further = omega (arith, d, t .further);
-          within = omega (arith, d, w);
-          kept = kept-part assigned assigned m m parts₀ stack₀ parts₂ stack₂ turn-kept (λ i b. b) v x (q .free .free);
-          written = λ l.
-              getD-set-same parts₂ v x 0 (omega (arith, low, turn-kept .sized (q .holding .holds .sized) .of-parts))
-              ∙ is-x ∙ ap (λ (y : ℕ). y + 65536 * e + 4294967296) (part-there low)
-              ∙ packed-longer (start .node) size e n (p′ .node - start .node) (omega (arith, d, t .further)) (omega (arith, d, w, q .short));
-          least = omega (arith, t .least);
-          fresh = λ y. absurd (omega (arith, t .least, y));
-          same = λ s h k l.
-              let j : most - n - 1 ≡ most - (n + 1) = omega arith in
-              let g : s .place .node + size ≡ p .node = omega (arith, ap (λ (x : Place). x .node) (h .place), t .further) in
-              let y : p′ .node - start .node ≡ size + e = omega (arith, d, t .further) in
-              t .same s h k l
-              ∙ tries-more (levelOf k table classes bytes pattern) table bytes v s (most - n) n size left
-              answer (omega arith) (turn-is s h k l) (fails f) (λ (y : answer .left ≡ 0). z (sym (reply-left left₂ assigned₂ parts₂ o) ∙ y))
-              ∙ rw (reply-left left₂ assigned₂ parts₂ o, j, g, y, is-e, rest-drop (p .node) bytes);
-        }
+        abbrev levels-of : ℕ → State → ℕ → Reply
+        levels-of k = levelOf k table classes bytes pattern
+
+        pub try-sized : length parts₂ ≡ partPlaces
+        try-sized = turn-kept .sized (q .holding .holds .sized) .of-parts
+
+        -- another length is tried, behind those that are passed over
+        module _ (f : failed o ≡ true) (i : n < most) (all : most ≡ start .elements) (low : v < variables) (z : left₂ ≡ 0 → ⊥) {parts₃ : List ℕ}
+            {r : Lengthening} (l : Lengthens table classes pattern bytes assigned parts₂ v p (left₂ - 1) parts₃ r) where
+          abbrev one : ℕ
+          one = extentOf table (drop (p .node) bytes)
+
+          abbrev more-of : ℕ
+          more-of = l .further .lengths
+
+          fair : Fair (behindIn p 1 (p .node + one)) (left₂ - 1) (length bytes) (l .further)
+          fair = skips-fair (l .skips)
+
+          stays : (s : State) → Starts s → Stays assigned parts₂ v s
+          stays s h =
+              let held = restored turn-kept h in
+              record { free = q .free .free; shown = λ w j b. held .shown w j; present = held .present }
+
+          place-one : (s : State) → Starts s → behindIn p 1 (p .node + one) ≡ given s v (n + 1) (size + one) .place
+          place-one s h =
+              place-is (behindIn p 1 (p .node + one)) (given s v (n + 1) (size + one) .place)
+              (t .children ∙ sym (ap (λ (y : Place). y .children) (h .place)))
+              (omega (arith, t .elements, ap (λ (y : Place). y .elements) (h .place)))
+              (t .at ∙ sym (ap (λ (y : Place). y .at) (h .place)))
+              (omega (arith, t .further, ap (λ (y : Place). y .node) (h .place)))
+
+          here : (s : State) → Starts s → Skips table classes pattern bytes assigned parts₂ (given s v (n + 1) (size + one) .place) (left₂ - 1) (l .further)
+          here s h =
+              subst (λ (y : Place). Skips table classes pattern bytes assigned parts₂ y (left₂ - 1) (l .further)) (place-one s h) (l .skips)
+
+          same-one : (s : State) → Starts s → (k : ℕ) → levels pattern (start .at) ≤ k
+              → triesFrom k s (most - first) first behind allowance ≡ triesFrom k s (s .place .elements - (n + 1)) (n + 1) (size + one) (left₂ - 1)
+          same-one s h k e =
+              let j : most - n - 1 ≡ s .place .elements - (n + 1) = omega (arith, all, ap (λ (y : Place). y .elements) (h .place)) in
+              let g : s .place .node + size ≡ p .node = omega (arith, ap (λ (y : Place). y .node) (h .place), t .further) in
+              t .same s h k e
+              ∙ tries-more (levels-of k) table bytes v s (most - n) n size left
+              answer (omega arith) (turn-is s h k e) (fails f) (λ (y : answer .left ≡ 0). z (sym (reply-left left₂ assigned₂ parts₂ o) ∙ y))
+              ∙ rw (reply-left left₂ assigned₂ parts₂ o, j, g)
+
+          many : (s : State) → Starts s → n + 1 ≤ s .place .elements
+          many s h = omega (arith, i, all, ap (λ (y : Place). y .elements) (h .place))
+
+          pub lengthened-kept : Kept assigned m parts₀ stack₀ parts₃ stack₂
+          lengthened-kept =
+              subst (λ (y : List ℕ). Kept assigned m parts₀ stack₀ y stack₂) (sym (l .written))
+              (kept-part assigned assigned m m parts₀ stack₀ parts₂ stack₂ turn-kept (λ i b. b) v _ (q .free .free))
+
+          pub try-lengthens : Trying (r .left) parts₃ stack₂ (r .place) (n + 1 + more-of)
+          try-lengthens =
+              let elements = ap (λ (y : Place). y .elements) (l .place) in
+              let node = ap (λ (y : Place). y .node) (l .place) in
+              record {
+                few = omega (arith, fair .few, t .elements, all, i);
+                children = ap (λ (y : Place). y .children) (l .place) ∙ t .children;
+                elements = omega (arith, elements, t .elements);
+                at = ap (λ (y : Place). y .at) (l .place) ∙ t .at;
+                further = omega (arith, node, fair .further, t .further);
+                within = omega (arith, node, fair .within (extent-within table bytes (p .node) (t .within)));
+                kept = lengthened-kept;
+                least = omega (arith, t .least);
+                fresh = λ y. absurd (omega (arith, t .least, y));
+                written = λ j.
+                    ap (λ (y : List ℕ). getD y v 0) (l .written)
+                    ∙ getD-set-same parts₂ v _ 0 (omega (arith, low, try-sized))
+                    ∙ ap (λ (y : ℕ). y + 65536 * (l .further .node - p .node) + 4294967296 * (1 + more-of)) (part-there low)
+                    ∙ packed-longer (start .node) size (l .further .node - p .node) n (1 + more-of) (n + 1 + more-of) (r .place .node - start .node)
+                    (omega arith) (omega (arith, node, t .further, fair .further))
+                    (omega (arith, node, fair .within (extent-within table bytes (p .node) (t .within)), q .short));
+                same = λ s h k e.
+                    same-one s h k e
+                    ∙ skip-tries table classes pattern bytes assigned parts₂ v s k (omega arith) (stays s h) (n + 1) (size + one) (left₂ - 1) (many s h) (here s h)
+                    ∙ tries-at (levels-of k) table bytes v s
+                    (omega (arith, all, ap (λ (y : Place). y .elements) (h .place))) refl
+                    (omega (arith, node, fair .further, t .further, ap (λ (y : Place). y .node) (h .place))) (sym (l .paid));
+              }
+
+          pub try-over : r .over ≡ true
+              → LevelIs table classes pattern bytes assigned allowance parts₀ stack₀ v first behind most m start Failed assigned₂ (r .left) parts₃ stack₂
+          try-over e = record {
+            replies = λ s h k j.
+                ap failedAt (l .paid)
+                ∙ sym (same-one s h k j
+                ∙ skip-over table classes pattern bytes assigned parts₂ v s k (omega arith) (stays s h) (n + 1) (size + one) (left₂ - 1) (many s h) (here s h)
+                (sym (l .over) ∙ e));
+            kept = lengthened-kept;
+          }
 
       -- and where the level halts
       module _ {o : Outcome} {assigned₂ left₂ : ℕ} {parts₂ stack₂ : List ℕ} where
@@ -337,6 +352,12 @@ module _ (table classes pattern bytes : List ℕ) (assigned allowance : ℕ) (pa
 
         pub try-spent-by : failed o ≡ true → n < most → left₂ ≡ 0 → repliedBy Spent
         try-spent-by f i z = record { halted = λ h. absurd (omega (arith, a .none h .2, i)); going = λ h. try-spent (rest .going h) f i z }
+
+        -- none is left that can hold
+        pub over-by : n < most → {o′ : Outcome} {left₃ : ℕ} {parts₃ : List ℕ}
+            → LevelIs table classes pattern bytes assigned allowance parts₀ stack₀ v first behind most m start o′ assigned₂ left₃ parts₃ stack₂
+            → LevelBy halts table classes pattern bytes assigned allowance parts₀ stack₀ v first behind most m start o′ assigned₂ left₃ parts₃ stack₂
+        over-by i r = record { halted = λ h. absurd (omega (arith, a .none h .2, i)); going = λ h. r }
 
         -- another length is tried only where it does not halt
         pub rest-free : n < most → RestIs table classes pattern bytes seen left parts stack m p o assigned₂ left₂ parts₂ stack₂
@@ -414,24 +435,37 @@ module _ (table classes pattern bytes : List ℕ) (assigned allowance : ℕ) (pa
       named : (b : Begins) → least < p .elements → v < variables
       named b e = b .named (omega (arith, turns .turn b .trying .least, more b e))
 
-      -- its part has room for one element more
-      pub turn-room : Begins → least < p .elements → getD parts₂ v 0 < 2 ^ 48
-      turn-room b e =
-          packed-below _ _ _ _ (omega (arith, turns .turn b .trying .few, b .few))
-          (part-there _ _ _ _ _ _ _ _ _ _ _ _ _ _ (turns .turn b .trying) (marked b) (going b e) (named b e))
-
-      pub turn-more : failed o ≡ true → least < p .elements → (left₂ ≡ 0 → ⊥) → (p′ : Place) (e x : ℕ)
-          → e ≡ extentOf table (take (length bytes - p .node) (drop (p .node) bytes))
-          → p′ .children ≡ p .children → p′ .elements ≡ p .elements - 1 → p′ .at ≡ p .at → p′ .node ≡ p .node + e → p .node + e ≤ length bytes
-          → x ≡ getD parts₂ v 0 + 65536 * e + 4294967296
-          → Turns (left₂ - 1) (set parts₂ v x) stack₂ p′
-      turn-more f i z p′ e x is-e a c d g w is-x = record {
-        turn = λ b. record {
-          n = turns .turn b .n + 1;
-          trying =
-              try-more _ _ _ _ _ _ _ _ _ _ _ _ _ _ (turns .turn b .trying) (marked b) (going b i) f (more b i) (named b i) z p′ e x is-e a c d g w is-x;
-        };
+      -- its part can be lengthened
+      pub turn-room : Begins → least < p .elements → Lengthened (length bytes) parts₂ v p
+      turn-room b e = record {
+        variable = named b e;
+        sized = try-sized _ _ _ _ _ _ _ _ _ _ _ _ _ _ (turns .turn b .trying) (marked b) (going b e);
+        room = packed-below _ _ _ _ (omega (arith, turns .turn b .trying .few, b .few))
+            (part-there _ _ _ _ _ _ _ _ _ _ _ _ _ _ (turns .turn b .trying) (marked b) (going b e) (named b e));
+        element = omega (arith, e);
+        within = turns .turn b .trying .within;
+        short = short;
       }
+
+      module _ (f : failed o ≡ true) (i : least < p .elements) (z : left₂ ≡ 0 → ⊥) {parts₃ : List ℕ} {r : Lengthening}
+          (l : Lengthens table classes pattern bytes assigned parts₂ v p (left₂ - 1) parts₃ r) where
+        whole : (b : Begins) → b .most ≡ runStart (b .first) (b .from) p₀ .elements
+        whole b = omega (arith, b .last, b .all (named b i))
+
+        pub turn-more : Turns (r .left) parts₃ stack₂ (r .place)
+        turn-more = record {
+          turn = λ b. record {
+            n = turns .turn b .n + 1 + l .further .lengths;
+            trying = try-lengthens _ _ _ _ _ _ _ _ _ _ _ _ _ _ (turns .turn b .trying) (marked b) (going b i) f (more b i) (whole b) (named b i) z l;
+          };
+        }
+
+        pub turn-over : r .over ≡ true
+            → Levels table classes pattern bytes assigned allowance parts₀ stack₀ v halts least m p₀ Failed assigned₂ (r .left) parts₃ stack₂
+        turn-over e = record {
+          from = λ b. over-by _ _ _ _ _ _ _ _ _ _ _ _ _ _ (turns .turn b .trying) (marked b) (b .halting) rest (more b i)
+              (try-over _ _ _ _ _ _ _ _ _ _ _ _ _ _ (turns .turn b .trying) (marked b) (going b i) f (more b i) (whole b) (named b i) z l e);
+        }
 
 -- What a level that starts does
 
@@ -484,6 +518,46 @@ level-run {table} {classes} {pattern} {bytes} {assigned} {left} {parts} {stack} 
       kept = kept-then {m₁ = m} (λ i b. b) (le-refl (m .frames)) (le-refl (m .waiting)) (kept-unassigned v x free) (here .kept);
     }
 
+-- Lengths that are passed over before the level
+
+module _ {table classes pattern bytes : List ℕ} {assigned left : ℕ} {parts stack : List ℕ} {m : Marks} {q q₀ : Place} (v most : ℕ)
+    (free : bit assigned v ≡ false) {r : Skipped} (skips : Skips table classes pattern bytes assigned parts q₀ left r) (is-q : q₀ ≡ q)
+    (all : most ≡ q .elements) where
+  at-first : (s : State) → Holds (length pattern) (length bytes) assigned parts stack m q s
+      → Skips table classes pattern bytes assigned parts (given s v 0 0 .place) left r
+  at-first s h =
+      let e : q₀ ≡ given s v 0 0 .place =
+      is-q ∙ sym (h .place) ∙ place-is (s .place) (given s v 0 0 .place) refl (omega arith) refl (omega arith) in
+      subst (λ (y : Place). Skips table classes pattern bytes assigned parts y left r) e skips
+
+  own : (s : State) → Holds (length pattern) (length bytes) assigned parts stack m q s → Stays assigned parts v s
+  own s h = record { free = λ l. free; shown = λ w j b. h .shown w j; present = h .present }
+
+  every : (s : State) → Holds (length pattern) (length bytes) assigned parts stack m q s → most - 0 ≡ s .place .elements - 0
+  every s h = omega (arith, all, ap (λ (y : Place). y .elements) (h .place))
+
+  pub level-skipped : (size : ℕ) → q .node + size ≡ r .node → {o : Outcome} {assigned′ left′ : ℕ} {parts′ stack′ : List ℕ}
+      → LevelIs table classes pattern bytes assigned (left - 2 * r .lengths) parts stack v (r .lengths) size most m q o assigned′ left′ parts′ stack′
+      → LevelIs table classes pattern bytes assigned left parts stack v 0 0 most m q o assigned′ left′ parts′ stack′
+  level-skipped size is-size x = record {
+    replies = λ s h k l.
+        x .replies s h k l
+        ∙ sym (tries-at (levelOf k table classes bytes pattern) table bytes v s (every s h) refl refl refl
+        ∙ skip-tries table classes pattern bytes assigned parts v s k (omega arith) (own s h) 0 0 left (omega arith) (at-first s h)
+        ∙ tries-at (levelOf k table classes bytes pattern) table bytes v s (omega (arith, every s h)) (omega arith)
+        (omega (arith, is-size, ap (λ (y : Place). y .node) (h .place))) refl);
+    kept = x .kept;
+  }
+
+  pub level-over : r .over ≡ true
+      → LevelIs table classes pattern bytes assigned left parts stack v 0 0 most m q Failed assigned (left - 2 * r .lengths) parts stack
+  level-over e = record {
+    replies = λ s h k l.
+        sym (tries-at (levelOf k table classes bytes pattern) table bytes v s (every s h) refl refl refl
+        ∙ skip-over table classes pattern bytes assigned parts v s k (omega arith) (own s h) 0 0 left (omega arith) (at-first s h) e);
+    kept = kept-all;
+  }
+
 -- What follows the walk
 
 module _ (table classes pattern bytes : List ℕ) (assigned left : ℕ) (parts stack : List ℕ) (m : Marks) (p : Place) where
@@ -529,30 +603,30 @@ failure-is NoPair e = absurd (true≢false (sym e))
 failure-is (RunName v) e = absurd (true≢false (sym e))
 
 pub rest-fails : {table classes pattern bytes : List ℕ} {assigned left : ℕ} {parts stack : List ℕ} {m : Marks} {p : Place} {r : Reached}
-    {parts₁ stack₁ : List ℕ} → Holding (length pattern) (length bytes) assigned parts stack m p
-    → Walks table classes pattern bytes assigned left parts stack m p parts₁ stack₁ r → failure (r .stop) ≡ true
+    {parts₁ stack₁ : List ℕ} {halts : Bool} → Holding (length pattern) (length bytes) assigned parts stack m p
+    → Onward halts table classes pattern bytes assigned left parts stack m p parts₁ stack₁ r → failure (r .stop) ≡ true
     → RestIs table classes pattern bytes assigned left parts stack m p Failed assigned (r .left) parts₁ stack₁
-rest-fails {table} {classes} {pattern} {bytes} {r = r} {parts₁ = parts₁} {stack₁ = stack₁} holding walks e =
+rest-fails {table} {classes} {pattern} {bytes} {r = r} {parts₁ = parts₁} {stack₁ = stack₁} holding onward e =
     let x =
-    rest-follows holding walks
+    rest-follows holding onward
     (follow-fails table classes pattern bytes (r .assigned) (r .left) parts₁ stack₁ (r .marks) (r .place) (r .stop) (failure-is (r .stop) e)) in
     record { replies = x .replies; kept = x .kept }
 
 -- a level that halts, or does not
 
 module _ (halts : Bool) {table classes pattern bytes : List ℕ} {assigned left : ℕ} {parts stack : List ℕ} {m : Marks} {p : Place} {r : Reached}
-    {parts₁ stack₁ : List ℕ} (walks : Walks table classes pattern bytes assigned left parts stack m p parts₁ stack₁ r) where
+    {parts₁ stack₁ : List ℕ} (onward : Onward halts table classes pattern bytes assigned left parts stack m p parts₁ stack₁ r) where
   pub rest-fails-by : Holding (length pattern) (length bytes) assigned parts stack m p → failure (r .stop) ≡ true
       → RestBy halts table classes pattern bytes assigned left parts stack m p Failed assigned (r .left) parts₁ stack₁
   rest-fails-by holding e = record {
     halted = λ h. record {
       reached = r;
       parts₁ = parts₁;
-      walks = walks;
+      walks = onward .halted h;
       same-left = refl;
       told = subst (λ (b : Bool). Told b r parts₁ Failed assigned parts₁) (sym e) (refl, refl);
     };
-    going = λ h. rest-fails holding walks e;
+    going = λ h. rest-fails holding onward e;
   }
 
   pub rest-reports : halts ≡ true → failure (r .stop) ≡ false → {o : Outcome} {parts₂ : List ℕ}
@@ -562,7 +636,7 @@ module _ (halts : Bool) {table classes pattern bytes : List ℕ} {assigned left 
     halted = λ h. record {
       reached = r;
       parts₁ = parts₁;
-      walks = walks;
+      walks = onward .halted h;
       same-left = refl;
       told = subst (λ (b : Bool). Told b r parts₁ o (r .assigned) parts₂) (sym e) (refl, reports);
     };
@@ -575,7 +649,7 @@ module _ (halts : Bool) {table classes pattern bytes : List ℕ} {assigned left 
       → RestBy halts table classes pattern bytes assigned left parts stack m p o assigned₂ left₂ parts₂ stack₂
   rest-follows-by is-false holding follows = record {
     halted = λ h. absurd (true≢false (sym h ∙ is-false));
-    going = λ h. rest-follows holding walks follows;
+    going = λ h. rest-follows holding onward follows;
   }
 
 -- Complements

@@ -7,6 +7,9 @@ pub mod Held
 pub mod Walks
 pub mod Kept
 pub mod Begins
+pub mod Tries
+pub mod Skips
+pub mod Onwards
 pub mod Levels
 pub mod FirstPairs
 pub mod Reporting

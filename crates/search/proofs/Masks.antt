@@ -139,15 +139,15 @@ part-back offset size n h = by (offset % 65536) (size % 65536) (omega arith) (om
         let z : n % 256 ≡ n = omega arith in
         rw (x, q, y, d, z)
 
--- one element more, of so many bytes
-pub packed-longer : (offset size e n size′ : ℕ) → size′ ≡ size + e → size′ < 65536
-    → packed (boundPart offset size n) + 65536 * e + 4294967296 ≡ packed (boundPart offset size′ (n + 1))
-packed-longer offset size e n size′ h i =
+-- more elements, of so many bytes
+pub packed-longer : (offset size e n more n′ size′ : ℕ) → n′ ≡ n + more → size′ ≡ size + e → size′ < 65536
+    → packed (boundPart offset size n) + 65536 * e + 4294967296 * more ≡ packed (boundPart offset size′ n′)
+packed-longer offset size e n more n′ size′ g h i =
     let x : size % 65536 ≡ size = omega arith in
     let y : size′ % 65536 ≡ size + e = omega arith in
     by (offset % 65536) (size % 65536) (size′ % 65536) (y ∙ ap (λ (k : ℕ). k + e) (sym x))
   where
-    by : (o l l′ : ℕ) → l′ ≡ l + e → o + 65536 * l + 4294967296 * n + 65536 * e + 4294967296 ≡ o + 65536 * l′ + 4294967296 * (n + 1)
+    by : (o l l′ : ℕ) → l′ ≡ l + e → o + 65536 * l + 4294967296 * n + 65536 * e + 4294967296 * more ≡ o + 65536 * l′ + 4294967296 * n′
     by o l l′ j = omega arith
 
 pub packed-below : (offset size n x : ℕ) → n < 256 → x ≡ packed (boundPart offset size n) → x < 2 ^ 48

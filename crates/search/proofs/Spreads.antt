@@ -15,7 +15,7 @@ use Rattle.term.specs.Extent.{entryOf, spanOf, extentOf}
 use Rattle.term.specs.declared.Code.{Code}
 use Rattle.term.specs.declared.Code.the-variants.{Symbol, Name, Run, Complement}
 use Rattle.search.specs.Inner.Memory.{bit}
-use Rattle.search.proofs.Steps.{rest-drop}
+use Rattle.skips.proofs.Passing.{rest-drop}
 use Rattle.search.specs.Spread.{pastBy, pastOf, runHere, runsFrom, unseen, freeIn, spreadTo}
 use Rattle.search.specs.Inner.GivenReplies.{SpreadIs}
 

@@ -1,14 +1,13 @@
 -- The laws of one turn: the cases of a step, and what a step asks for.
 -- Assumes nothing.
 use Prim.Native.Nat.{ℕ, _-_, _<_, _≤_}
-use native.Mathlib.Nat.{le-of-eq}
 use mathlib.Core.Bool.{Bool, true, false, _&&_}
 use mathlib.Core.List.{List}
-use mathlib.Core.Path.{_≡_, ap, _∙_}
+use mathlib.Core.Path.{_≡_, _∙_}
 use lib.Dec.{leb, eqb}
-use lib.ListN.{length, getD, drop, take, length-drop}
-use lib.Seq.{take-all}
+use lib.ListN.{length, getD, drop, take}
 use borrow.Author.Tests.{lt-ltb, le-leb, lt-leb, eq-eqb, ne-eqb}
+use Rattle.skips.proofs.Passing.{rest-drop}
 use Rattle.term.specs.Same.{sameByte}
 use Rattle.term.specs.Code.{decodeOf}
 use Rattle.term.specs.Extent.{entryOf}
@@ -18,13 +17,6 @@ use Rattle.search.specs.State.{symbolStep, pairStep, plainStep, codeStep
 use Rattle.search.specs.declared.Place.{Place}
 use Rattle.search.specs.declared.Step.the-variants.{Fails, Opens, Passes}
 use Rattle.search.specs.declared.Step.{Step}
-
--- a part that starts in the middle of a list, as the code takes it
-pub rest-drop : (a : ℕ) (l : List ℕ) → take (length l - a) (drop a l) ≡ drop a l
-rest-drop a l = take-all (length l - a) (drop a l) (le-of-eq (length-drop a l))
-
-pub rest-length : (a : ℕ) (l : List ℕ) → length (take (length l - a) (drop a l)) ≡ length l - a
-rest-length a l = ap length (rest-drop a l) ∙ length-drop a l
 
 -- the cases of a step
 

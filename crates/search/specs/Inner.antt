@@ -2,5 +2,7 @@
 pub mod Memory
 pub mod Bounds
 pub mod Replies
+pub mod Onward
+pub mod Skips
 pub mod Halts
 pub mod GivenReplies

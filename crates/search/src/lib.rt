@@ -1,4 +1,7 @@
 // The search of one pattern on one record, on their bytes: found, failed or spent, the allowance left, and what each name is assigned.
+use skips::affordable;
+use skips::extents;
+use skips::seek;
 use term::Code;
 use term::LIST;
 use term::LONGEST_PATTERN;
@@ -19,6 +22,7 @@ ghost use Prim.Native.Nat.{_+_, _-_, _*_, _/_, _%_, _^_, _≤_, _<_};
 ghost use lib.ListN.{length, drop, replicate, set};
 ghost use lib.Bits.{bitOr};
 ghost use lib.Dec.{eqb};
+ghost use Rattle.term.specs.Moment.{old, new};
 ghost use Rattle.term.specs.Code.{variables, VariableBelow};
 ghost use Rattle.term.specs.Limits.{longestRecord, longestPattern};
 ghost use Rattle.term.specs.Part.{absent, boundPart};
@@ -31,7 +35,9 @@ ghost use Rattle.search.specs.Following.{nextPass, followedOf, shownPass
 ghost use Rattle.search.specs.Inner.GivenReplies.{resuming, resumedAs, leftBy, FurtherIs, GivenFollows, GivenIs, SpreadIs};
 ghost use Rattle.search.specs.Inner.Bounds.{Short, Ready, Walks, StopsAt, Unassigned, reached};
 ghost use Rattle.search.specs.Shown.{answerWidth, numbers, shownBy, shownIn};
-ghost use Rattle.search.specs.Inner.Replies.{failure, found, turned, partsIn, setEntry, inside, Resting, Testable, Decides, RestIs, FollowIs, ComplementIs, ComplementsAre};
+ghost use Rattle.search.specs.Inner.Replies.{failure, found, turned, partsIn, setEntry, inside, Resting, Testable, Decides, DecidesInside, RestIs, FollowIs, ComplementIs, ComplementsAre};
+ghost use Rattle.search.specs.Inner.Onward.{Onward};
+ghost use Rattle.search.specs.Inner.Skips.{skipped, behindIn, SkipsTo, Skips, Lengthened, Lengthens};
 ghost use Rattle.search.specs.Inner.Halts.{haltedAs, runOf, stopIn, reportedBy, Reports, RestBy, Begun, Levels, PairsAre};
 
 // The numbers that a variable is shown with: offset, length and number of terms.
@@ -43,8 +49,11 @@ pub const ANSWER_WIDTH: usize = ENTRY_WIDTH * VARIABLES;
 // No node has more elements.
 const MOST_ELEMENTS: u8 = 255;
 
+// No code of a pattern: the next child pattern tells nothing of the elements that it can hold of.
+const ANYTHING: u8 = 255;
+
 // A part for each variable, and three for where a level halts.
-const PARTS: usize = VARIABLES + 3;
+pub const PARTS: usize = VARIABLES + 3;
 
 // A place in the stack for each byte of the longest pattern.
 const STACK: usize = LONGEST_PATTERN;
@@ -172,18 +181,18 @@ fn also(assigned: u64, v: usize) -> u64
 }
 
 // A part as one number, and back.
-fn packed(p: Part) -> u64
+pub fn packed(p: Part) -> u64
     ensures { λ r. ⌜ r ≡ packed p ⌝ }
 {
     p.offset as u64 + 65536 * p.length as u64 + 4294967296 * p.elements as u64
 }
 
-// With one element more, of so many bytes.
-fn longer(x: u64, size: usize) -> u64
+// With n elements more, of so many bytes.
+fn longer(x: u64, n: u8, size: usize) -> u64
     requires { ⌜ (x < 2 ^ 48) × (size ≤ longestRecord) ⌝ }
-    ensures { λ r. ⌜ r ≡ x + 65536 * size + 4294967296 ⌝ }
+    ensures { λ r. ⌜ r ≡ x + 65536 * size + 4294967296 * n ⌝ }
 {
-    x + 65536 * size as u64 + 4294967296
+    x + 65536 * size as u64 + 4294967296 * n as u64
 }
 
 fn unpacked(x: u64) -> Part
@@ -199,7 +208,7 @@ fn unpacked(x: u64) -> Part
 // What the variable v is assigned.
 fn part_of(parts: &[u64; PARTS], assigned: u64, v: u8) -> Part
     requires { ⌜ v < variables ⌝ }
-    ensures { λ r. ⌜ r ≡ partIn assigned (now (parts .entry)) v ⌝ }
+    ensures { λ r. ⌜ r ≡ partIn assigned (old parts) v ⌝ }
 {
     if is_assigned(assigned, v) {
         let i = wide(v);
@@ -210,7 +219,7 @@ fn part_of(parts: &[u64; PARTS], assigned: u64, v: u8) -> Part
 
 // Whether the bytes of a part stand at the start of r.
 fn stands(table: &[u8], classes: &[u8], record: &[u8], part: Part, r: &[u8]) -> bool
-    ensures { λ x. ⌜ x ≡ standsOf (now (table .entry)) (now (classes .entry)) (now («record» .entry)) part (now (r .entry)) ⌝ }
+    ensures { λ x. ⌜ x ≡ standsOf (old table) (old classes) (old «record») part (old r) ⌝ }
 {
     let n = part.length as usize;
     if r.len() < n {
@@ -235,7 +244,7 @@ fn over(alone: bool, elements: u8) -> Step
 // A symbol: its children are entered. Pattern and record start at the pair in q and r.
 fn symbol(table: &[u8], classes: &[u8], q: &[u8], r: &[u8], b: u8) -> Step
     requires { ⌜ 0 < length (now r) ⌝ }
-    ensures { λ x. ⌜ x ≡ symbolStep (now (table .entry)) (now (classes .entry)) (now (q .entry)) (now (r .entry)) b ⌝ }
+    ensures { λ x. ⌜ x ≡ symbolStep (old table) (old classes) (old q) (old r) b ⌝ }
 {
     if !same_symbol(classes, b, r[0]) {
         return Step::Fails;
@@ -265,7 +274,7 @@ fn assigned_step(
     r: &[u8],
     elements: u8,
 ) -> Step
-    ensures { λ x. ⌜ x ≡ assignedStep (now (table .entry)) (now (classes .entry)) (now («record» .entry)) part (now (r .entry)) elements ⌝ }
+    ensures { λ x. ⌜ x ≡ assignedStep (old table) (old classes) (old «record») part (old r) elements ⌝ }
 {
     if elements < part.elements {
         return Step::Fails;
@@ -286,7 +295,7 @@ fn name(
     part: Part,
     elements: u8,
 ) -> Step
-    ensures { λ x. ⌜ x ≡ nameStep (now (table .entry)) (now (classes .entry)) (now («record» .entry)) (now (r .entry)) v part elements ⌝ }
+    ensures { λ x. ⌜ x ≡ nameStep (old table) (old classes) (old «record») (old r) v part elements ⌝ }
 {
     if part.is_absent() {
         return Step::Binds(v, extent(table, r));
@@ -305,7 +314,7 @@ fn run_name(
     elements: u8,
     left: u32,
 ) -> Step
-    ensures { λ x. ⌜ x ≡ runStep (now (table .entry)) (now (classes .entry)) (now («record» .entry)) v part (now (r .entry)) elements left ⌝ }
+    ensures { λ x. ⌜ x ≡ runStep (old table) (old classes) (old «record») v part (old r) elements left ⌝ }
 {
     if part.is_absent() {
         return Step::Stops(Stop::RunName(v));
@@ -318,7 +327,7 @@ fn run_name(
 
 // A complement is put by. The last child pattern of a level is all that is left of it, and where its node ends does not matter.
 fn complement_step(table: &[u8], q: &[u8], r: &[u8], inner: usize, children: u8) -> Step
-    ensures { λ x. ⌜ x ≡ complementStep (eqb inner 0 && eqb children 1) (now (table .entry)) (now (q .entry)) (now (r .entry)) ⌝ }
+    ensures { λ x. ⌜ x ≡ complementStep (eqb inner 0 && eqb children 1) (old table) (old q) (old r) ⌝ }
 {
     if inner == 0 {
         if children == 1 {
@@ -343,7 +352,7 @@ fn pair(
     elements: u8,
 ) -> Step
     requires { ⌜ VariableBelow code × (0 < length (now r)) ⌝ }
-    ensures { λ x. ⌜ x ≡ pairStep (eqb inner 0 && eqb children 1) code (now (table .entry)) (now (classes .entry)) (now («record» .entry)) (now (q .entry)) (now (r .entry)) (partIn assigned (now (parts .entry)) (variableOf code)) elements ⌝ }
+    ensures { λ x. ⌜ x ≡ pairStep (eqb inner 0 && eqb children 1) code (old table) (old classes) (old «record») (old q) (old r) (partIn assigned (old parts) (variableOf code)) elements ⌝ }
 {
     match code {
         Code::Symbol(b) => symbol(table, classes, q, r, b),
@@ -376,7 +385,7 @@ fn plain(
     left: u32,
 ) -> Step
     requires { ⌜ VariableBelow code × (place .at ≤ length (now pattern)) ⌝ }
-    ensures { λ x. ⌜ x ≡ plainStep (eqb inner 0) code (now (table .entry)) (now (classes .entry)) (now (pattern .entry)) (now («record» .entry)) (partIn assigned (now (parts .entry)) (variableOf code)) place left ⌝ }
+    ensures { λ x. ⌜ x ≡ plainStep (eqb inner 0) code (old table) (old classes) (old pattern) (old «record») (partIn assigned (old parts) (variableOf code)) place left ⌝ }
 {
     let at = place.at;
     let node = place.node;
@@ -417,7 +426,7 @@ fn step_of(
     left: u32,
 ) -> Step
     requires { ⌜ place .node ≤ length (now «record») ⌝ }
-    ensures { λ x. ⌜ x ≡ stepOf (eqb (marks .inner) 0) (now (table .entry)) (now (classes .entry)) (now (pattern .entry)) (now («record» .entry)) (partIn assigned (now (parts .entry)) (variableAt (now (pattern .entry)) (place .at))) place left ⌝ }
+    ensures { λ x. ⌜ x ≡ stepOf (eqb (marks .inner) 0) (old table) (old classes) (old pattern) (old «record») (partIn assigned (old parts) (variableAt (old pattern) (place .at))) place left ⌝ }
 {
     if place.children == 0 {
         return over(marks.inner == 0, place.elements);
@@ -556,7 +565,7 @@ impl Marks {
 // The node that is open here goes on the stack; one more node is open.
 fn push_frame(stack: &mut [u32; STACK], marks: Marks, place: Place) -> Marks
     requires { ⌜ (0 < place .children) × (0 < place .elements) × (marks .inner ≤ stackPlaces) × (marks .frames < stackPlaces) ⌝ }
-    ensures { λ r. ⌜ FramePushed marks place (now (stack .entry)) (now (stack .exit)) r ⌝ }
+    ensures { λ r. ⌜ FramePushed marks place (old stack) (new stack) r ⌝ }
 {
     let i = marks.frames;
     stack[i] = place.frame(marks.inner);
@@ -566,20 +575,27 @@ fn push_frame(stack: &mut [u32; STACK], marks: Marks, place: Place) -> Marks
 // The complement here, of so many bytes, goes on the stack; one more is put by.
 fn push_complement(stack: &mut [u32; STACK], marks: Marks, place: Place, codes: usize) -> Marks
     requires { ⌜ (0 < codes) × (place .at + codes ≤ longestPattern) × (place .node ≤ longestRecord) × (marks .waiting < stackPlaces) ⌝ }
-    ensures { λ r. ⌜ ComplementPushed marks place codes (now (stack .entry)) (now (stack .exit)) r ⌝ }
+    ensures { λ r. ⌜ ComplementPushed marks place codes (old stack) (new stack) r ⌝ }
 {
     let i = marks.waiting;
     stack[LAST - i] = place.complement(codes);
     marks.put_by()
 }
 
-// The variable v takes the node of so many bytes.
-fn bind(parts: &mut [u64; PARTS], assigned: u64, v: u8, node: usize, size: usize) -> u64
+// The variable v takes the elements of so many bytes.
+fn bind(
+    parts: &mut [u64; PARTS],
+    assigned: u64,
+    v: u8,
+    node: usize,
+    size: usize,
+    elements: u8,
+) -> u64
     requires { ⌜ v < variables ⌝ }
-    ensures { λ r. ⌜ (r ≡ bitOr assigned (2 ^ v)) × (now (parts .exit) ≡ set (now (parts .entry)) v (packed (boundPart node size 1))) ⌝ }
+    ensures { λ r. ⌜ (r ≡ bitOr assigned (2 ^ v)) × (new parts ≡ set (old parts) v (packed (boundPart node size elements))) ⌝ }
 {
     let i = wide(v);
-    parts[i] = packed(Part::bound(node, size, 1));
+    parts[i] = packed(Part::bound(node, size, elements));
     also(assigned, i)
 }
 
@@ -611,7 +627,7 @@ fn walk(
     mut place: Place,
 ) -> Reached
     requires { ⌜ Holding (length (now pattern)) (length (now «record»)) assigned (now parts) (now stack) marks place × Short (now pattern) (now «record») ⌝ }
-    ensures { λ r. ⌜ Walks (now (table .entry)) (now (classes .entry)) (now (pattern .entry)) (now («record» .entry)) assigned left (now (parts .entry)) (now (stack .entry)) marks place (now (parts .exit)) (now (stack .exit)) r ⌝ }
+    ensures { λ r. ⌜ Walks (old table) (old classes) (old pattern) (old «record») assigned left (old parts) (old stack) marks place (new parts) (new stack) r ⌝ }
 {
     let stop = loop {
         let step = step_of(
@@ -647,7 +663,7 @@ fn walk(
             }
             Step::Binds(v, size) => {
                 left = left - 1;
-                assigned = bind(parts, assigned, v, place.node, size);
+                assigned = bind(parts, assigned, v, place.node, size, 1);
                 place = place.passed(1, 1, size);
             }
             Step::PutsBy(codes, size) => {
@@ -658,6 +674,61 @@ fn walk(
         }
     };
     Reached::of(stop, left, assigned, marks, place)
+}
+
+// The pairs of a level up to a run name that leaves a choice. One that is the last child pattern of its node takes all elements left: each shorter
+// length leaves some over, and fails. All its lengths are counted. A level that halts stops at each run name.
+fn onward(
+    table: &[u8],
+    classes: &[u8],
+    pattern: &[u8],
+    record: &[u8],
+    parts: &mut [u64; PARTS],
+    stack: &mut [u32; STACK],
+    mut assigned: u64,
+    mut left: u32,
+    halts: bool,
+    mut marks: Marks,
+    mut place: Place,
+) -> Reached
+    requires { ⌜ Holding (length (now pattern)) (length (now «record»)) assigned (now parts) (now stack) marks place × Short (now pattern) (now «record») ⌝ }
+    ensures { λ r. ⌜ Onward halts (old table) (old classes) (old pattern) (old «record») assigned left (old parts) (old stack) marks place (new parts) (new stack) r ⌝ }
+{
+    loop {
+        let w = walk(
+            table,
+            classes,
+            pattern,
+            record,
+            parts,
+            stack,
+            assigned,
+            left,
+            marks,
+            place,
+        );
+        let stop = w.stop;
+        let end = w.place;
+        let Stop::RunName(v) = stop else {
+            return w;
+        };
+        if halts {
+            return w;
+        }
+        if end.children != 1 {
+            return w;
+        }
+        let node = end.node;
+        let n = end.elements;
+        if w.left <= n as u32 {
+            return Reached::of(Stop::NoAllowance, 0, w.assigned, w.marks, end);
+        }
+        let size = extents(table, &record[node..], n);
+        left = w.left - 1 - n as u32;
+        assigned = bind(parts, w.assigned, v, node, size, n);
+        marks = w.marks;
+        place = end.passed(n, 1, size);
+    }
 }
 
 fn is_failure(stop: Stop) -> bool
@@ -798,6 +869,244 @@ impl Marks {
     }
 }
 
+// Lengths of a run name that are passed over, the byte behind the last of their elements, and whether those after them fail too.
+pub struct Skipped {
+    pub lengths: u8,
+    pub node: usize,
+    pub over: bool,
+}
+
+impl Skipped {
+    // No length is passed over.
+    fn none(node: usize) -> Skipped
+        ensures { λ r. ⌜ r ≡ skipped 0 node false ⌝ }
+    {
+        Skipped {
+            lengths: 0,
+            node: node,
+            over: false,
+        }
+    }
+}
+
+// The lengths after which the next element does not start with x; where no element is left, a plain child pattern fails.
+fn skip_to(
+    table: &[u8],
+    classes: &[u8],
+    record: &[u8],
+    x: &[u8],
+    plain: bool,
+    elements: u8,
+    node: usize,
+    left: u32,
+) -> Skipped
+    requires { ⌜ (node ≤ length (now «record»)) × (length (now «record») ≤ longestRecord) ⌝ }
+    ensures { λ r. ⌜ SkipsTo (old table) (old classes) (old «record») (old x) plain elements node left r ⌝ }
+{
+    let k = seek(
+        table,
+        classes,
+        x,
+        &record[node..],
+        affordable(elements, left),
+    );
+    Skipped {
+        lengths: k.elements,
+        node: node + k.size,
+        over: plain & (k.elements == elements),
+    }
+}
+
+// The lengths that fail at their first pair: the next child pattern is a symbol, or a name or run name that is assigned, and does not stand there.
+fn skip(
+    table: &[u8],
+    classes: &[u8],
+    pattern: &[u8],
+    record: &[u8],
+    parts: &[u64; PARTS],
+    assigned: u64,
+    children: u8,
+    elements: u8,
+    at: usize,
+    node: usize,
+    left: u32,
+) -> Skipped
+    requires { ⌜ (node ≤ length (now «record»)) × (length (now «record») ≤ longestRecord) ⌝ }
+    ensures { λ r. ⌜ Skips (old table) (old classes) (old pattern) (old «record») assigned (old parts) (place children elements at node) left r ⌝ }
+{
+    if children == 0 {
+        return Skipped::none(node);
+    }
+    if pattern.len() <= at {
+        return Skipped::none(node);
+    }
+    let code = decode(pattern[at]);
+    match code {
+        Code::Symbol(_) => skip_to(
+            table,
+            classes,
+            record,
+            &pattern[at..at + 1],
+            true,
+            elements,
+            node,
+            left,
+        ),
+        Code::Name(v) => skip_to(
+            table,
+            classes,
+            record,
+            bytes_of(record, part_of(parts, assigned, v)),
+            true,
+            elements,
+            node,
+            left,
+        ),
+        Code::Run(v) => skip_to(
+            table,
+            classes,
+            record,
+            bytes_of(record, part_of(parts, assigned, v)),
+            false,
+            elements,
+            node,
+            left,
+        ),
+        Code::Complement => Skipped::none(node),
+        Code::Refused => Skipped::none(node),
+    }
+}
+
+// The code of the next child pattern where it tells which elements it can hold of: a symbol, or a name or run name that is assigned some bytes.
+fn wanted(pattern: &[u8], parts: &[u64; PARTS], assigned: u64, children: u8, at: usize) -> u8 {
+    if children == 0 {
+        return ANYTHING;
+    }
+    if pattern.len() <= at {
+        return ANYTHING;
+    }
+    let b = pattern[at];
+    let code = decode(b);
+    match code {
+        Code::Symbol(_) => b,
+        Code::Name(v) => wanted_part(part_of(parts, assigned, v), b),
+        Code::Run(v) => wanted_part(part_of(parts, assigned, v), b),
+        Code::Complement => ANYTHING,
+        Code::Refused => ANYTHING,
+    }
+}
+
+fn wanted_part(part: Part, b: u8) -> u8 {
+    if part.length == 0 {
+        return ANYTHING;
+    }
+    b
+}
+
+// Whether it is worth to look for lengths that fail at once: not where the symbol wanted stands at the node.
+fn scans(classes: &[u8], record: &[u8], want: u8, node: usize) -> bool {
+    if want == ANYTHING {
+        return false;
+    }
+    if record.len() <= node {
+        return true;
+    }
+    !same_symbol(classes, want, record[node])
+}
+
+// What is left of the lengths of a run name after one that failed.
+pub struct Lengthening {
+    pub place: Place,
+    pub left: u32,
+    pub over: bool,
+}
+
+// The lengths that fail at once, where it is worth to look for them.
+fn skip_where(
+    table: &[u8],
+    classes: &[u8],
+    pattern: &[u8],
+    record: &[u8],
+    parts: &[u64; PARTS],
+    assigned: u64,
+    want: u8,
+    place: Place,
+    left: u32,
+) -> Skipped
+    requires { ⌜ (place .node ≤ length (now «record»)) × (length (now «record») ≤ longestRecord) ⌝ }
+    ensures { λ r. ⌜ Skips (old table) (old classes) (old pattern) (old «record») assigned (old parts) place left r ⌝ }
+{
+    if !scans(classes, record, want, place.node) {
+        return Skipped::none(place.node);
+    }
+    skip(
+        table,
+        classes,
+        pattern,
+        record,
+        parts,
+        assigned,
+        place.children,
+        place.elements,
+        place.at,
+        place.node,
+        left,
+    )
+}
+
+impl Place {
+    // Behind so many elements more, which end at a byte.
+    fn behind(self, elements: u8, node: usize) -> Place
+        requires { ⌜ elements ≤ self .elements ⌝ }
+        ensures { λ r. ⌜ r ≡ behindIn self elements node ⌝ }
+    {
+        Place {
+            children: self.children,
+            elements: self.elements - elements,
+            at: self.at,
+            node: node,
+        }
+    }
+}
+
+// The variable v is given one element more, and those that the lengths passed over have.
+fn lengthen(
+    table: &[u8],
+    classes: &[u8],
+    pattern: &[u8],
+    record: &[u8],
+    parts: &mut [u64; PARTS],
+    assigned: u64,
+    v: usize,
+    want: u8,
+    place: Place,
+    left: u32,
+) -> Lengthening
+    requires { ⌜ Lengthened (length (now «record»)) (now parts) v place ⌝ }
+    ensures { λ r. ⌜ Lengthens (old table) (old classes) (old pattern) (old «record») assigned (old parts) v place left (new parts) r ⌝ }
+{
+    let at = place.node;
+    let node = at + extent(table, &record[at..]);
+    let one = place.behind(1, node);
+    let k = skip_where(
+        table,
+        classes,
+        pattern,
+        record,
+        parts,
+        assigned,
+        want,
+        one,
+        left,
+    );
+    parts[v] = longer(parts[v], 1 + k.lengths, k.node - at);
+    Lengthening {
+        place: one.behind(k.lengths, k.node),
+        left: left - 2 * k.lengths as u32,
+        over: k.over,
+    }
+}
+
 // The variable v has a part of the elements before the place, and is given one element more while the rest of the level fails and more than `least`
 // are left. At a level's start v is `VARIABLES`, for none, and `least` `MOST_ELEMENTS`. A level that halts only reports where its pairs stop.
 fn level(
@@ -812,17 +1121,19 @@ fn level(
     v: usize,
     halts: bool,
     least: u8,
+    want: u8,
     nodes: Nodes,
     queue: Queue,
     remaining: Remaining,
     next: Next,
 ) -> Outcome
     requires { ⌜ Begun (length (now pattern)) (length (now «record»)) (now assigned) (now parts) (now stack) v halts least (marksOf nodes queue) (placeOf remaining next) × Short (now pattern) (now «record») ⌝ }
-    ensures { λ r. ⌜ Levels (now (table .entry)) (now (classes .entry)) (now (pattern .entry)) (now («record» .entry)) (now (assigned .entry)) (now (left .entry)) (now (parts .entry)) (now (stack .entry)) v halts least (marksOf nodes queue) (placeOf remaining next) r (now (assigned .exit)) (now (left .exit)) (now (parts .exit)) (now (stack .exit)) ⌝ }
+    ensures { λ r. ⌜ Levels (old table) (old classes) (old pattern) (old «record») (old assigned) (old left) (old parts) (old stack) v halts least (marksOf nodes queue) (placeOf remaining next) r (new assigned) (new left) (new parts) (new stack) ⌝ }
 {
     let marks = Marks::of(nodes, queue);
     let start = Place::of(remaining, next);
-    let seen = also(*assigned, v);
+    let outside = *assigned;
+    let seen = also(outside, v);
     let mut place = start;
     let outcome = loop {
         *assigned = seen;
@@ -848,12 +1159,23 @@ fn level(
         if *left == 0 {
             break Outcome::Spent;
         }
-        *left = *left - 1;
-        let at = place.node;
-        let size = extent(table, &record[at..]);
-        place.node = at + size;
-        place.elements = place.elements - 1;
-        parts[v] = longer(parts[v], size);
+        let k = lengthen(
+            table,
+            classes,
+            pattern,
+            record,
+            parts,
+            outside,
+            v,
+            want,
+            place,
+            *left - 1,
+        );
+        *left = k.left;
+        if k.over {
+            break Outcome::Failed;
+        }
+        place = k.place;
     };
     outcome
 }
@@ -873,7 +1195,7 @@ fn start_level(
     start: Place,
 ) -> Outcome
     requires { ⌜ Holding (length (now pattern)) (length (now «record»)) (now assigned) (now parts) (now stack) marks start × Short (now pattern) (now «record») ⌝ }
-    ensures { λ r. ⌜ RestIs (now (table .entry)) (now (classes .entry)) (now (pattern .entry)) (now («record» .entry)) (now (assigned .entry)) (now (left .entry)) (now (parts .entry)) (now (stack .entry)) marks start r (now (assigned .exit)) (now (left .exit)) (now (parts .exit)) (now (stack .exit)) ⌝ }
+    ensures { λ r. ⌜ RestIs (old table) (old classes) (old pattern) (old «record») (old assigned) (old left) (old parts) (old stack) marks start r (new assigned) (new left) (new parts) (new stack) ⌝ }
 {
     level(
         table,
@@ -887,6 +1209,7 @@ fn start_level(
         VARIABLES,
         false,
         MOST_ELEMENTS,
+        ANYTHING,
         marks.nodes(),
         marks.queue(),
         start.remaining(),
@@ -920,7 +1243,7 @@ fn run_of(stop: Stop) -> usize
 
 // Where a level halts, as the numbers of three parts.
 fn report(parts: &mut [u64; PARTS], stop: Stop, marks: Marks, place: Place) -> Outcome
-    ensures { λ r. ⌜ Reports (now (parts .entry)) stop marks place r (now (parts .exit)) ⌝ }
+    ensures { λ r. ⌜ Reports (old parts) stop marks place r (new parts) ⌝ }
 {
     parts[VARIABLES + 2] = packed(Part::bound(marks.waiting, run_of(stop), 0));
     parts[VARIABLES + 1] = packed(Part::bound(marks.inner, marks.frames, place.children));
@@ -952,7 +1275,7 @@ fn reported(
     assigned: u64,
     first: usize,
 ) -> Reached
-    ensures { λ r. ⌜ r ≡ reportedBy (now (parts .entry)) outcome left assigned first ⌝ }
+    ensures { λ r. ⌜ r ≡ reportedBy (old parts) outcome left assigned first ⌝ }
 {
     let here = unpacked(parts[VARIABLES]);
     let open = unpacked(parts[VARIABLES + 1]);
@@ -993,9 +1316,9 @@ fn rest(
     start: Place,
 ) -> Outcome
     requires { ⌜ Holding (length (now pattern)) (length (now «record»)) (now assigned) (now parts) (now stack) marks start × Short (now pattern) (now «record») ⌝ }
-    ensures { λ r. ⌜ RestBy halts (now (table .entry)) (now (classes .entry)) (now (pattern .entry)) (now («record» .entry)) (now (assigned .entry)) (now (left .entry)) (now (parts .entry)) (now (stack .entry)) marks start r (now (assigned .exit)) (now (left .exit)) (now (parts .exit)) (now (stack .exit)) ⌝ }
+    ensures { λ r. ⌜ RestBy halts (old table) (old classes) (old pattern) (old «record») (old assigned) (old left) (old parts) (old stack) marks start r (new assigned) (new left) (new parts) (new stack) ⌝ }
 {
-    let w = walk(
+    let w = onward(
         table,
         classes,
         pattern,
@@ -1004,6 +1327,7 @@ fn rest(
         stack,
         *assigned,
         *left,
+        halts,
         marks,
         start,
     );
@@ -1048,7 +1372,7 @@ fn follow(
     place: Place,
 ) -> Outcome
     requires { ⌜ Holding (length (now pattern)) (length (now «record»)) (now assigned) (now parts) (now stack) marks place × StopsAt (length (now pattern)) place stop × Unassigned (now assigned) stop × Short (now pattern) (now «record») ⌝ }
-    ensures { λ r. ⌜ FollowIs (now (table .entry)) (now (classes .entry)) (now (pattern .entry)) (now («record» .entry)) (now (assigned .entry)) (now (left .entry)) (now (parts .entry)) (now (stack .entry)) stop marks place r (now (assigned .exit)) (now (left .exit)) (now (parts .exit)) (now (stack .exit)) ⌝ }
+    ensures { λ r. ⌜ FollowIs (old table) (old classes) (old pattern) (old «record») (old assigned) (old left) (old parts) (old stack) stop marks place r (new assigned) (new left) (new parts) (new stack) ⌝ }
 {
     match stop {
         Stop::Failure => Outcome::Failed,
@@ -1095,15 +1419,31 @@ fn lengths(
     place: Place,
 ) -> Outcome
     requires { ⌜ Holding (length (now pattern)) (length (now «record»)) (now assigned) (now parts) (now stack) marks place × StopsAt (length (now pattern)) place (Stop.RunName v) × Unassigned (now assigned) (Stop.RunName v) × Short (now pattern) (now «record») ⌝ }
-    ensures { λ r. ⌜ FollowIs (now (table .entry)) (now (classes .entry)) (now (pattern .entry)) (now («record» .entry)) (now (assigned .entry)) (now (left .entry)) (now (parts .entry)) (now (stack .entry)) (Stop.RunName v) marks place r (now (assigned .exit)) (now (left .exit)) (now (parts .exit)) (now (stack .exit)) ⌝ }
+    ensures { λ r. ⌜ FollowIs (old table) (old classes) (old pattern) (old «record») (old assigned) (old left) (old parts) (old stack) (Stop.RunName v) marks place r (new assigned) (new left) (new parts) (new stack) ⌝ }
 {
     if *left == 0 {
         return Outcome::Spent;
     }
-    *left -= 1;
     let past = place.passed(0, 1, 0);
+    let want = wanted(pattern, parts, *assigned, past.children, past.at);
+    let k = skip_where(
+        table,
+        classes,
+        pattern,
+        record,
+        parts,
+        *assigned,
+        want,
+        past,
+        *left - 1,
+    );
+    *left = *left - 1 - 2 * k.lengths as u32;
+    if k.over {
+        return Outcome::Failed;
+    }
+    let first = past.behind(k.lengths, k.node);
     let i = wide(v);
-    parts[i] = packed(Part::bound(place.node, 0, 0));
+    parts[i] = packed(Part::bound(place.node, k.node - place.node, k.lengths));
     level(
         table,
         classes,
@@ -1116,10 +1456,11 @@ fn lengths(
         i,
         false,
         0,
+        want,
         marks.nodes(),
         marks.queue(),
-        past.remaining(),
-        past.next(),
+        first.remaining(),
+        first.next(),
     )
 }
 
@@ -1132,7 +1473,7 @@ fn first_pair(
     node: usize,
     left: u32,
 ) -> First
-    ensures { λ r. ⌜ Decides (now (table .entry)) (now (classes .entry)) (now (pattern .entry)) (now («record» .entry)) node left r ⌝ }
+    ensures { λ r. ⌜ Decides (old table) (old classes) (old pattern) (old «record») node left r ⌝ }
 {
     if left == 0 {
         return First::Unsure;
@@ -1156,6 +1497,65 @@ fn first_pair(
     First::Unsure
 }
 
+// So does a name, where a complement drops what it is assigned: an unassigned one takes the node, an assigned one must equal it.
+fn name_pair(
+    table: &[u8],
+    classes: &[u8],
+    pattern: &[u8],
+    record: &[u8],
+    parts: &[u64; PARTS],
+    assigned: u64,
+    node: usize,
+    left: u32,
+) -> First
+    ensures { λ r. ⌜ DecidesInside (old table) (old classes) (old pattern) (old «record») assigned (old parts) node left r ⌝ }
+{
+    if left == 0 {
+        return First::Unsure;
+    }
+    if pattern.len() == 0 {
+        return First::Unsure;
+    }
+    if record.len() <= node {
+        return First::Unsure;
+    }
+    let code = decode(pattern[0]);
+    let Code::Name(v) = code else {
+        return First::Unsure;
+    };
+    let part = part_of(parts, assigned, v);
+    if part.is_absent() {
+        return First::Decided(Outcome::Found);
+    }
+    if part.elements != 1 {
+        return First::Unsure;
+    }
+    if stands(table, classes, record, part, &record[node..]) {
+        return First::Decided(Outcome::Found);
+    }
+    First::Decided(Outcome::Failed)
+}
+
+// How the inside of a complement ends, where its first pair alone decides that.
+fn at_once(
+    table: &[u8],
+    classes: &[u8],
+    pattern: &[u8],
+    record: &[u8],
+    parts: &[u64; PARTS],
+    assigned: u64,
+    node: usize,
+    left: u32,
+) -> First
+    ensures { λ r. ⌜ DecidesInside (old table) (old classes) (old pattern) (old «record») assigned (old parts) node left r ⌝ }
+{
+    let first = first_pair(table, classes, pattern, record, node, left);
+    if let First::Decided(outcome) = first {
+        return First::Decided(outcome);
+    }
+    name_pair(table, classes, pattern, record, parts, assigned, node, left)
+}
+
 // The inside of a complement is a level of its own, that starts from the assignments made so far.
 fn complement(
     table: &[u8],
@@ -1170,13 +1570,22 @@ fn complement(
     marks: Marks,
 ) -> Outcome
     requires { ⌜ Testable (length (now pattern)) (length (now «record»)) (now assigned) (now parts) (now stack) marks (putByIn c) × Short (now pattern) (now «record») ⌝ }
-    ensures { λ r. ⌜ ComplementIs (now (table .entry)) (now (classes .entry)) (now (pattern .entry)) (now («record» .entry)) (now (assigned .entry)) (now (left .entry)) (now (parts .entry)) (now (stack .entry)) (putByIn c) marks r (now (left .exit)) (now (parts .exit)) (now (stack .exit)) ⌝ }
+    ensures { λ r. ⌜ ComplementIs (old table) (old classes) (old pattern) (old «record») (old assigned) (old left) (old parts) (old stack) (putByIn c) marks r (new left) (new parts) (new stack) ⌝ }
 {
     let from = (c % 256) as usize + 1;
     let stop = from + (c / 256 % 256) as usize;
     let node = (c / 65536) as usize;
     let inside = &pattern[from..stop];
-    let first = first_pair(table, classes, inside, record, node, *left);
+    let first = at_once(
+        table,
+        classes,
+        inside,
+        record,
+        parts,
+        *assigned,
+        node,
+        *left,
+    );
     if let First::Decided(outcome) = first {
         *left = *left - 1;
         return opposite(outcome);
@@ -1208,7 +1617,7 @@ fn complements(
     marks: Marks,
 ) -> Outcome
     requires { ⌜ Resting (length (now pattern)) (length (now «record»)) (now assigned) (now parts) (now stack) marks × Short (now pattern) (now «record») ⌝ }
-    ensures { λ r. ⌜ ComplementsAre (now (table .entry)) (now (classes .entry)) (now (pattern .entry)) (now («record» .entry)) (now (assigned .entry)) (now (left .entry)) (now (parts .entry)) (now (stack .entry)) marks r (now (assigned .exit)) (now (left .exit)) (now (parts .exit)) (now (stack .exit)) ⌝ }
+    ensures { λ r. ⌜ ComplementsAre (old table) (old classes) (old pattern) (old «record») (old assigned) (old left) (old parts) (old stack) marks r (new assigned) (new left) (new parts) (new stack) ⌝ }
 {
     let outside = *assigned;
     let end = marks.waiting;
@@ -1265,7 +1674,7 @@ fn resumed(outcome: Outcome) -> Known
 // The byte behind so many elements.
 fn behind(table: &[u8], record: &[u8], node: usize, n: u8) -> usize
     requires { ⌜ (node ≤ length (now «record»)) × (length (now «record») ≤ longestRecord) ⌝ }
-    ensures { λ r. ⌜ (r ≡ node + elementsOf (now (table .entry)) (drop node (now («record» .entry))) n) × (r ≤ length (now («record» .entry))) ⌝ }
+    ensures { λ r. ⌜ (r ≡ node + elementsOf (old table) (drop node (old «record»)) n) × (r ≤ length (old «record»)) ⌝ }
 {
     let mut at = node;
     let mut i: u8 = 0;
@@ -1293,7 +1702,7 @@ fn further(
     place: Place,
 ) -> Outcome
     requires { ⌜ Holding (length (now pattern)) (length (now «record»)) (now assigned) (now parts) (now stack) marks place × Ready (length (now pattern)) v place × (bit (now assigned) v ≡ false) × (n ≤ place .elements) × (place .node ≤ node) × (node ≤ length (now «record»)) × Short (now pattern) (now «record») ⌝ }
-    ensures { λ r. ⌜ FurtherIs (now (table .entry)) (now (classes .entry)) (now (pattern .entry)) (now («record» .entry)) (now (assigned .entry)) (now (left .entry)) (now (parts .entry)) (now (stack .entry)) v n (node - place .node) marks place r (now (assigned .exit)) (now (left .exit)) (now (parts .exit)) (now (stack .exit)) ⌝ }
+    ensures { λ r. ⌜ FurtherIs (old table) (old classes) (old pattern) (old «record») (old assigned) (old left) (old parts) (old stack) v n (node - place .node) marks place r (new assigned) (new left) (new parts) (new stack) ⌝ }
 {
     if place.elements <= n {
         return Outcome::Failed;
@@ -1317,6 +1726,7 @@ fn further(
         v,
         false,
         0,
+        wanted(pattern, parts, *assigned, next.children, next.at),
         marks.nodes(),
         marks.queue(),
         next.remaining(),
@@ -1338,7 +1748,7 @@ fn pairs(
     start: Place,
 ) -> Reached
     requires { ⌜ Holding (length (now pattern)) (length (now «record»)) assigned (now parts) (now stack) marks start × Short (now pattern) (now «record») ⌝ }
-    ensures { λ r. ⌜ PairsAre (now (table .entry)) (now (classes .entry)) (now (pattern .entry)) (now («record» .entry)) assigned left (now (parts .entry)) (now (stack .entry)) marks start (now (parts .exit)) (now (stack .exit)) r ⌝ }
+    ensures { λ r. ⌜ PairsAre (old table) (old classes) (old pattern) (old «record») assigned left (old parts) (old stack) marks start (new parts) (new stack) r ⌝ }
 {
     let mut seen = assigned;
     let mut rest = left;
@@ -1354,6 +1764,7 @@ fn pairs(
         VARIABLES,
         true,
         MOST_ELEMENTS,
+        ANYTHING,
         marks.nodes(),
         marks.queue(),
         start.remaining(),
@@ -1378,7 +1789,7 @@ fn given_rest(
     start: Place,
 ) -> Known
     requires { ⌜ Holding (length (now pattern)) (length (now «record»)) (now assigned) (now parts) (now stack) marks start × Short (now pattern) (now «record») ⌝ }
-    ensures { λ r. ⌜ GivenIs (now (table .entry)) (now (classes .entry)) (now (pattern .entry)) (now («record» .entry)) (now (given .entry)) (now (assigned .entry)) (now (left .entry)) (now (parts .entry)) (now (stack .entry)) marks start r (now (assigned .exit)) (now (left .exit)) (now (parts .exit)) (now (stack .exit)) ⌝ }
+    ensures { λ r. ⌜ GivenIs (old table) (old classes) (old pattern) (old «record») (old given) (old assigned) (old left) (old parts) (old stack) marks start r (new assigned) (new left) (new parts) (new stack) ⌝ }
 {
     let walked = pairs(
         table,
@@ -1445,7 +1856,7 @@ fn given_length(
     place: Place,
 ) -> Known
     requires { ⌜ Holding (length (now pattern)) (length (now «record»)) (now assigned) (now parts) (now stack) marks place × Ready (length (now pattern)) v place × (bit (now assigned) v ≡ false) × Short (now pattern) (now «record») ⌝ }
-    ensures { λ r. ⌜ GivenFollows (now (table .entry)) (now (classes .entry)) (now (pattern .entry)) (now («record» .entry)) (now (given .entry)) (now (assigned .entry)) (now (left .entry)) (now (parts .entry)) (now (stack .entry)) (Stop.RunName v) marks place r (now (assigned .exit)) (now (left .exit)) (now (parts .exit)) (now (stack .exit)) ⌝ }
+    ensures { λ r. ⌜ GivenFollows (old table) (old classes) (old pattern) (old «record») (old given) (old assigned) (old left) (old parts) (old stack) (Stop.RunName v) marks place r (new assigned) (new left) (new parts) (new stack) ⌝ }
 {
     if *left == 0 {
         return Known::Ended(Outcome::Spent);
@@ -1498,7 +1909,7 @@ fn given_length(
 // The bytes of the pattern node at the start of s, and of a complement those of its inside too.
 fn past(table: &[u8], s: &[u8]) -> usize
     requires { ⌜ 0 < length (now s) ⌝ }
-    ensures { λ r. ⌜ (r ≡ pastOf (now (table .entry)) (now (s .entry))) × (r ≤ length (now (s .entry)) + 1) ⌝ }
+    ensures { λ r. ⌜ (r ≡ pastOf (old table) (old s)) × (r ≤ length (old s) + 1) ⌝ }
 {
     let code = decode(s[0]);
     match code {
@@ -1518,7 +1929,7 @@ fn past(table: &[u8], s: &[u8]) -> usize
 // The given lengths by run name, where there is one for each free run name.
 fn spread(table: &[u8], pattern: &[u8], given: &[u16], lengths: &mut [u16; VARIABLES]) -> bool
     requires { ⌜ length (now pattern) ≤ longestPattern ⌝ }
-    ensures { λ r. ⌜ SpreadIs (now (table .entry)) (now (pattern .entry)) (now (given .entry)) (now (lengths .entry)) (now (lengths .exit)) r ⌝ }
+    ensures { λ r. ⌜ SpreadIs (old table) (old pattern) (old given) (old lengths) (new lengths) r ⌝ }
 {
     let mut at: usize = 0;
     let mut seen: u64 = 0;
@@ -1550,7 +1961,7 @@ fn spread(table: &[u8], pattern: &[u8], given: &[u16], lengths: &mut [u16; VARIA
 fn put_entry(p: Part, v: usize, answer: &mut [u16])
     requires { ⌜ v < variables ⌝ }
     requires { ⌜ answerWidth ≤ length (now answer) ⌝ }
-    ensures { λ _. ⌜ now (answer .exit) ≡ setEntry (now (answer .entry)) v p ⌝ }
+    ensures { λ _. ⌜ new answer ≡ setEntry (old answer) v p ⌝ }
 {
     let at = ENTRY_WIDTH * v;
     answer[at] = p.offset;
@@ -1561,7 +1972,7 @@ fn put_entry(p: Part, v: usize, answer: &mut [u16])
 // Absent marks for every name and run name.
 fn clear(answer: &mut [u16])
     requires { ⌜ answerWidth ≤ length (now answer) ⌝ }
-    ensures { λ _. ⌜ now (answer .exit) ≡ numbers (replicate variables absent) ++ drop answerWidth (now (answer .entry)) ⌝ }
+    ensures { λ _. ⌜ new answer ≡ numbers (replicate variables absent) ++ drop answerWidth (old answer) ⌝ }
 {
     let mut v: usize = 0;
     while v < VARIABLES {
@@ -1576,7 +1987,7 @@ fn show_from(parts: &[u64; PARTS], assigned: u64, first: u8, answer: &mut [u16])
     requires { ⌜ first ≤ variables ⌝ }
     requires { ⌜ answerWidth ≤ length (now answer) ⌝ }
     requires { ⌜ now answer ≡ numbers (partsIn (assigned % 2 ^ first) (now parts) 0 variables) ++ drop answerWidth (now answer) ⌝ }
-    ensures { λ _. ⌜ now (answer .exit) ≡ numbers (partsIn assigned (now (parts .entry)) 0 variables) ++ drop answerWidth (now (answer .entry)) ⌝ }
+    ensures { λ _. ⌜ new answer ≡ numbers (partsIn assigned (old parts) 0 variables) ++ drop answerWidth (old answer) ⌝ }
 {
     let mut i = first;
     while 0 < assigned >> i {
@@ -1587,7 +1998,7 @@ fn show_from(parts: &[u64; PARTS], assigned: u64, first: u8, answer: &mut [u16])
 
 // Absent marks for what is found where nothing is assigned.
 fn show_absent(end: Outcome, answer: &mut [u16])
-    ensures { λ _. ⌜ now (answer .exit) ≡ shownBy end (replicate variables absent) (now (answer .entry)) ⌝ }
+    ensures { λ _. ⌜ new answer ≡ shownBy end (replicate variables absent) (old answer) ⌝ }
 {
     if !is_found(end) {
         return;
@@ -1600,8 +2011,8 @@ fn show_absent(end: Outcome, answer: &mut [u16])
 
 // What is found is shown in a buffer of `ANSWER_WIDTH` numbers or more: an entry for each name and run name, absent marks for those that are
 // not assigned. All else stays.
-fn show(outcome: Outcome, parts: &[u64; PARTS], assigned: u64, answer: &mut [u16])
-    ensures { λ _. ⌜ now (answer .exit) ≡ shownBy outcome (partsIn assigned (now (parts .entry)) 0 variables) (now (answer .entry)) ⌝ }
+pub fn show(outcome: Outcome, parts: &[u64; PARTS], assigned: u64, answer: &mut [u16])
+    ensures { λ _. ⌜ new answer ≡ shownBy outcome (partsIn assigned (old parts) 0 variables) (old answer) ⌝ }
 {
     if !is_found(outcome) {
         return;
@@ -1623,8 +2034,8 @@ pub fn search(
     allowance: u32,
     answer: &mut [u16],
 ) -> Ended
-    ensures is { λ r. ⌜ r ≡ endOf (searchOf (now (table .entry)) (now (classes .entry)) (now (pattern .entry)) (now («record» .entry)) allowance) ⌝ }
-    ensures shows { λ r. ⌜ now (answer .exit) ≡ shownIn (searchOf (now (table .entry)) (now (classes .entry)) (now (pattern .entry)) (now («record» .entry)) allowance) (now (answer .entry)) ⌝ }
+    ensures is { λ r. ⌜ r ≡ endOf (searchOf (old table) (old classes) (old pattern) (old «record») allowance) ⌝ }
+    ensures shows { λ r. ⌜ new answer ≡ shownIn (searchOf (old table) (old classes) (old pattern) (old «record») allowance) (old answer) ⌝ }
 {
     if LONGEST_PATTERN < pattern.len() {
         return Ended {
@@ -1688,7 +2099,7 @@ fn left_of(known: Known, left: u32, allowance: u32) -> u32
 
 // What the search after a given answer finds is shown as that of the first.
 fn show_known(known: Known, parts: &[u64; PARTS], assigned: u64, answer: &mut [u16])
-    ensures { λ _. ⌜ now (answer .exit) ≡ shownKnown known (partsIn assigned (now (parts .entry)) 0 variables) (now (answer .entry)) ⌝ }
+    ensures { λ _. ⌜ new answer ≡ shownKnown known (partsIn assigned (old parts) 0 variables) (old answer) ⌝ }
 {
     if let Known::Ended(outcome) = known {
         show(outcome, parts, assigned, answer);
@@ -1706,8 +2117,8 @@ pub fn search_next(
     allowance: u32,
     answer: &mut [u16],
 ) -> Followed
-    ensures is { λ r. ⌜ r ≡ followedOf allowance (nextPass (now (table .entry)) (now (classes .entry)) (now (pattern .entry)) (now («record» .entry)) (now (given .entry)) allowance) ⌝ }
-    ensures shows { λ r. ⌜ now (answer .exit) ≡ shownPass (nextPass (now (table .entry)) (now (classes .entry)) (now (pattern .entry)) (now («record» .entry)) (now (given .entry)) allowance) (now (answer .entry)) ⌝ }
+    ensures is { λ r. ⌜ r ≡ followedOf allowance (nextPass (old table) (old classes) (old pattern) (old «record») (old given) allowance) ⌝ }
+    ensures shows { λ r. ⌜ new answer ≡ shownPass (nextPass (old table) (old classes) (old pattern) (old «record») (old given) allowance) (old answer) ⌝ }
 {
     if LONGEST_PATTERN < pattern.len() {
         return Followed {

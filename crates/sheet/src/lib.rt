@@ -8,6 +8,7 @@ ghost use lib.Dec.{leb};
 ghost use lib.ListN.{length};
 ghost use lib.Seq.{sets};
 ghost use denote.Ref.{ptr};
+ghost use Rattle.term.specs.Moment.{old, new};
 ghost use Rattle.sheet.specs.Word.{wordBytes, word, wordAt};
 ghost use Rattle.sheet.specs.Sheet.{pastPairs, directory, sheetBytes};
 ghost use Rattle.sheet.specs.Check.{longestSheet, entryCount, offsetAt, lengthAt, followed, checkSheet};
@@ -142,14 +143,14 @@ impl Place {
 // The 16-bit number at a place, low byte first.
 fn word_at(s: &[u8], at: usize) -> u16
     requires { ⌜ at + 1 < length (now s) ⌝ }
-    ensures { λ r. ⌜ r ≡ wordAt (now (s .entry)) at ⌝ }
+    ensures { λ r. ⌜ r ≡ wordAt (old s) at ⌝ }
 {
     (s[at] as u16) + 256 * (s[at + 1] as u16)
 }
 
 // The number of entries that a sheet tells, be it accepted or not.
 pub fn count(sheet: &[u8]) -> u16
-    ensures { λ r. ⌜ r ≡ entryCount (now (sheet .entry)) ⌝ }
+    ensures { λ r. ⌜ r ≡ entryCount (old sheet) ⌝ }
 {
     if sheet.len() == 0 {
         return 0;
@@ -163,14 +164,14 @@ pub fn count(sheet: &[u8]) -> u16
 // The offset and the length of an index in the directory.
 fn offset_at(sheet: &[u8], index: usize) -> u16
     requires { ⌜ pastPairs (index + 1) ≤ length (now sheet) ⌝ }
-    ensures { λ r. ⌜ r ≡ offsetAt (now (sheet .entry)) index ⌝ }
+    ensures { λ r. ⌜ r ≡ offsetAt (old sheet) index ⌝ }
 {
     word_at(sheet, WORD + PAIR * index)
 }
 
 fn length_at(sheet: &[u8], index: usize) -> u16
     requires { ⌜ pastPairs (index + 1) ≤ length (now sheet) ⌝ }
-    ensures { λ r. ⌜ r ≡ lengthAt (now (sheet .entry)) index ⌝ }
+    ensures { λ r. ⌜ r ≡ lengthAt (old sheet) index ⌝ }
 {
     word_at(sheet, WORD + PAIR * index + WORD)
 }
@@ -178,7 +179,7 @@ fn length_at(sheet: &[u8], index: usize) -> u16
 // Whether the entries follow the directory of n pairs and each other, and end with the sheet.
 fn entries_follow(sheet: &[u8], n: usize) -> bool
     requires { ⌜ pastPairs n ≤ length (now sheet) ⌝ }
-    ensures { λ r. ⌜ r ≡ followed (now (sheet .entry)) n 0 (pastPairs n) ⌝ }
+    ensures { λ r. ⌜ r ≡ followed (old sheet) n 0 (pastPairs n) ⌝ }
 {
     let mut at = WORD + PAIR * n;
     let mut i: usize = 0;
@@ -198,8 +199,8 @@ fn entries_follow(sheet: &[u8], n: usize) -> bool
 
 // Checks a sheet of any entries.
 pub fn check_sheet(sheet: &[u8]) -> Checked
-    ensures is { λ r. ⌜ r ≡ checkSheet (now (sheet .entry)) ⌝ }
-    ensures demand { λ r. ⌜ OneReading (now (sheet .entry)) (checkedNumber r) (checkedCount r) ⌝ }
+    ensures is { λ r. ⌜ r ≡ checkSheet (old sheet) ⌝ }
+    ensures demand { λ r. ⌜ OneReading (old sheet) (checkedNumber r) (checkedCount r) ⌝ }
 {
     if LONGEST_SHEET < sheet.len() {
         return Checked::Refused(Refusal::Long, 0);
@@ -219,8 +220,8 @@ pub fn check_sheet(sheet: &[u8]) -> Checked
 
 // The part that the pair of an index tells, without the other checks: for callers that checked the sheet before.
 pub fn part_at(sheet: &[u8], index: usize) -> &[u8]
-    ensures bytes { λ r. ⌜ now r ≡ partAt (now (sheet .entry)) index ⌝ }
-    ensures place { λ r. ⌜ ptr r ≡ pointsInto (sheet .entry) (partOffset (now (sheet .entry)) index) ⌝ }
+    ensures bytes { λ r. ⌜ now r ≡ partAt (old sheet) index ⌝ }
+    ensures place { λ r. ⌜ ptr r ≡ pointsInto (sheet .entry) (partOffset (old sheet) index) ⌝ }
 {
     if sheet.len() < WORD {
         return &sheet[..0];
@@ -238,7 +239,7 @@ pub fn part_at(sheet: &[u8], index: usize) -> &[u8]
 
 // Checks a sheet and an index.
 pub fn check_entry(sheet: &[u8], index: usize) -> Checked
-    ensures { λ r. ⌜ r ≡ checkEntry (now (sheet .entry)) index ⌝ }
+    ensures { λ r. ⌜ r ≡ checkEntry (old sheet) index ⌝ }
 {
     let checked = check_sheet(sheet);
     let Checked::Accepted(n) = checked else {
@@ -252,8 +253,8 @@ pub fn check_entry(sheet: &[u8], index: usize) -> Checked
 
 // An entry as a part of the sheet, or an empty part where the check of sheet and index refuses.
 pub fn entry(sheet: &[u8], index: usize) -> &[u8]
-    ensures bytes { λ r. ⌜ now r ≡ entryOf (now (sheet .entry)) index ⌝ }
-    ensures place { λ r. ⌜ ptr r ≡ pointsInto (sheet .entry) (placeOffset (placeOf (now (sheet .entry)) index)) ⌝ }
+    ensures bytes { λ r. ⌜ now r ≡ entryOf (old sheet) index ⌝ }
+    ensures place { λ r. ⌜ ptr r ≡ pointsInto (sheet .entry) (placeOffset (placeOf (old sheet) index)) ⌝ }
 {
     let checked = check_entry(sheet, index);
     let Checked::Accepted(_) = checked else {
@@ -264,7 +265,7 @@ pub fn entry(sheet: &[u8], index: usize) -> &[u8]
 
 // Where an entry lies, or the refusal of the check of sheet and index.
 pub fn place_of(sheet: &[u8], index: usize) -> Place
-    ensures { λ r. ⌜ r ≡ placeOf (now (sheet .entry)) index ⌝ }
+    ensures { λ r. ⌜ r ≡ placeOf (old sheet) index ⌝ }
 {
     let checked = check_entry(sheet, index);
     match checked {
@@ -274,7 +275,7 @@ pub fn place_of(sheet: &[u8], index: usize) -> Place
 }
 
 fn read_entry(records: bool, table: &[u8], bytes: &[u8]) -> Read
-    ensures { λ r. ⌜ r ≡ readEntry records (now (table .entry)) (now (bytes .entry)) ⌝ }
+    ensures { λ r. ⌜ r ≡ readEntry records (old table) (old bytes) ⌝ }
 {
     if records {
         return reader::read_record(table, bytes);
@@ -285,7 +286,7 @@ fn read_entry(records: bool, table: &[u8], bytes: &[u8]) -> Read
 // Each of the n entries of a checked sheet, in order.
 fn check_entries(records: bool, table: &[u8], sheet: &[u8], n: usize) -> Checked
     requires { ⌜ checkSheet (now sheet) ≡ Checked.Accepted n ⌝ }
-    ensures { λ r. ⌜ r ≡ checkEach records (now (table .entry)) 0 (entries (now (sheet .entry))) ⌝ }
+    ensures { λ r. ⌜ r ≡ checkEach records (old table) 0 (entries (old sheet)) ⌝ }
 {
     let mut i: usize = 0;
     while i < n {
@@ -309,7 +310,7 @@ fn few(records: bool, n: usize) -> bool
 }
 
 fn check_contents(records: bool, table: &[u8], sheet: &[u8]) -> Checked
-    ensures { λ r. ⌜ r ≡ checkContents records (now (table .entry)) (now (sheet .entry)) ⌝ }
+    ensures { λ r. ⌜ r ≡ checkContents records (old table) (old sheet) ⌝ }
 {
     if !term::check_table(table) {
         return Checked::Refused(Refusal::Table, 0);
@@ -326,21 +327,21 @@ fn check_contents(records: bool, table: &[u8], sheet: &[u8]) -> Checked
 
 // Checks a sheet of records.
 pub fn check_states(table: &[u8], sheet: &[u8]) -> Checked
-    ensures { λ r. ⌜ r ≡ checkStates (now (table .entry)) (now (sheet .entry)) ⌝ }
+    ensures { λ r. ⌜ r ≡ checkStates (old table) (old sheet) ⌝ }
 {
     check_contents(true, table, sheet)
 }
 
 // Checks a sheet of at most 64 patterns.
 pub fn check_rules(table: &[u8], sheet: &[u8]) -> Checked
-    ensures { λ r. ⌜ r ≡ checkRules (now (table .entry)) (now (sheet .entry)) ⌝ }
+    ensures { λ r. ⌜ r ≡ checkRules (old table) (old sheet) ⌝ }
 {
     check_contents(false, table, sheet)
 }
 
 // Whether no length is 0 and together they are `total`.
 fn lengths_accepted(lengths: &[u16], total: usize) -> bool
-    ensures { λ r. ⌜ r ≡ lengthsAccepted (now (lengths .entry)) total ⌝ }
+    ensures { λ r. ⌜ r ≡ lengthsAccepted (old lengths) total ⌝ }
 {
     let mut left = total;
     let mut i: usize = 0;
@@ -374,7 +375,7 @@ fn fits_sheet(n: usize, total: usize) -> bool
 // Each record, in order.
 fn check_each(table: &[u8], records: &[u8], lengths: &[u16]) -> Checked
     requires { ⌜ length (now records) ≡ sum (now lengths) ⌝ }
-    ensures { λ r. ⌜ r ≡ checkEach true (now (table .entry)) 0 (split (now (records .entry)) (now (lengths .entry))) ⌝ }
+    ensures { λ r. ⌜ r ≡ checkEach true (old table) 0 (split (old records) (old lengths)) ⌝ }
 {
     let mut rest = records;
     let mut i: usize = 0;
@@ -392,7 +393,7 @@ fn check_each(table: &[u8], records: &[u8], lengths: &[u16]) -> Checked
 
 // The checks of a writing but for the output's room.
 fn check_records(table: &[u8], records: &[u8], lengths: &[u16]) -> Checked
-    ensures { λ r. ⌜ r ≡ checkRecords (now (table .entry)) (now (records .entry)) (now (lengths .entry)) ⌝ }
+    ensures { λ r. ⌜ r ≡ checkRecords (old table) (old records) (old lengths) ⌝ }
 {
     if !term::check_table(table) {
         return Checked::Refused(Refusal::Table, 0);
@@ -408,7 +409,7 @@ fn check_records(table: &[u8], records: &[u8], lengths: &[u16]) -> Checked
 
 fn put_word(output: &mut [u8], at: usize, n: u16)
     requires { ⌜ at + wordBytes ≤ length (now output) ⌝ }
-    ensures { λ _. ⌜ now (output .exit) ≡ sets (now (output .entry)) at (word n) ⌝ }
+    ensures { λ _. ⌜ new output ≡ sets (old output) at (word n) ⌝ }
 {
     output[at] = (n % 256) as u8;
     output[at + 1] = (n / 256) as u8;
@@ -418,7 +419,7 @@ fn put_word(output: &mut [u8], at: usize, n: u16)
 fn put_directory(lengths: &[u16], output: &mut [u8])
     requires { ⌜ pastPairs (length (now lengths)) ≤ length (now output) ⌝ }
     requires { ⌜ pastPairs (length (now lengths)) + sum (now lengths) ≤ longestSheet ⌝ }
-    ensures { λ _. ⌜ now (output .exit) ≡ sets (now (output .entry)) wordBytes (directory (pastPairs (length (now (lengths .entry)))) (now (lengths .entry))) ⌝ }
+    ensures { λ _. ⌜ new output ≡ sets (old output) wordBytes (directory (pastPairs (length (old lengths))) (old lengths)) ⌝ }
 {
     let mut at = WORD + PAIR * lengths.len();
     let mut i: usize = 0;
@@ -433,7 +434,7 @@ fn put_directory(lengths: &[u16], output: &mut [u8])
 
 fn put_bytes(bytes: &[u8], output: &mut [u8], at: usize)
     requires { ⌜ at + length (now bytes) ≤ length (now output) ⌝ }
-    ensures { λ _. ⌜ now (output .exit) ≡ sets (now (output .entry)) at (now (bytes .entry)) ⌝ }
+    ensures { λ _. ⌜ new output ≡ sets (old output) at (old bytes) ⌝ }
 {
     let mut i: usize = 0;
     while i < bytes.len() {
@@ -447,7 +448,7 @@ fn put_sheet(records: &[u8], lengths: &[u16], output: &mut [u8])
     requires { ⌜ length (now records) ≡ sum (now lengths) ⌝ }
     requires { ⌜ sheetLength (length (now lengths)) (length (now records)) ≤ longestSheet ⌝ }
     requires { ⌜ sheetLength (length (now lengths)) (length (now records)) ≤ length (now output) ⌝ }
-    ensures { λ _. ⌜ now (output .exit) ≡ sets (now (output .entry)) 0 (sheetBytes (split (now (records .entry)) (now (lengths .entry)))) ⌝ }
+    ensures { λ _. ⌜ new output ≡ sets (old output) 0 (sheetBytes (split (old records) (old lengths))) ⌝ }
 {
     let n = lengths.len();
     put_word(output, 0, n as u16);
@@ -457,9 +458,9 @@ fn put_sheet(records: &[u8], lengths: &[u16], output: &mut [u8])
 
 // Writes the sheet of these records to the front of the output, or leaves the output as it is.
 pub fn write_sheet(table: &[u8], records: &[u8], lengths: &[u16], output: &mut [u8]) -> Writing
-    ensures answer { λ r. ⌜ r ≡ writing (now (table .entry)) (now (records .entry)) (now (lengths .entry)) (length (now (output .entry))) ⌝ }
-    ensures contents { λ _. ⌜ now (output .exit) ≡ outputAfter (now (table .entry)) (now (records .entry)) (now (lengths .entry)) (now (output .entry)) ⌝ }
-    ensures demand { λ r. ⌜ Demanded (now (table .entry)) (now (records .entry)) (now (lengths .entry)) (now (output .entry)) (writingNumber r) (writingLength r) (now (output .exit)) ⌝ }
+    ensures answer { λ r. ⌜ r ≡ writing (old table) (old records) (old lengths) (length (old output)) ⌝ }
+    ensures contents { λ _. ⌜ new output ≡ outputAfter (old table) (old records) (old lengths) (old output) ⌝ }
+    ensures demand { λ r. ⌜ Demanded (old table) (old records) (old lengths) (old output) (writingNumber r) (writingLength r) (new output) ⌝ }
 {
     let checked = check_records(table, records, lengths);
     if let Checked::Refused(r, i) = checked {

@@ -10,3 +10,4 @@ pub mod Extent
 pub mod Class
 pub mod Same
 pub mod Part
+pub mod Moment

@@ -4,6 +4,7 @@ ghost use mathlib.Core.Bool.{true, false};
 ghost use mathlib.Core.List.{[]};
 ghost use Prim.Native.Nat.{_≤_, _<_};
 ghost use lib.ListN.{length};
+ghost use Rattle.term.specs.Moment.{old};
 ghost use Rattle.term.specs.Table.{entryAccepted, tableAccepted};
 ghost use Rattle.term.specs.Code.{decodeOf};
 ghost use Rattle.term.specs.Refusal.{numberOf};
@@ -63,6 +64,8 @@ pub enum Refusal {
     Unread,
     Class,
     Unknown,
+    Length,
+    NotPlain,
 }
 
 // A part of a record: offset and length in bytes, and the number of its elements.
@@ -103,6 +106,8 @@ impl Refusal {
             Refusal::Unread => 13,
             Refusal::Class => 14,
             Refusal::Unknown => 15,
+            Refusal::Length => 17,
+            Refusal::NotPlain => 23,
         }
     }
 }
@@ -117,7 +122,7 @@ fn accepts_entry(b: u8) -> bool
 }
 
 pub fn check_table(table: &[u8]) -> bool
-    ensures { λ r. ⌜ r ≡ tableAccepted (now (table .entry)) ⌝ }
+    ensures { λ r. ⌜ r ≡ tableAccepted (old table) ⌝ }
 {
     if LARGEST_TABLE < table.len() {
         return false;
@@ -134,7 +139,7 @@ pub fn check_table(table: &[u8]) -> bool
 
 // The class of a symbol: its entry, or itself where the list has none.
 pub fn class_of(classes: &[u8], b: u8) -> u8
-    ensures { λ r. ⌜ r ≡ classOf (now (classes .entry)) b ⌝ }
+    ensures { λ r. ⌜ r ≡ classOf (old classes) b ⌝ }
 {
     let i = wide(b);
     if i < classes.len() {
@@ -145,7 +150,7 @@ pub fn class_of(classes: &[u8], b: u8) -> u8
 
 // Whether two symbols are of one class.
 pub fn same_symbol(classes: &[u8], x: u8, y: u8) -> bool
-    ensures { λ r. ⌜ r ≡ sameByte (now (classes .entry)) false x y ⌝ }
+    ensures { λ r. ⌜ r ≡ sameByte (old classes) false x y ⌝ }
 {
     if x == y {
         return true;
@@ -159,7 +164,7 @@ pub fn same_symbol(classes: &[u8], x: u8, y: u8) -> bool
 // Whether an entry is not above its own index and its own class, with the same table byte.
 fn accepts_class(table: &[u8], classes: &[u8], i: usize) -> bool
     requires { ⌜ (i < length (now classes)) × (length (now classes) ≡ length (now table)) ⌝ }
-    ensures { λ r. ⌜ r ≡ entryClassed (now (table .entry)) (now (classes .entry)) i ⌝ }
+    ensures { λ r. ⌜ r ≡ entryClassed (old table) (old classes) i ⌝ }
 {
     let c = wide(classes[i]);
     if i < c {
@@ -172,7 +177,7 @@ fn accepts_class(table: &[u8], classes: &[u8], i: usize) -> bool
 }
 
 pub fn check_classes(table: &[u8], classes: &[u8]) -> bool
-    ensures { λ r. ⌜ r ≡ classesAccepted (now (table .entry)) (now (classes .entry)) ⌝ }
+    ensures { λ r. ⌜ r ≡ classesAccepted (old table) (old classes) ⌝ }
 {
     if classes.len() != table.len() {
         return false;
@@ -208,7 +213,7 @@ fn kids_of(code: Code) -> u8
 
 // The entry of a code: its number of children, or 255 for a list.
 pub fn entry_of(table: &[u8], b: u8) -> u8
-    ensures { λ r. ⌜ r ≡ entryOf (now (table .entry)) b ⌝ }
+    ensures { λ r. ⌜ r ≡ entryOf (old table) b ⌝ }
 {
     let i = wide(b);
     if i < table.len() {
@@ -219,8 +224,8 @@ pub fn entry_of(table: &[u8], b: u8) -> u8
 
 // The number of bytes of the term or pattern at the start of s, or all of s where s ends before it.
 pub fn extent(table: &[u8], s: &[u8]) -> usize
-    ensures is { λ r. ⌜ r ≡ extentOf (now (table .entry)) (now (s .entry)) ⌝ }
-    ensures within { λ r. ⌜ r ≤ length (now (s .entry)) ⌝ }
+    ensures is { λ r. ⌜ r ≡ extentOf (old table) (old s) ⌝ }
+    ensures within { λ r. ⌜ r ≤ length (old s) ⌝ }
 {
     let mut at: usize = 0;
     // The earliest place at which it can end: each tree still to come takes a byte at least.
@@ -244,7 +249,7 @@ pub fn extent(table: &[u8], s: &[u8]) -> usize
 // Whether x and y have the same bytes.
 fn same_bytes(x: &[u8], y: &[u8]) -> bool
     requires { ⌜ length (now x) ≡ length (now y) ⌝ }
-    ensures { λ r. ⌜ r ≡ samePart [] [] true (now (x .entry)) (now (y .entry)) ⌝ }
+    ensures { λ r. ⌜ r ≡ samePart [] [] true (old x) (old y) ⌝ }
 {
     let mut at: usize = 0;
     while at < x.len() {
@@ -258,7 +263,7 @@ fn same_bytes(x: &[u8], y: &[u8]) -> bool
 
 // Whether two bytes of two parts are the same: symbols by class, a list's number of children as it is.
 fn same_byte(classes: &[u8], counting: bool, x: u8, y: u8) -> bool
-    ensures { λ r. ⌜ r ≡ sameByte (now (classes .entry)) counting x y ⌝ }
+    ensures { λ r. ⌜ r ≡ sameByte (old classes) counting x y ⌝ }
 {
     if counting {
         return x == y;
@@ -267,8 +272,8 @@ fn same_byte(classes: &[u8], counting: bool, x: u8, y: u8) -> bool
 }
 
 // Whether the byte after x is a list's number of children, where x is one or not.
-fn count_next(table: &[u8], counting: bool, x: u8) -> bool
-    ensures { λ r. ⌜ r ≡ countNext (now (table .entry)) counting x ⌝ }
+pub fn count_next(table: &[u8], counting: bool, x: u8) -> bool
+    ensures { λ r. ⌜ r ≡ countNext (old table) counting x ⌝ }
 {
     if counting {
         return false;
@@ -282,8 +287,8 @@ fn count_next(table: &[u8], counting: bool, x: u8) -> bool
 
 // Whether two parts of records are the same up to class.
 pub fn same(table: &[u8], classes: &[u8], x: &[u8], y: &[u8]) -> bool
-    ensures is { λ r. ⌜ r ≡ samePart (now (table .entry)) (now (classes .entry)) false (now (x .entry)) (now (y .entry)) ⌝ }
-    ensures demand { λ r. ⌜ Compares (now (table .entry)) (now (classes .entry)) (now (x .entry)) (now (y .entry)) r ⌝ }
+    ensures is { λ r. ⌜ r ≡ samePart (old table) (old classes) false (old x) (old y) ⌝ }
+    ensures demand { λ r. ⌜ Compares (old table) (old classes) (old x) (old y) r ⌝ }
 {
     if x.len() != y.len() {
         return false;
@@ -331,7 +336,7 @@ impl Part {
 
 // The bytes of a part of a record: none where it does not lie within the record.
 pub fn bytes_of(bytes: &[u8], p: Part) -> &[u8]
-    ensures { λ r. ⌜ now r ≡ partBytes (now (bytes .entry)) p ⌝ }
+    ensures { λ r. ⌜ now r ≡ partBytes (old bytes) p ⌝ }
 {
     let start = p.offset as usize;
     let end = start + p.length as usize;

@@ -9,6 +9,7 @@ use crate::shown::Shown;
 use crate::text;
 use matcher::match_one_with_classes;
 use matcher::next_with_classes;
+use plain::match_plain_with_classes;
 use rules::match_rules_with_classes;
 use sheet::Writing;
 
@@ -25,6 +26,8 @@ const MATCH_CHECKED: usize = 2;
 const MATCH_RULES_CHECKED: usize = 3;
 
 const NEXT: usize = 4;
+
+const MATCH_PLAIN: usize = 5;
 
 fn of_part(name: &[u8], part: &[u8]) -> Shown {
     let call = text::place_among(b"check_table check_sheet", name);
@@ -93,7 +96,7 @@ fn match_checked(
 }
 
 // A call of the match that brings no class list. The given lengths are those of the call for the next answer.
-fn match_plain(
+fn match_by_symbol(
     call: usize,
     table: &[u8],
     rule: &[u8],
@@ -114,6 +117,10 @@ fn match_plain(
         MATCH_RULES => {
             let first = rules::match_rules(table, rule, record, allowance, answer);
             Answered::BySheet(first)
+        }
+        MATCH_PLAIN => {
+            let one = plain::match_plain(table, rule, record, answer);
+            Answered::ByRule(one)
         }
         _ => match_checked(call, table, &table[..0], rule, record, allowance, answer),
     }
@@ -143,6 +150,10 @@ fn match_by_class(
             let first = match_rules_with_classes(table, classes, rule, record, allowance, answer);
             Answered::BySheet(first)
         }
+        MATCH_PLAIN => {
+            let one = match_plain_with_classes(table, classes, rule, record, answer);
+            Answered::ByRule(one)
+        }
         _ => match_checked(call, table, classes, rule, record, allowance, answer),
     }
 }
@@ -162,11 +173,19 @@ fn match_brought(
     if brings {
         return match_by_class(call, table, classes, rule, record, given, allowance, answer);
     }
-    match_plain(call, table, rule, record, given, allowance, answer)
+    match_by_symbol(call, table, rule, record, given, allowance, answer)
 }
 
 fn allowance(field: &[u8]) -> u32 {
     (text::number(field) % text::UNREAD) as u32
+}
+
+// Where the width of the buffer stands among a call's numbers: the plain tier takes no allowance.
+fn width_place(call: usize) -> usize {
+    if call == MATCH_PLAIN {
+        return 0;
+    }
+    1
 }
 
 // The same with an answer buffer. The numbers are the allowance and the width of the buffer.
@@ -182,7 +201,7 @@ fn of_match(
 ) -> Shown {
     let mut buffer = [shown::UNTOUCHED; shown::BUFFER];
     let allowance = allowance(text::field(numbers, 0));
-    let width = text::number(text::field(numbers, 1));
+    let width = text::number(text::field(numbers, width_place(call)));
     if shown::BUFFER < width {
         return shown::nothing();
     }
@@ -299,13 +318,27 @@ fn without_given(call: usize, fields: &[u8]) -> Shown {
     shown::nothing()
 }
 
+// A call of the plain tier has the width alone after the record.
+fn without_allowance(fields: &[u8]) -> Shown {
+    if text::fits(fields, b"bbbn") {
+        return with_bytes(MATCH_PLAIN, false, fields, &[], text::after(fields, 3));
+    }
+    if text::fits(fields, b"bbbbn") {
+        return with_bytes(MATCH_PLAIN, true, fields, &[], text::after(fields, 4));
+    }
+    shown::nothing()
+}
+
 fn with_match(name: &[u8], fields: &[u8]) -> Shown {
     let call = text::place_among(
-        b"match_one match_rules match_checked match_rules_checked next",
+        b"match_one match_rules match_checked match_rules_checked next match_plain",
         name,
     );
     if call == NEXT {
         return with_given(fields);
+    }
+    if call == MATCH_PLAIN {
+        return without_allowance(fields);
     }
     without_given(call, fields)
 }
@@ -394,6 +427,38 @@ fn with_output(name: &[u8], fields: &[u8], stated: &[u8]) -> Shown {
     of_output(fields, text::field(stated, 3))
 }
 
+// Moves bytes to the other form into an output of so many bytes, and compares it with what is stated.
+fn of_move(name: &[u8], table: &[u8], bytes: &[u8], room: usize, stated: &[u8]) -> Shown {
+    let mut output = shown::blank();
+    if text::ROOM < room {
+        return shown::nothing();
+    }
+    let call = text::place_among(b"store restore", name);
+    match call {
+        0 => {
+            let there = stored::store(table, bytes, &mut output[0..room]);
+            shown::show_move(there, &output, stated)
+        }
+        1 => {
+            let back = stored::restore(table, bytes, &mut output[0..room]);
+            shown::show_move(back, &output, stated)
+        }
+        _ => shown::nothing(),
+    }
+}
+
+fn with_move(name: &[u8], fields: &[u8], stated: &[u8]) -> Shown {
+    let mut table_space = text::space();
+    let mut space = text::space();
+    if !text::fits(fields, b"bbn") {
+        return shown::nothing();
+    }
+    let table = text::bytes(fields, 0, &mut table_space);
+    let bytes = text::bytes(fields, 1, &mut space);
+    let room = text::number(text::field(fields, 2));
+    of_move(name, table, bytes, room, text::field(stated, 3))
+}
+
 // A call on one part or several.
 fn with_any_parts(name: &[u8], fields: &[u8]) -> Shown {
     let part = with_part(name, fields);
@@ -420,6 +485,10 @@ pub fn answer(name: &[u8], fields: &[u8], stated: &[u8]) -> Shown {
     let found = with_match(name, fields);
     if 0 < found.length {
         return found;
+    }
+    let moved = with_move(name, fields, stated);
+    if 0 < moved.length {
+        return moved;
     }
     with_output(name, fields, stated)
 }

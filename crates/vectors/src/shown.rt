@@ -6,6 +6,7 @@ use reader::Read;
 use rules::RuleAnswer;
 use sheet::Checked;
 use sheet::Place;
+use stored::Move;
 
 // The numbers of an entry, the entries of an answer, and those of the buffer around it.
 const ENTRY: usize = search::ENTRY_WIDTH;
@@ -254,23 +255,26 @@ pub fn blank() -> [u8; text::ROOM] {
     [BLANK; text::ROOM]
 }
 
-// A refused writing leaves the output.
-pub fn show_unwritten(number: u8, index: usize, output: &[u8; text::ROOM]) -> Shown {
-    let refused = show_refused(number, index);
+// What is refused leaves the output.
+fn show_unchanged(refused: Shown, output: &[u8; text::ROOM]) -> Shown {
     if check::same(output, &blank()) {
         return refused;
     }
     put(refused, b" changed")
 }
 
-// Whether the output is the stated sheet, of this length, and past it as it was.
+pub fn show_unwritten(number: u8, index: usize, output: &[u8; text::ROOM]) -> Shown {
+    show_unchanged(show_refused(number, index), output)
+}
+
+// Whether the output is what is stated, of this length, and past it as it was.
 fn is_stated(output: &[u8; text::ROOM], length: usize, stated: &[u8]) -> bool {
     let mut expected = blank();
     let size = text::unpack(stated, &mut expected);
     size == length && check::same(output, &expected)
 }
 
-// The sheet that was written, in the words stated where those stand for it.
+// What was written, in the words stated where those stand for it.
 pub fn show_written(length: usize, output: &[u8; text::ROOM], stated: &[u8]) -> Shown {
     let written = show_number(b" written ", length as u64);
     if is_stated(output, length, stated) {
@@ -280,4 +284,12 @@ pub fn show_written(length: usize, output: &[u8; text::ROOM], stated: &[u8]) -> 
         put_bytes(written, text::start(output, length)),
         b", another output",
     )
+}
+
+// The other form of a record, or why it is refused.
+pub fn show_move(moved: Move, output: &[u8; text::ROOM], stated: &[u8]) -> Shown {
+    match moved {
+        Move::Written(length) => show_written(length, output, stated),
+        Move::Refused(r) => show_unchanged(show_number(b" refused ", r.number() as u64), output),
+    }
 }

@@ -1,6 +1,7 @@
 // The fields of a line and what they stand for.
 ghost use Prim.Native.Nat.{_≤_, _<_};
 ghost use lib.ListN.{length};
+ghost use Rattle.term.specs.Moment.{old};
 
 // The most bytes, and the most numbers of a list, that a field stands for.
 pub const ROOM: usize = 40960;
@@ -25,7 +26,7 @@ struct Piece {
 
 // The number of bytes of s before the first b, or all of s.
 pub fn before(s: &[u8], b: u8) -> usize
-    ensures { λ r. ⌜ r ≤ length (now (s .entry)) ⌝ }
+    ensures { λ r. ⌜ r ≤ length (old s) ⌝ }
 {
     let mut n: usize = 0;
     while n < s.len() {
@@ -69,8 +70,8 @@ pub fn head(s: &[u8], b: u8) -> &[u8] {
 
 // The number of bytes of s through the first b, or all of s.
 pub fn through(s: &[u8], b: u8) -> usize
-    ensures within { λ r. ⌜ r ≤ length (now (s .entry)) ⌝ }
-    ensures moves { λ r. ⌜ (0 < length (now (s .entry)) → 0 < r) ⌝ }
+    ensures within { λ r. ⌜ r ≤ length (old s) ⌝ }
+    ensures moves { λ r. ⌜ (0 < length (old s) → 0 < r) ⌝ }
 {
     let n = before(s, b);
     if n < s.len() { n + 1 } else { n }

@@ -1,4 +1,5 @@
-//! `bench [--quick] [FILE]`: the proved library beside the independent implementation.
+//! `bench [--quick] [FILE]`: the proved library beside both variants of the independent
+//! implementation and, where the machine has it, beside Maude.
 //!
 //! Prints a table. With a markdown file, writes the table into it between the lines `<!-- table -->`
 //! and `<!-- end of table -->`, and a plot beside it as `benchmark.svg`.
@@ -7,6 +8,7 @@
 mod before;
 mod date;
 mod measure;
+mod peer;
 mod plot;
 mod table;
 mod workloads;
@@ -16,7 +18,7 @@ use measure::Effort;
 use std::{env, fs, path::Path, process::ExitCode};
 
 const USAGE: &str = "usage: bench [--quick] [FILE]
-       bench --run proved|independent|before|now WORKLOAD N RUNS";
+       bench --run proved|stepping|shortcuts|before|now WORKLOAD N RUNS";
 
 fn main() -> ExitCode {
     let arguments: Vec<String> = env::args().skip(1).collect();
@@ -43,7 +45,8 @@ fn table_and_plot(effort: Effort, file: Option<&Path>) -> Result<(), String> {
     let evidence = proved::evidence()?;
     let page = file.map(read_page).transpose()?;
     let measured = measure::measurements(effort);
-    let table = format!("{}, {evidence}.\n\n{}", date::today(), table::markdown(&measured));
+    let tables = table::markdown(&measured, peer::maude()?.as_ref());
+    let table = format!("{}, {evidence}.\n\n{tables}", date::today());
     print!("{table}");
     let (Some(file), Some((before, after))) = (file, page) else { return Ok(()) };
     write(file, &format!("{before}{TABLE}\n\n{table}\n{END}{after}"))?;
@@ -77,7 +80,8 @@ fn run_one(library: &str, name: &str, n: &str, runs: &str) -> Result<(), String>
             let both = before::having(workload.call).ok_or("no library before has the call")?;
             both[usize::from(library == "now")]
         }
-        "independent" => &reference::Reference,
+        "stepping" => &reference::Reference,
+        "shortcuts" => &reference::Shortcuts,
         _ => return Err(USAGE.into()),
     };
     measure::timed(workload, library, runs);

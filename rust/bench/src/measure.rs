@@ -4,7 +4,7 @@ use crate::before;
 use crate::workloads::{self, Workload};
 use interface::Library;
 use proved::Proved;
-use reference::Reference;
+use reference::{Reference, Shortcuts};
 use std::{hint::black_box, time::Instant};
 
 /// How many rounds, and how long a workload runs in each, in ns.
@@ -25,30 +25,36 @@ pub struct Measured {
     pub proved: f64,
     /// Those of the library before a change and of the present one, linked alike.
     pub change: Option<[f64; 2]>,
-    pub independent: f64,
+    /// That of the independent implementation that tries every length.
+    pub stepping: f64,
+    /// That of the independent implementation with shortcuts.
+    pub shortcuts: f64,
 }
 
 impl Measured {
     fn new(workload: Workload) -> Self {
-        let independent = timed(&workload, &Reference, 3);
-        let change = before::having(workload.call).map(|_| [f64::INFINITY; 2]);
-        Measured { workload, proved: f64::INFINITY, change, independent }
+        let first = |library: &dyn Library| timed(&workload, library, 3);
+        let (proved, stepping, shortcuts) = (first(&Proved), first(&Reference), first(&Shortcuts));
+        let change = before::having(workload.call).map(|both| both.map(first));
+        Measured { proved, change, stepping, shortcuts, workload }
     }
 
     fn round(&mut self, batch: f64) {
-        let runs = (batch / self.independent).ceil() as u64;
-        self.proved = self.proved.min(timed(&self.workload, &Proved, runs));
+        let better = |best: &mut f64, library: &dyn Library| {
+            let runs = (batch / *best).ceil() as u64;
+            *best = best.min(timed(&self.workload, library, runs));
+        };
+        better(&mut self.proved, &Proved);
         if let (Some(best), Some(both)) = (&mut self.change, before::having(self.workload.call)) {
-            for (best, library) in best.iter_mut().zip(both) {
-                *best = best.min(timed(&self.workload, library, runs));
-            }
+            best.iter_mut().zip(both).for_each(|(best, library)| better(best, library));
         }
-        self.independent = self.independent.min(timed(&self.workload, &Reference, runs));
+        better(&mut self.stepping, &Reference);
+        better(&mut self.shortcuts, &Shortcuts);
     }
 
-    /// The proved library's cost over that of the independent implementation.
-    pub fn ratio(&self) -> f64 {
-        self.proved / self.independent
+    /// The three costs.
+    pub fn costs(&self) -> [f64; 3] {
+        [self.proved, self.stepping, self.shortcuts]
     }
 
     /// The present library's cost over that of the library before.

@@ -7,8 +7,12 @@ const PANEL: (f64, f64) = (240.0, 190.0);
 const TOP: f64 = 40.0;
 /// Where a panel's axes lie within it: left, top, width, height.
 const AXES: (f64, f64, f64, f64) = (50.0, 24.0, 175.0, 125.0);
-const PROVED: &str = "#1b6ca8";
-const INDEPENDENT: &str = "#c0392b";
+/// The implementations in the order of their costs, each with its colour and its dashes.
+const LINES: [(&str, &str, &str); 3] = [
+    ("proved (solid)", "#1b6ca8", ""),
+    ("stepping (dashed)", "#c0392b", "5 4"),
+    ("shortcuts (dotted)", "#2e7d32", "1 3"),
+];
 
 /// The plot as SVG.
 pub fn svg(measured: &[Measured]) -> String {
@@ -21,8 +25,9 @@ pub fn svg(measured: &[Measured]) -> String {
          <rect width=\"100%\" height=\"100%\" fill=\"white\"/>\n",
     );
     svg += &text((12.0, 22.0), "ns a run over n:", "black");
-    svg += &text((110.0, 22.0), "proved (solid)", PROVED);
-    svg += &text((200.0, 22.0), "independent (dashed)", INDEPENDENT);
+    for (i, (name, colour, _)) in LINES.into_iter().enumerate() {
+        svg += &text((110.0 + 120.0 * i as f64, 22.0), name, colour);
+    }
     for (i, group) in panels.iter().enumerate() {
         let (column, row) = ((i % COLUMNS) as f64, (i / COLUMNS) as f64);
         svg += &panel(group, (column * PANEL.0, row * PANEL.1 + TOP));
@@ -32,13 +37,15 @@ pub fn svg(measured: &[Measured]) -> String {
 
 fn panel(group: &[Measured], corner: (f64, f64)) -> String {
     let axes = Axes::new(group, corner);
-    let points = |cost: fn(&Measured) -> f64| {
-        group.iter().map(|one| axes.at(one.workload.n as f64, cost(one))).collect::<Vec<_>>()
+    let points = |which: usize| {
+        let point = |one: &Measured| axes.at(one.workload.n as f64, one.costs()[which]);
+        group.iter().map(point).collect::<Vec<_>>()
     };
+    let lines = LINES.iter().enumerate();
+    let lines = lines.map(|(i, (_, colour, dashes))| line(&points(i), colour, dashes));
     text((axes.left, axes.top - 8.0), group[0].workload.name, "black")
         + &axes.grid(group)
-        + &line(&points(|one| one.proved), PROVED, "")
-        + &line(&points(|one| one.independent), INDEPENDENT, "5 4")
+        + &lines.collect::<String>()
 }
 
 /// A panel's axes: where they lie, and the logarithms at which they start and end.
@@ -58,7 +65,7 @@ impl Axes {
             (low, high.max(low + 0.1))
         };
         let n = span(&mut group.iter().map(|one| one.workload.n as f64));
-        let cost = span(&mut group.iter().flat_map(|one| [one.proved, one.independent]));
+        let cost = span(&mut group.iter().flat_map(Measured::costs));
         let (left, top) = (corner.0 + AXES.0, corner.1 + AXES.1);
         Axes { left, top, n, cost: (cost.0.floor(), cost.1.ceil()) }
     }

@@ -1,6 +1,6 @@
 //! The named workloads.
 
-use interface::{sheet_of, Answers, Library, Word, ANSWER, LIST, RECORD_LIMIT};
+use interface::{sheet_of, Answers, Library, Word, ANSWER, LIST, RECORD_LIMIT, STORED_LIMIT};
 use notation::Symbols;
 use reference::Reference;
 use std::{cell::RefCell, iter};
@@ -27,6 +27,10 @@ pub fn all() -> Vec<Workload> {
     let mut all = vec![smallest_call()];
     all.extend(lists.map(all_different).map(Match::search));
     all.extend(lists.map(list_search).map(Match::search));
+    all.extend(STEPS.map(all_alike).map(Match::search));
+    all.extend(STEPS.map(last_differs).map(Match::search));
+    all.extend([10, 40, 120].map(terms_of_five).map(Match::search));
+    all.extend([10, 40, 120].map(three_runs).map(Match::search));
     all.extend([4, 8, 16, 31].map(deep_term).map(Match::search));
     all.extend([4, 8, 16, 31, 255].map(deep_complement).map(Match::search));
     all.extend([1, 32, 255].map(long_record_complement));
@@ -40,6 +44,8 @@ pub fn all() -> Vec<Workload> {
     all.extend(bytes.map(read_entry));
     all.extend(bytes.map(write_sheet));
     all.extend(with_classes());
+    all.extend(stored());
+    all.extend(plains());
     all
 }
 
@@ -59,11 +65,35 @@ fn with_classes() -> Vec<Workload> {
     all
 }
 
-/// The start of the matches on lists of those lengths between which the time of a step is compared.
+/// Plain rules by the plain tier, each beside the full search on the same input.
+fn plains() -> Vec<Workload> {
+    let lists = [10, 20, 80, 250];
+    let mut pairs: Vec<[Workload; 2]> = Vec::new();
+    let symbol = Match::of("", 1, "open", "shut");
+    pairs.push(symbol.beside(["plain: a symbol that differs", "full: a symbol that differs"]));
+    let row = Match::of("", 3, "row(?0, open)", "row(held, open)");
+    pairs.push(row.beside(["plain: row(?0, open)", "full: row(?0, open)"]));
+    for n in lists {
+        let list = |last: &str| format!("gates({}{last})", "open, ".repeat(n - 1));
+        let one = Match::of("", n, "gates(@0, held)", &list("held"));
+        pairs.push(one.beside(["plain: run name, then a symbol", "full: run name, then a symbol"]));
+        let one = Match::of("", n, "gates(held, @0)", &list("held"));
+        pairs.push(one.beside(["plain: first symbol differs", "full: first symbol differs"]));
+        let one = Match::of("", n, &list("?0"), &list("held"));
+        pairs.push(one.beside(["plain: a child pattern each", "full: a child pattern each"]));
+        let one = Match::of("", n, "gates(open, shut)", &list("held"));
+        pairs.push(one.beside(["plain: another number", "full: another number"]));
+    }
+    pairs.into_iter().flatten().collect()
+}
+
+/// The lengths of lists between which the time of a step is compared.
+const STEPS: [usize; 4] = [10, 40, 120, 255];
+
+/// The start of the matches on lists of those lengths.
 pub fn starts() -> Vec<Workload> {
-    let lists = [10, 40, 120];
-    let matches = lists.map(all_different).into_iter().chain(lists.map(list_search));
-    matches.map(Match::start).collect()
+    let matches = [all_different, list_search, all_alike, last_differs].map(|of| STEPS.map(of));
+    matches.into_iter().flatten().map(Match::start).collect()
 }
 
 fn symbols() -> Symbols {
@@ -112,6 +142,19 @@ impl Match {
             Some(classes) => Reference.find_with_classes(table, classes, pattern, record, u32::MAX),
         };
         self.call(u32::MAX, ("step", outcome.count))
+    }
+
+    /// The call of the plain tier, and that of the full search on the same input.
+    fn beside(self, [plain, full]: [&'static str; 2]) -> [Workload; 2] {
+        let Match { n, table, pattern, record, .. } = &self;
+        let (n, answer) = (*n, RefCell::new([0; ANSWER]));
+        let (table, pattern, record) = (table.clone(), pattern.clone(), record.clone());
+        let run = Box::new(move |library: &dyn Library| {
+            library.match_plain(&table, &pattern, &record, &mut *answer.borrow_mut());
+        });
+        let call = "qonveshir_match_plain";
+        let tier = Workload { name: plain, n, call, unit: "call", units: 1, run };
+        [tier, Match { name: full, ..self }.call(u32::MAX, ("call", 1))]
     }
 
     /// Every check and the start of the search, which has no allowance for a step.
@@ -169,6 +212,27 @@ fn all_different(n: usize) -> Match {
 fn list_search(n: usize) -> Match {
     let record = format!("gates({}shut)", "open, ".repeat(n - 1));
     Match::of("list search with a complement", n, "gates(@0, !open, @1)", &record)
+}
+
+fn all_alike(n: usize) -> Match {
+    let record = format!("gates({})", vec!["open"; n].join(", "));
+    Match::of("list search, all alike", n, "gates(@0, shut, @1)", &record)
+}
+
+fn last_differs(n: usize) -> Match {
+    let record = format!("gates({}shut)", "open, ".repeat(n - 1));
+    Match::of("list search, the last differs", n, "gates(@0, shut, @1)", &record)
+}
+
+/// The same with terms of five nodes before the last.
+fn terms_of_five(n: usize) -> Match {
+    let record = format!("gates({}shut)", "row(gate(open), gate(held)), ".repeat(n - 1));
+    Match::of("list search in terms of 5", n, "gates(@0, shut, @1)", &record)
+}
+
+fn three_runs(n: usize) -> Match {
+    let record = format!("gates({})", vec!["open"; n].join(", "));
+    Match::of("three runs", n, "gates(@0, @1, shut, @2)", &record)
 }
 
 fn deep_term(n: usize) -> Match {
@@ -380,4 +444,53 @@ fn write_sheet(n: usize) -> Workload {
     });
     let call = "qonveshir_write_sheet";
     Workload { name: "writer", n, call, unit: "byte", units: n as u64, run }
+}
+
+/// Moves to the stored form and back, of lists within a list and of lists nested 32 deep.
+fn stored() -> Vec<Workload> {
+    let bytes = [256, 1_024, 4_096];
+    let mut all = Vec::new();
+    all.extend(bytes.map(|n| store("store, lists within a list", full(n))));
+    all.extend(bytes.map(|n| store("store, nesting 32", nested(n))));
+    all.extend(bytes.map(|n| restore("restore, lists within a list", full(n))));
+    all.extend(bytes.map(|n| restore("restore, nesting 32", nested(n))));
+    all
+}
+
+/// A record of n bytes, of 31 lists each within the one before, with as many leaves in each.
+fn nested(n: usize) -> Vec<u8> {
+    let table = symbols().table().to_vec();
+    let list = table.iter().position(|&children| children == LIST).expect("there is a list") as u8;
+    let (lists, leaves) = (31, n - 2 * 31);
+    let mut record = Vec::new();
+    for level in 0..lists {
+        let own = leaves / lists + usize::from(level < leaves % lists);
+        let last = usize::from(level + 1 == lists);
+        record.extend([list, (own + 1 - last) as u8]);
+        record.extend(vec![0; own]);
+    }
+    record
+}
+
+fn store(name: &'static str, record: Vec<u8>) -> Workload {
+    let (table, n) = (symbols().table().to_vec(), record.len());
+    let output = RefCell::new(vec![0; STORED_LIMIT]);
+    let run = Box::new(move |library: &dyn Library| {
+        let outcome = library.store(&table, &record, &mut output.borrow_mut());
+        debug_assert_eq!(outcome.number, 0);
+    });
+    Workload { name, n, call: "qonveshir_store", unit: "byte", units: n as u64, run }
+}
+
+fn restore(name: &'static str, record: Vec<u8>) -> Workload {
+    let (table, n) = (symbols().table().to_vec(), record.len());
+    let mut stored = vec![0; STORED_LIMIT];
+    let length = Reference.store(&table, &record, &mut stored).count as usize;
+    stored.truncate(length);
+    let output = RefCell::new(vec![0; RECORD_LIMIT]);
+    let run = Box::new(move |library: &dyn Library| {
+        let outcome = library.restore(&table, &stored, &mut output.borrow_mut());
+        debug_assert_eq!(outcome.number, 0);
+    });
+    Workload { name, n, call: "qonveshir_restore", unit: "byte", units: n as u64, run }
 }

@@ -11,6 +11,8 @@ pub enum Call {
     MatchWithClasses,
     Next,
     NextWithClasses,
+    Plain,
+    PlainWithClasses,
     Rules,
     RulesWithClasses,
     Write,
@@ -18,14 +20,18 @@ pub enum Call {
     CheckRules,
     CheckStates,
     Cost,
+    Store,
+    Restore,
 }
 
 /// The calls in their order, with their names.
-pub const CALLS: [(Call, &str); 11] = [
+pub const CALLS: [(Call, &str); 15] = [
     (Call::Match, "match"),
     (Call::MatchWithClasses, "match_with_classes"),
     (Call::Next, "next"),
     (Call::NextWithClasses, "next_with_classes"),
+    (Call::Plain, "match_plain"),
+    (Call::PlainWithClasses, "match_plain_with_classes"),
     (Call::Rules, "match_rules"),
     (Call::RulesWithClasses, "match_rules_with_classes"),
     (Call::Write, "write_sheet"),
@@ -33,6 +39,8 @@ pub const CALLS: [(Call, &str); 11] = [
     (Call::CheckRules, "check_rules"),
     (Call::CheckStates, "check_states"),
     (Call::Cost, "cost"),
+    (Call::Store, "store"),
+    (Call::Restore, "restore"),
 ];
 
 impl Call {
@@ -71,6 +79,24 @@ pub enum Kind {
     OneLengthLess,
     OneLengthMore,
     AnotherLength,
+    NoneUnder,
+    NoneAt,
+    NoneOver,
+    OneUnder,
+    OneAt,
+    OneOver,
+    ManyUnder,
+    ManyAt,
+    ManyOver,
+    BeforeASymbol,
+    BeforeAName,
+    BeforeARun,
+    BeforeNothing,
+    ManyElements,
+    EmptyRun,
+    SameAsFull,
+    TwiceOrTwo,
+    Complements,
 }
 
 /// A call and its inputs.
@@ -115,7 +141,7 @@ impl Case {
     /// Runs the call; the same `fill` gives the same margins and buffers.
     pub fn run(&self, library: &dyn Library, margin: usize, fill: u64) -> Shown {
         let rng = &mut Rng::new(fill, 0);
-        let writes = self.call == Call::Write;
+        let writes = matches!(self.call, Call::Write | Call::Store | Call::Restore);
         let (output, answer) = if writes { (self.room, 0) } else { (0, self.room) };
         let mut memory = Memory {
             margin,
@@ -156,6 +182,10 @@ impl Case {
             (Call::NextWithClasses, [t, c, p, r]) => {
                 library.next_with_classes(t, c, p, r, lengths, n, answer)
             }
+            (Call::Plain, [t, p, r]) => library.match_plain(t, p, r, answer),
+            (Call::PlainWithClasses, [t, c, p, r]) => {
+                library.match_plain_with_classes(t, c, p, r, answer)
+            }
             (Call::Rules, [t, s, r]) => library.match_rules(t, s, r, n, answer),
             (Call::RulesWithClasses, [t, c, s, r]) => {
                 library.match_rules_with_classes(t, c, s, r, n, answer)
@@ -165,6 +195,8 @@ impl Case {
             (Call::CheckRules, [t, s]) => library.check_rules(t, s),
             (Call::CheckStates, [t, s]) => library.check_states(t, s),
             (Call::Cost, [t, p]) => library.cost(t, p),
+            (Call::Store, [t, r]) => library.store(t, r, output),
+            (Call::Restore, [t, r]) => library.restore(t, r, output),
             _ => panic!("{self}: a wrong number of inputs"),
         })
     }

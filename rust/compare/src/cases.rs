@@ -4,35 +4,45 @@ use crate::case::{Call, Case, Kind};
 use crate::classes::Classes;
 use crate::make::{damaged_sheet, table, Maker};
 use crate::nexts::Search;
+use crate::plains;
 use crate::rng::Rng;
+use crate::skips::skip_case;
+use crate::stored;
 use interface::{sheet_of, Library, Outcome, Word, ANSWER, SHEET_LIMIT};
 
 /// A case; `library` gives the count that allowances are taken around.
 pub fn case(rng: &mut Rng, library: &dyn Library) -> Case {
     let table = table(rng);
-    match rng.below(104) {
+    match rng.below(147) {
         0..=22 => match_case(rng, table, library),
         23..=38 => match_with_classes_case(rng, table, library),
         39..=49 => next_case(rng, table, library),
-        50..=60 => next_with_classes_case(rng, table, library),
-        61..=71 => rules_case(rng, table, library),
-        72..=82 => rules_with_classes_case(rng, table, library),
-        83..=88 => write_case(rng, table),
-        89..=92 => entry_case(rng, table),
-        93..=96 => {
+        50..=63 => next_with_classes_case(rng, table, library),
+        64..=74 => rules_case(rng, table, library),
+        75..=85 => rules_with_classes_case(rng, table, library),
+        86..=91 => write_case(rng, table),
+        92..=95 => entry_case(rng, table),
+        96..=99 => {
             let rules = rules(rng, &table, &[0]);
             let sheet = perhaps_damaged(rng, sheet_of(&rules));
             Case::new(Call::CheckRules, vec![table, sheet])
         }
-        97..=99 => {
+        100..=102 => {
             let records = records(rng, &table);
             let sheet = perhaps_damaged(rng, sheet_of(&records));
             Case::new(Call::CheckStates, vec![table, sheet])
         }
-        _ => {
+        103..=106 => {
             let (pattern, _) = pair(rng, &table, library);
             Case::new(Call::Cost, vec![table, pattern])
         }
+        107..=122 => match skip_case(rng, table.clone()) {
+            Some(case) => case,
+            None => match_case(rng, table, library),
+        },
+        123..=130 => stored::moved(rng, table, library),
+        131..=138 => plain_case(rng, table, library),
+        _ => plain_with_classes_case(rng, table, library),
     }
 }
 
@@ -49,6 +59,24 @@ fn match_with_classes_case(rng: &mut Rng, table: Vec<u8>, library: &dyn Library)
     let UpToClass { classes, pattern, record, kinds, .. } = made.damaged(rng, kinds);
     let inputs = vec![classes.table, classes.list, pattern, record];
     Case { number, kinds, room: room(rng), ..Case::new(Call::MatchWithClasses, inputs) }
+}
+
+fn plain_case(rng: &mut Rng, table: Vec<u8>, library: &dyn Library) -> Case {
+    let (pattern, record) = plains::pair(rng, &table, library);
+    let full = library.find(&table, &pattern, &record, MOST);
+    let kinds = plains::kinds(&table, &pattern, &record, full);
+    let case = Case::new(Call::Plain, vec![table, pattern, record]);
+    Case { kinds, room: room(rng), ..case }
+}
+
+fn plain_with_classes_case(rng: &mut Rng, table: Vec<u8>, library: &dyn Library) -> Case {
+    let made = up_to_class(rng, table, library, plains::pair);
+    let Classes { table, list } = &made.classes;
+    let full = library.find_with_classes(table, list, &made.pattern, &made.record, MOST);
+    let kinds = plains::kinds(table, &made.pattern, &made.record, full);
+    let UpToClass { classes, pattern, record, kinds, .. } = made.damaged(rng, kinds);
+    let inputs = vec![classes.table, classes.list, pattern, record];
+    Case { kinds, room: room(rng), ..Case::new(Call::PlainWithClasses, inputs) }
 }
 
 fn next_case(rng: &mut Rng, table: Vec<u8>, library: &dyn Library) -> Case {
@@ -95,7 +123,7 @@ impl UpToClass {
 }
 
 /// A pattern and a record over a table.
-type Pair = (Vec<u8>, Vec<u8>);
+pub type Pair = (Vec<u8>, Vec<u8>);
 
 /// A match up to class, of a pair that is made so.
 fn up_to_class(
@@ -123,7 +151,7 @@ fn up_to_class(
 }
 
 /// A pattern and a record, any.
-fn pair(rng: &mut Rng, table: &[u8], library: &dyn Library) -> Pair {
+pub fn pair(rng: &mut Rng, table: &[u8], library: &dyn Library) -> Pair {
     if rng.chance(4) {
         return long_search(rng, table, library);
     }
@@ -266,7 +294,7 @@ fn perhaps_damaged(rng: &mut Rng, sheet: Vec<u8>) -> Vec<u8> {
 }
 
 /// The length of an answer buffer.
-fn room(rng: &mut Rng) -> usize {
+pub fn room(rng: &mut Rng) -> usize {
     match rng.below(40) {
         0 => rng.below(ANSWER),
         1 => ANSWER - 1,

@@ -22,7 +22,7 @@ impl Classes {
                 table.push(rng.pick(&table));
             }
         }
-        let mut classes = Classes { list: (0..table.len()).map(|i| i as u8).collect(), table };
+        let mut classes = Self::own(table);
         let joined = rng.pick(&[0, 40, 80]);
         for symbol in 0..classes.table.len() {
             let like: Vec<usize> = classes.like(symbol).filter(|&other| other < symbol).collect();
@@ -31,6 +31,11 @@ impl Classes {
             }
         }
         classes
+    }
+
+    /// The class list in which each symbol is its own class.
+    pub fn own(table: Vec<u8>) -> Self {
+        Classes { list: (0..table.len()).map(|i| i as u8).collect(), table }
     }
 
     /// Whether each symbol is its own class, or some share one.
@@ -54,8 +59,27 @@ impl Classes {
     }
 
     /// Whether two bytes are symbols of one class.
-    fn same(&self, one: usize, other: usize) -> bool {
+    pub fn same(&self, one: usize, other: usize) -> bool {
         one < self.list.len() && self.list.get(one) == self.list.get(other)
+    }
+
+    /// The number of nodes of a term.
+    pub fn nodes(&self, term: &[u8]) -> u32 {
+        let (mut at, mut nodes) = (0, 0);
+        while at < term.len() {
+            at += self.node(term[at]);
+            nodes += 1;
+        }
+        nodes
+    }
+
+    /// The number of bytes of a node with this symbol.
+    fn node(&self, symbol: u8) -> usize {
+        if self.table.get(usize::from(symbol)) == Some(&LIST) {
+            2
+        } else {
+            1
+        }
     }
 
     /// A pattern or record with some of its symbols exchanged within their classes.
@@ -68,7 +92,7 @@ impl Classes {
                     (0..self.table.len()).filter(|&other| self.same(symbol, other)).collect();
                 bytes[at] = rng.pick(&class) as u8;
             }
-            at += if self.table.get(symbol) == Some(&LIST) { 2 } else { 1 };
+            at += self.node(symbol as u8);
         }
         bytes
     }
@@ -194,6 +218,6 @@ impl Classes {
 }
 
 /// A list term of these elements.
-fn list_of(list: u8, elements: &[Vec<u8>]) -> Vec<u8> {
+pub fn list_of(list: u8, elements: &[Vec<u8>]) -> Vec<u8> {
     [vec![list, elements.len() as u8], elements.concat()].concat()
 }

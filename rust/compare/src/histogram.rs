@@ -5,7 +5,6 @@ use interface::{Word, COMPLEMENT};
 use std::fmt;
 
 /// Cases by word and call, and by kind and call.
-#[derive(Default)]
 pub struct Histogram {
     cases: u64,
     words: [[u64; CALLS.len()]; Word::ALL.len()],
@@ -13,8 +12,8 @@ pub struct Histogram {
 }
 
 /// The kinds in their order, the words with which they count, and the calls that must have them.
-const KINDS: [(&str, &[Word], &[Call]); 27] = [
-    ("record over 1,000 bytes, not spent", &ENDED, &SEARCHES),
+const KINDS: [(&str, &[Word], &[Call]); 45] = [
+    ("record over 1,000 bytes, not spent", &ENDED, &RECORDS),
     ("pattern over 100 bytes, not spent", &ENDED, &PATTERNS),
     ("count over 1,000, not spent", &ENDED, &SEARCHES),
     ("over 32 complements in a row, not spent", &ENDED, &WITH_A_PATTERN),
@@ -22,36 +21,102 @@ const KINDS: [(&str, &[Word], &[Call]); 27] = [
     ("allowance one below the count", &SEARCHED, &SEARCHES),
     ("allowance at the count", &SEARCHED, &SEARCHES),
     ("allowance far above the count", &SEARCHED, &SEARCHES),
-    ("each symbol its own class", &ACCEPTED, &WITH_CLASSES),
-    ("symbols that share a class", &ACCEPTED, &WITH_CLASSES),
-    ("another answer than without classes", &ACCEPTED, &WITH_CLASSES),
+    ("each symbol its own class", &ACCEPTED, &BRINGING),
+    ("symbols that share a class", &ACCEPTED, &BRINGING),
+    ("another answer than without classes", &ACCEPTED, &BRINGING),
     ("a name's parts the same up to class, of unlike bytes", &ACCEPTED, &WITH_CLASSES),
     ("a run name's parts the same up to class, of unlike bytes", &ACCEPTED, &WITH_CLASSES),
     ("a name's parts with unlike numbers of children of one class", &ACCEPTED, &WITH_CLASSES),
     ("a run name's parts with unlike numbers of children of one class", &ACCEPTED, &WITH_CLASSES),
-    ("class list that is empty", &[Word::Class], &WITH_CLASSES),
-    ("class list one short", &[Word::Class], &WITH_CLASSES),
-    ("class list one long", &[Word::Class], &WITH_CLASSES),
-    ("class above its own index", &[Word::Class], &WITH_CLASSES),
-    ("class that is not its own", &[Word::Class], &WITH_CLASSES),
-    ("class with unlike table bytes", &[Word::Class], &WITH_CLASSES),
+    ("class list that is empty", &[Word::Class], &BRINGING),
+    ("class list one short", &[Word::Class], &BRINGING),
+    ("class list one long", &[Word::Class], &BRINGING),
+    ("class above its own index", &[Word::Class], &BRINGING),
+    ("class that is not its own", &[Word::Class], &BRINGING),
+    ("class with unlike table bytes", &[Word::Class], &BRINGING),
     ("after the only answer, which has no run names, not spent", &ENDED, &NEXTS),
     ("after the first answer by its run lengths, not spent", &ENDED, &NEXTS),
     ("after a later answer by its run lengths, not spent", &ENDED, &NEXTS),
     ("one given length less", &[Word::Unknown], &NEXTS),
     ("one given length more", &[Word::Unknown], &NEXTS),
     ("another given length", &[Word::Unknown], &NEXTS),
+    (
+        "row of no lengths that cannot hold, allowance under the count after it",
+        &SPENT,
+        &WITH_AN_ALLOWANCE,
+    ),
+    (
+        "row of no lengths that cannot hold, allowance at the count after it",
+        &SPENT,
+        &WITH_AN_ALLOWANCE,
+    ),
+    (
+        "row of no lengths that cannot hold, allowance over the count after it",
+        &ACCEPTED,
+        &WITH_AN_ALLOWANCE,
+    ),
+    (
+        "row of one length that cannot hold, allowance under the count after it",
+        &SPENT,
+        &WITH_AN_ALLOWANCE,
+    ),
+    (
+        "row of one length that cannot hold, allowance at the count after it",
+        &SPENT,
+        &WITH_AN_ALLOWANCE,
+    ),
+    (
+        "row of one length that cannot hold, allowance over the count after it",
+        &ACCEPTED,
+        &WITH_AN_ALLOWANCE,
+    ),
+    (
+        "row of 2 to 70 lengths that cannot hold, allowance under the count after it",
+        &SPENT,
+        &WITH_AN_ALLOWANCE,
+    ),
+    (
+        "row of 2 to 70 lengths that cannot hold, allowance at the count after it",
+        &SPENT,
+        &WITH_AN_ALLOWANCE,
+    ),
+    (
+        "row of 2 to 70 lengths that cannot hold, allowance over the count after it",
+        &ACCEPTED,
+        &WITH_AN_ALLOWANCE,
+    ),
+    ("lengths before a symbol that cannot hold", &ACCEPTED, &WITH_AN_ALLOWANCE),
+    ("lengths before an assigned name that cannot hold", &ACCEPTED, &WITH_AN_ALLOWANCE),
+    ("lengths before an assigned run name that cannot hold", &ACCEPTED, &WITH_AN_ALLOWANCE),
+    ("lengths of a last run name that cannot hold", &ACCEPTED, &MATCHES),
+    ("a list of 20 elements or more, plain", &ENDED, &PLAINS),
+    ("an empty run, plain", &[Word::Bound], &PLAINS),
+    ("plain, where the full search is not spent", &ENDED, &PLAINS),
+    ("a name or run name twice, or two run names in a list", &[Word::NotPlain], &PLAINS),
+    ("a complement, for the plain tier", &[Word::NotPlain], &PLAINS),
 ];
+const SPENT: [Word; 1] = [Word::Spent];
 const ENDED: [Word; 2] = [Word::Bound, Word::None];
 const ACCEPTED: [Word; 3] = [Word::Bound, Word::None, Word::Spent];
 const SEARCHED: [Word; 4] = [Word::Bound, Word::None, Word::Spent, Word::Unknown];
-const PATTERNS: [Call; 3] = [Call::Match, Call::MatchWithClasses, Call::Cost];
+const PATTERNS: [Call; 5] =
+    [Call::Match, Call::MatchWithClasses, Call::Plain, Call::PlainWithClasses, Call::Cost];
+const RECORDS: [Call; 6] = [
+    Call::Match,
+    Call::MatchWithClasses,
+    Call::Next,
+    Call::NextWithClasses,
+    Call::Plain,
+    Call::PlainWithClasses,
+];
 const WITH_A_PATTERN: [Call; 5] =
     [Call::Match, Call::MatchWithClasses, Call::Next, Call::NextWithClasses, Call::Cost];
+const PLAINS: [Call; 2] = [Call::Plain, Call::PlainWithClasses];
+const MOVES: [Call; 2] = [Call::Store, Call::Restore];
 const NEXTS: [Call; 2] = [Call::Next, Call::NextWithClasses];
 const SEARCHES: [Call; 4] =
     [Call::Match, Call::MatchWithClasses, Call::Next, Call::NextWithClasses];
-const WITH_AN_ANSWER: [Call; 6] = [
+const WITH_AN_ALLOWANCE: [Call; 6] = [
     Call::Match,
     Call::MatchWithClasses,
     Call::Next,
@@ -59,16 +124,40 @@ const WITH_AN_ANSWER: [Call; 6] = [
     Call::Rules,
     Call::RulesWithClasses,
 ];
+const WITH_AN_ANSWER: [Call; 8] = [
+    Call::Match,
+    Call::MatchWithClasses,
+    Call::Next,
+    Call::NextWithClasses,
+    Call::Plain,
+    Call::PlainWithClasses,
+    Call::Rules,
+    Call::RulesWithClasses,
+];
+const MATCHES: [Call; 4] =
+    [Call::Match, Call::MatchWithClasses, Call::Rules, Call::RulesWithClasses];
 const WITH_CLASSES: [Call; 3] =
     [Call::MatchWithClasses, Call::NextWithClasses, Call::RulesWithClasses];
 
+const BRINGING: [Call; 4] =
+    [Call::MatchWithClasses, Call::NextWithClasses, Call::PlainWithClasses, Call::RulesWithClasses];
+
 impl Histogram {
+    pub(crate) fn new() -> Self {
+        Histogram {
+            cases: 0,
+            words: [[0; CALLS.len()]; Word::ALL.len()],
+            kinds: [[0; CALLS.len()]; KINDS.len()],
+        }
+    }
+
     pub(crate) fn add(&mut self, case: &Case, shown: &Shown) {
         let [number, _, count] = shown.result;
-        let word = Word::of(number as u32).expect("a number that has a word");
-        let call = case.call as usize;
+        let place = Word::ALL.iter().position(|word| u64::from(word.number()) == number);
+        let place = place.expect("a number that has a word");
+        let (word, call) = (Word::ALL[place], case.call as usize);
         self.cases += 1;
-        self.words[word as usize][call] += 1;
+        self.words[place][call] += 1;
         let terms = shown.has_other_bytes_than_terms().then_some(Kind::OtherBytesThanTerms);
         for kind in sizes(case, count).chain(terms).chain(case.kinds.iter().copied()) {
             let counts = KINDS[kind as usize].1.contains(&word);
@@ -98,7 +187,7 @@ impl Histogram {
 fn sizes(case: &Case, count: u64) -> impl Iterator<Item = Kind> {
     let (pattern, record): (&[u8], &[u8]) = match (case.call, &case.inputs[..]) {
         (Call::Cost, [_, pattern]) => (pattern, &[]),
-        (call, [.., pattern, record]) if SEARCHES.contains(&call) => (pattern, record),
+        (call, [.., pattern, record]) if RECORDS.contains(&call) => (pattern, record),
         _ => (&[], &[]),
     };
     let complements = pattern.split(|&code| code != COMPLEMENT).any(|row| row.len() > 32);
@@ -114,16 +203,19 @@ fn can_give(call: Call, word: Word) -> bool {
     match word {
         Word::Bound | Word::Long => true,
         Word::Table | Word::Short | Word::Spare | Word::Code | Word::Deep => call != Entry,
-        Word::Stray => !matches!(call, Write | Entry | CheckStates),
-        Word::None => !matches!(call, Write | Entry | CheckRules | CheckStates),
-        Word::Narrow | Word::Spent => {
-            !matches!(call, Write | Entry | CheckRules | CheckStates | Cost)
+        Word::Stray => !matches!(call, Write | Entry | CheckStates | Store | Restore),
+        Word::None => !matches!(call, Write | Entry | CheckRules | CheckStates | Store | Restore),
+        Word::Narrow => {
+            !matches!(call, Write | Entry | CheckRules | CheckStates | Cost | Store | Restore)
         }
-        Word::Directory => !WITH_A_PATTERN.contains(&call),
-        Word::Full => call == Write,
+        Word::Spent => can_give(call, Word::Narrow) && !PLAINS.contains(&call),
+        Word::Directory => ![&WITH_A_PATTERN[..], &MOVES, &PLAINS].concat().contains(&call),
+        Word::Full => call == Write || MOVES.contains(&call),
         Word::Unread => false,
-        Word::Class => WITH_CLASSES.contains(&call),
+        Word::Class => BRINGING.contains(&call),
         Word::Unknown => NEXTS.contains(&call),
+        Word::Length => call == Restore,
+        Word::NotPlain => PLAINS.contains(&call),
     }
 }
 

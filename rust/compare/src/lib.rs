@@ -1,5 +1,5 @@
-//! Runs two implementations of the interface on the same random cases and compares all that they
-//! show and write.
+//! Runs implementations of the interface on the same random cases and compares all that they show
+//! and write.
 
 mod case;
 mod cases;
@@ -7,7 +7,10 @@ mod classes;
 mod histogram;
 mod make;
 mod nexts;
+mod plains;
 mod rng;
+mod skips;
+mod stored;
 
 pub use histogram::Histogram;
 
@@ -25,25 +28,33 @@ pub struct Cases {
     pub margin: usize,
 }
 
-/// Compares two implementations; an error describes the first difference, or the first match that
+/// Compares an implementation with each of the others, the first of which gives the counts that
+/// allowances are taken around. An error describes the first difference, or the first match that
 /// counts more than its pattern can cost.
-pub fn compare(one: &dyn Library, other: &dyn Library, cases: Cases) -> Result<Histogram, String> {
+pub fn compare(
+    one: &dyn Library,
+    others: &[&dyn Library],
+    cases: Cases,
+) -> Result<Histogram, String> {
     let Cases { seed, first, number, margin } = cases;
-    let mut histogram = Histogram::default();
+    let mut histogram = Histogram::new();
     for number in first..first + number {
         let mut rng = Rng::new(seed, number);
-        let case = cases::case(&mut rng, other);
+        let case = cases::case(&mut rng, others[0]);
         let fill = rng.next();
-        let (shown, expected) = (case.run(one, margin, fill), case.run(other, margin, fill));
-        if shown != expected {
-            let difference = shown.difference(&expected);
-            return Err(format!("seed {seed}, case {number}: {case}\n{difference}"));
+        let shown = case.run(one, margin, fill);
+        for (i, other) in others.iter().enumerate() {
+            let expected = case.run(*other, margin, fill);
+            if shown != expected {
+                let difference = shown.difference(&expected);
+                return Err(format!("seed {seed}, case {number}, other {i}: {case}\n{difference}"));
+            }
         }
-        let count = expected.result[2];
+        let count = shown.result[2];
         if let Some(bound) = case.bound(one).filter(|&bound| count > bound) {
             return Err(format!("seed {seed}, case {number}: {case}\ncount {count} over {bound}"));
         }
-        histogram.add(&case, &expected);
+        histogram.add(&case, &shown);
     }
     Ok(histogram)
 }

@@ -1,7 +1,8 @@
-//! `compare [--bare] [CASES [SEED [FIRST]]]`: the proved library against the independent
-//! implementation.
+//! `compare [--bare] [CASES [SEED [FIRST]]]`: the proved library against both variants of the
+//! independent implementation.
 
 use compare::Cases;
+use interface::Library;
 use std::{env, process::ExitCode};
 
 fn main() -> ExitCode {
@@ -25,7 +26,8 @@ fn run(cases: Cases) -> ExitCode {
             return ExitCode::from(2);
         }
     }
-    let histogram = match compare::compare(&proved::Proved, &reference::Reference, cases) {
+    let variants: [&dyn Library; 2] = [&reference::Shortcuts, &reference::Reference];
+    let histogram = match compare::compare(&proved::Proved, &variants, cases) {
         Ok(histogram) => histogram,
         Err(difference) => {
             println!("the proved library and the independent implementation differ:\n{difference}");

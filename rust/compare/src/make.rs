@@ -187,6 +187,7 @@ impl<'a> Maker<'a> {
             match self.rng.below(6) {
                 0..=2 => bytes.push(FIRST_RUN + self.rng.below(6) as u8),
                 3 => bytes.extend([COMPLEMENT, FIRST_NAME + self.rng.below(2) as u8]),
+                4 => bytes.extend(self.term(1)),
                 _ => bytes.push(FIRST_NAME + self.rng.below(3) as u8),
             }
         }

@@ -5,12 +5,12 @@
 use compare::Cases;
 use interface::{Answer, Answers, Library, Outcome};
 use proved::Proved;
-use reference::Reference;
+use reference::{Reference, Shortcuts};
 
 #[test]
 fn no_difference() {
     let cases = Cases { seed: 3, first: 0, number: 5_000, margin: 24 };
-    let compared = compare::compare(&Proved, &Reference, cases);
+    let compared = compare::compare(&Proved, &[&Shortcuts, &Reference], cases);
     assert_eq!(compared.err(), None);
 }
 

@@ -19,6 +19,8 @@ struct Faulty {
     output: fn(&Outcome, &mut [u8]),
     part: fn(&mut Part),
     cost: fn(&mut Outcome),
+    stored: fn(&[u8]) -> Vec<u8>,
+    plain: fn(&mut Outcome),
 }
 
 const SOUND: Faulty = Faulty {
@@ -29,6 +31,8 @@ const SOUND: Faulty = Faulty {
     output: |_, _| (),
     part: |_| (),
     cost: |_| (),
+    stored: |stored| stored.to_vec(),
+    plain: |_| (),
 };
 
 impl Faulty {
@@ -91,6 +95,28 @@ impl Library for Faulty {
         self.spoil(outcome)
     }
 
+    fn match_plain(&self, t: &[u8], p: &[u8], r: &[u8], a: &mut [u16]) -> Outcome {
+        let mut outcome = Reference.match_plain(t, p, r, a);
+        (self.answer)(&outcome, a);
+        (self.plain)(&mut outcome);
+        self.spoil(outcome)
+    }
+
+    fn match_plain_with_classes(
+        &self,
+        t: &[u8],
+        classes: &[u8],
+        p: &[u8],
+        r: &[u8],
+        a: &mut [u16],
+    ) -> Outcome {
+        let classes = (self.classes)(t, classes);
+        let mut outcome = Reference.match_plain_with_classes(t, &classes, p, r, a);
+        (self.answer)(&outcome, a);
+        (self.plain)(&mut outcome);
+        self.spoil(outcome)
+    }
+
     fn match_rules(&self, t: &[u8], s: &[u8], r: &[u8], allowance: u32, a: &mut [u16]) -> Outcome {
         let outcome = Reference.match_rules(t, s, r, allowance, a);
         (self.answer)(&outcome, a);
@@ -109,6 +135,18 @@ impl Library for Faulty {
         let classes = (self.classes)(t, classes);
         let outcome = Reference.match_rules_with_classes(t, &classes, s, r, allowance, a);
         (self.answer)(&outcome, a);
+        self.spoil(outcome)
+    }
+
+    fn store(&self, t: &[u8], r: &[u8], output: &mut [u8]) -> Outcome {
+        let outcome = Reference.store(t, r, output);
+        (self.output)(&outcome, output);
+        self.spoil(outcome)
+    }
+
+    fn restore(&self, t: &[u8], s: &[u8], output: &mut [u8]) -> Outcome {
+        let outcome = Reference.restore(t, &(self.stored)(s), output);
+        (self.output)(&outcome, output);
         self.spoil(outcome)
     }
 
@@ -141,7 +179,7 @@ impl Library for Faulty {
 
 fn differs(library: Faulty) -> bool {
     let cases = compare::Cases { seed: 7, first: 0, number: 5_000, margin: 24 };
-    compare::compare(&library, &Reference, cases).is_err()
+    compare::compare(&library, &[&Reference], cases).is_err()
 }
 
 #[test]
@@ -214,8 +252,18 @@ fn faults_of_costs_are_found() {
     }
     let cases = compare::Cases { seed: 7, first: 0, number: 5_000, margin: 24 };
     let both = Faulty { cost: less, ..SOUND };
-    let over = compare::compare(&both, &both, cases).err().expect("a count over the bound");
+    let over = compare::compare(&both, &[&both], cases).err().expect("a count over the bound");
     assert!(over.contains(" over "), "{over}");
+}
+
+#[test]
+fn faults_of_the_plain_tier_are_found() {
+    let without_failing = |outcome: &mut Outcome| outcome.count -= u64::from(outcome.number == 10);
+    let taken = |outcome: &mut Outcome| outcome.number -= outcome.number & 23 & 13;
+    let counted = |outcome: &mut Outcome| outcome.count += u64::from(outcome.number == 23);
+    for (i, plain) in [without_failing, taken, counted].into_iter().enumerate() {
+        assert!(differs(Faulty { plain, ..SOUND }), "fault {i}");
+    }
 }
 
 #[test]
@@ -262,4 +310,12 @@ fn faults_of_class_lists_are_found() {
     }
     let class = |outcome: &mut Outcome| outcome.count += u64::from(outcome.number == 14);
     assert!(differs(Faulty { outcome: class, ..SOUND }));
+}
+
+#[test]
+fn faults_of_stored_records_are_found() {
+    let spare = |stored: &[u8]| stored[..stored.len().min(8_192)].to_vec();
+    assert!(differs(Faulty { stored: spare, ..SOUND }));
+    let length = |outcome: &mut Outcome| outcome.number -= 14 * u32::from(outcome.number == 17);
+    assert!(differs(Faulty { outcome: length, ..SOUND }));
 }

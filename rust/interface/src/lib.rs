@@ -7,12 +7,17 @@ pub use answers::Answers;
 
 use std::ops::Range;
 
+/// The version, which the header and the command line show too.
+pub const VERSION: &str = env!("CARGO_PKG_VERSION");
+
 /// Most bytes of a table.
 pub const TABLE_LIMIT: usize = 200;
 /// Most bytes of a pattern.
 pub const PATTERN_LIMIT: usize = 256;
 /// Most bytes of a record.
 pub const RECORD_LIMIT: usize = 4_096;
+/// Most bytes of a stored record.
+pub const STORED_LIMIT: usize = 8_192;
 /// Most bytes of a sheet.
 pub const SHEET_LIMIT: usize = 32_768;
 /// Most patterns of a rule sheet.
@@ -62,15 +67,17 @@ pub enum Word {
     Unread,
     Class,
     Unknown,
+    Length = 17,
+    NotPlain = 23,
 }
 
 impl Word {
     /// Every word, in the order of the numbers.
-    pub const ALL: [Word; 16] = {
+    pub const ALL: [Word; 18] = {
         use Word::*;
         [
             Bound, Table, Short, Spare, Code, Deep, Long, Stray, Narrow, Directory, None, Spent,
-            Full, Unread, Class, Unknown,
+            Full, Unread, Class, Unknown, Length, NotPlain,
         ]
     };
 
@@ -81,7 +88,7 @@ impl Word {
 
     /// The word of a number.
     pub fn of(number: u32) -> Option<Word> {
-        Self::ALL.get(number as usize).copied()
+        Self::ALL.into_iter().find(|word| word.number() == number)
     }
 
     /// The word as it is written.
@@ -103,6 +110,8 @@ impl Word {
             Word::Unread => "unread",
             Word::Class => "class",
             Word::Unknown => "unknown",
+            Word::Length => "length",
+            Word::NotPlain => "not plain",
         }
     }
 
@@ -115,7 +124,10 @@ impl Word {
             Word::Spare => "bytes after the last node",
             Word::Code => "a code not allowed there, or a symbol not in the table",
             Word::Deep => "nesting over 32",
-            Word::Long => "pattern, record or sheet over its limit, over 64 rules",
+            Word::Long => {
+                "pattern, record, stored record or sheet over its limit, over 64 rules; an old form \
+                 over a record's limit"
+            },
             Word::Stray => "run name elsewhere than as a list's child",
             Word::Narrow => "answer buffer under 144 numbers",
             Word::Directory => "a sheet breaks its rules, or no such entry",
@@ -124,7 +136,7 @@ impl Word {
                  bound"
             }
             Word::Spent => "the count is over the allowance",
-            Word::Full => "output too short for the sheet",
+            Word::Full => "output too short for what is to be written",
             Word::Unread => "the program can't open or read a file",
             Word::Class => {
                 "a class list of the wrong length, an entry above its own index or not its own \
@@ -132,6 +144,11 @@ impl Word {
             }
             Word::Unknown => {
                 "the given run lengths are not one for each free run name, or belong to no answer"
+            }
+            Word::Length => "a stored list tells another length than that of its children",
+            Word::NotPlain => {
+                "a pattern for the plain tier with a complement, a name or run name twice, or two \
+                 run names in a list"
             }
         }
     }
@@ -278,6 +295,25 @@ pub trait Library {
         answer: &mut [u16],
     ) -> Outcome;
 
+    /// Matches one plain pattern against one record; never spent.
+    fn match_plain(
+        &self,
+        table: &[u8],
+        pattern: &[u8],
+        record: &[u8],
+        answer: &mut [u16],
+    ) -> Outcome;
+
+    /// [`match_plain`](Self::match_plain) up to class.
+    fn match_plain_with_classes(
+        &self,
+        table: &[u8],
+        classes: &[u8],
+        pattern: &[u8],
+        record: &[u8],
+        answer: &mut [u16],
+    ) -> Outcome;
+
     /// Tries the rules of a sheet up to the first that is bound or spent.
     fn match_rules(
         &self,
@@ -320,6 +356,12 @@ pub trait Library {
     /// Shows how much a pattern can cost at most, or none if it has run names.
     fn cost(&self, table: &[u8], pattern: &[u8]) -> Outcome;
 
+    /// Writes the stored form of a record.
+    fn store(&self, table: &[u8], record: &[u8], output: &mut [u8]) -> Outcome;
+
+    /// Writes the old form of a stored record.
+    fn restore(&self, table: &[u8], stored: &[u8], output: &mut [u8]) -> Outcome;
+
     /// [`match_one`](Self::match_one) with a buffer of its own, in which every name is absent
     /// unless the outcome is bound.
     fn find(
@@ -348,5 +390,26 @@ pub trait Library {
         let outcome =
             self.match_one_with_classes(table, classes, pattern, record, allowance, buffer);
         (outcome, answer)
+    }
+
+    /// [`match_plain_with_classes`](Self::match_plain_with_classes) with a buffer of its own, as
+    /// [`find`](Self::find) has.
+    fn find_plain_with_classes(
+        &self,
+        table: &[u8],
+        classes: &[u8],
+        pattern: &[u8],
+        record: &[u8],
+    ) -> (Outcome, Answer) {
+        let mut answer = Answer([ABSENT; ANSWER]);
+        let outcome = self.match_plain_with_classes(table, classes, pattern, record, &mut answer.0);
+        (outcome, answer)
+    }
+
+    /// Whether an accepted pattern is plain. The record's checks come after 23, so an empty record
+    /// tells it.
+    fn is_plain(&self, table: &[u8], pattern: &[u8]) -> bool {
+        let outcome = self.match_plain(table, pattern, &[], &mut [ABSENT; ANSWER]);
+        outcome.word() != Some(Word::NotPlain)
     }
 }

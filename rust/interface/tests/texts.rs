@@ -10,7 +10,18 @@ fn read(file: &str) -> String {
 
 /// The code of the proved crates, without comments.
 fn rattle() -> String {
-    let crates = ["term", "reader", "search", "matcher", "cost", "sheet", "rules", "qonveshir"];
+    let crates = [
+        "term",
+        "reader",
+        "search",
+        "matcher",
+        "plain",
+        "cost",
+        "sheet",
+        "stored",
+        "rules",
+        "qonveshir",
+    ];
     let code = crates.map(|name| read(&format!("crates/{name}/src/lib.rt"))).concat();
     let lines = code.lines().filter(|line| !line.trim_start().starts_with("//"));
     lines.map(|line| format!("{line}\n")).collect()
@@ -29,7 +40,7 @@ fn numbers_of_the_header() {
     let words = Word::ALL.iter().filter(|&&word| word != Word::Unread);
     let words = words.map(|word| match word {
         Word::Bound => "done = 0".into(),
-        _ => format!("{} = {}", word.text(), word.number()),
+        _ => format!("{} = {}", word.text().replace(' ', "_"), word.number()),
     });
     assert_eq!(numbers.collect::<Vec<_>>(), words.collect::<Vec<_>>());
 }
@@ -44,7 +55,7 @@ fn numbers_of_the_proved_crates() {
         .filter_map(|(name, number)| Some((variant(name), number.parse().ok()?)))
         .collect();
     for word in Word::ALL {
-        let name = if word == Word::Code { "badcode" } else { word.text() };
+        let name = if word == Word::Code { "badcode".into() } else { word.text().replace(' ', "") };
         let numbers: Vec<u32> =
             arms.iter().filter(|arm| arm.0 == name).map(|&(_, number)| number).collect();
         assert!(!numbers.is_empty(), "{name} has no number");
@@ -83,12 +94,20 @@ fn defined(header: &str, name: &str) -> u64 {
 }
 
 #[test]
+fn version() {
+    let header = read("include/qonveshir.h");
+    assert_eq!(between(&header, "#define QONVESHIR_VERSION \"", "\"\n"), [VERSION]);
+    assert!(read("CHANGELOG.md").contains(&format!("\n## {VERSION}")), "{VERSION} in CHANGELOG.md");
+}
+
+#[test]
 fn limits() {
     let (header, code) = (read("include/qonveshir.h"), rattle());
     for (name, limit, rattle) in [
         ("TABLE_LIMIT", TABLE_LIMIT, "LARGEST_TABLE"),
         ("PATTERN_LIMIT", PATTERN_LIMIT, "LONGEST_PATTERN"),
         ("RECORD_LIMIT", RECORD_LIMIT, "LONGEST_RECORD"),
+        ("STORED_LIMIT", STORED_LIMIT, "LONGEST_STORED"),
         ("SHEET_LIMIT", SHEET_LIMIT, "LONGEST_SHEET"),
         ("RULES_LIMIT", RULES_LIMIT, "MOST_RULES"),
         ("NESTING_LIMIT", NESTING_LIMIT, "NESTING"),
@@ -158,7 +177,7 @@ type Call = (String, Vec<String>, String);
 #[test]
 fn calls() {
     let header = header_calls(&read("include/qonveshir.h"));
-    assert_eq!(header.len(), 11);
+    assert_eq!(header.len(), 15);
     assert_eq!(rattle_calls(&rattle()), header);
     assert_eq!(rust_calls(&read("rust/proved/src/link.rs")), header);
 }

@@ -10,6 +10,14 @@
 //! assert_eq!(error.to_string(), "column 9: row takes 2 children, this is 1");
 //! ```
 //!
+//! A text of rules or states has one in each line, which may have a name:
+//!
+//! ```
+//! let text = "same: row(?0, ?0)  # both places alike\n\nrow(open, !shut)";
+//! let names: Vec<_> = notation::entries(text).map(|entry| entry.name).collect();
+//! assert_eq!(names, [Some("same"), None]);
+//! ```
+//!
 //! Symbols of one meaning are joined by `=`, which makes a class list:
 //!
 //! ```
@@ -18,10 +26,13 @@
 //! assert_eq!(symbols.classes(), [0, 1, 2, 1, 2]);
 //! ```
 
+mod entries;
 mod parse;
 mod show;
 mod symbols;
 
+pub use entries::{entries, Entry};
+pub use show::Shown;
 pub use symbols::Symbols;
 
 /// What is wrong with a text or with bytes, and where.

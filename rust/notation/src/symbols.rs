@@ -1,6 +1,6 @@
 //! Named symbol tables.
 
-use crate::{parse::Parser, show, Error};
+use crate::{parse::Parser, show, Error, Shown};
 use interface::{CHILDREN_LIMIT, LIST, TABLE_LIMIT};
 use std::fmt;
 
@@ -119,11 +119,21 @@ impl Symbols {
 
     /// Writes a record as a term.
     pub fn show_term(&self, record: &[u8]) -> Result<String, Error> {
-        show::one(self, record, false)
+        Ok(self.shown_term(record)?.text)
     }
 
     /// Writes a pattern.
     pub fn show_pattern(&self, pattern: &[u8]) -> Result<String, Error> {
+        Ok(self.shown_pattern(pattern)?.text)
+    }
+
+    /// Writes a record as a term, and tells where each node stands.
+    pub fn shown_term(&self, record: &[u8]) -> Result<Shown, Error> {
+        show::one(self, record, false)
+    }
+
+    /// Writes a pattern, and tells where each node stands.
+    pub fn shown_pattern(&self, pattern: &[u8]) -> Result<Shown, Error> {
         show::one(self, pattern, true)
     }
 
@@ -161,7 +171,7 @@ fn with_children(word: &str) -> Result<(&str, u8), String> {
 }
 
 /// Whether a symbol can be called so: a letter or `_`, then letters, digits, `_` and `-`.
-fn is_name(text: &str) -> bool {
+pub(crate) fn is_name(text: &str) -> bool {
     text.starts_with(starts_name) && text.chars().all(continues_name)
 }
 

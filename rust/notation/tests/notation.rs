@@ -1,7 +1,7 @@
 //! Reading and writing of the notation, and the places that errors name.
 
 use interface::{COMPLEMENT, FIRST_NAME};
-use notation::Symbols;
+use notation::{entries, Symbols};
 
 fn symbols() -> Symbols {
     Symbols::parse("open shut held gate/1 row/2 gates/*").unwrap()
@@ -181,4 +181,45 @@ fn printing_and_reading_are_inverse() {
             Err(error) => assert!(bytes.len() > 256, "{text}: {error}"),
         }
     }
+}
+
+#[test]
+fn nodes_have_their_places_in_the_text() {
+    let shown = symbols().shown_pattern(&[5, 3, 232, 248, 248, 3, 0, 233]).unwrap();
+    assert_eq!(shown.text, "gates(@0, !!gate(open), @1)");
+    for (bytes, text) in [
+        (0..8, "gates(@0, !!gate(open), @1)"),
+        (2..3, "@0"),
+        (3..7, "!!gate(open)"),
+        (4..7, "!gate(open)"),
+        (5..7, "gate(open)"),
+        (6..7, "open"),
+        (2..7, "@0, !!gate(open)"),
+    ] {
+        assert_eq!(&shown.text[shown.part(bytes.clone())], text, "{bytes:?}");
+    }
+    let shown = symbols().shown_term(&[5, 2, 5, 0, 1]).unwrap();
+    assert_eq!(shown.text, "gates(gates(), shut)");
+    assert_eq!(shown.part(2..2), 6..6);
+    assert_eq!(shown.part(4..4), 15..15);
+    assert_eq!(shown.part(5..5), 19..19);
+    assert_eq!(shown.part(9..12), 19..19);
+    let empty = symbols().shown_term(&[5, 0]).unwrap();
+    assert_eq!((empty.part(0..2), empty.part(2..2)), (0..7, 6..6));
+}
+
+#[test]
+fn texts_have_named_lines() {
+    let text = "a: open # first\n\n# none\n  b-2 :shut\nheld\n?: open\n: open\nc: d: open";
+    let found: Vec<_> =
+        entries(text).map(|entry| (entry.line, entry.name, entry.body.clone())).collect();
+    let expected = [
+        (1, Some("a"), "   open "),
+        (4, Some("b-2"), "       shut"),
+        (5, None, "held"),
+        (6, None, "?: open"),
+        (7, None, ": open"),
+        (8, Some("c"), "   d: open"),
+    ];
+    assert_eq!(found, expected.map(|(line, name, body)| (line, name, body.to_string())));
 }

@@ -15,7 +15,8 @@ pub struct Evidence {
 }
 
 /// The crates below the interface.
-const CRATES: [&str; 7] = ["term", "reader", "search", "matcher", "cost", "sheet", "rules"];
+const CRATES: [&str; 10] =
+    ["term", "reader", "skips", "search", "matcher", "plain", "cost", "sheet", "stored", "rules"];
 
 /// Finds the proved library in the running program. An error says why it is not there, or that
 /// the archive was built anew since the program was linked.

@@ -19,6 +19,10 @@ macro_rules! library {
             next_with_classes = qonveshir_next_with_classes(
                 table: u8, classes: u8, pattern: u8, record: u8,
                 given: u16; allowance; answer: u16) -> Outcome;
+            match_plain = qonveshir_match_plain(
+                table: u8, pattern: u8, record: u8; ; answer: u16) -> Outcome;
+            match_plain_with_classes = qonveshir_match_plain_with_classes(
+                table: u8, classes: u8, pattern: u8, record: u8; ; answer: u16) -> Outcome;
             match_rules = qonveshir_match_rules(
                 table: u8, rules: u8, record: u8; allowance; answer: u16) -> Outcome;
             match_rules_with_classes = qonveshir_match_rules_with_classes(
@@ -29,6 +33,8 @@ macro_rules! library {
             check_rules = qonveshir_check_rules(table: u8, sheet: u8; ; ) -> Outcome;
             check_states = qonveshir_check_states(table: u8, sheet: u8; ; ) -> Outcome;
             cost = qonveshir_cost(table: u8, pattern: u8; ; ) -> Outcome;
+            store = qonveshir_store(table: u8, record: u8; ; output: u8) -> Outcome;
+            restore = qonveshir_restore(table: u8, stored: u8; ; output: u8) -> Outcome;
         }
     };
 }

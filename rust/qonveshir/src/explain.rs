@@ -1,23 +1,42 @@
 //! `explain`: the readers of the independent implementation find the place.
 
-use crate::{read, trouble, wrong_call, Reply, Stop};
+use crate::command::{wrong_call, Command};
+use crate::{read, trouble, Console, Reply, Stop};
 use interface::*;
 use reference::{
-    classes::Classes, pattern::Steps, record::Record, sheet::Sheet, table::Table, Refusal,
+    classes::Classes, pattern::Steps, record::Record, sheet::Sheet, stored, table::Table, Refusal,
 };
 
 /// What the proved program `codes` prints: a line for each code from 0 up, the code and its kind.
 const CODES: &str = include_str!("../../../crates/codes/stdout");
 
+pub const EXPLAIN: Command = Command {
+    name: "explain",
+    usage: &[
+        (
+            "explain TABLE [--KIND FILE]...",
+            "say why a table is refused, or a file over it; KIND is classes, rules, states, \
+             pattern, record or stored",
+        ),
+        ("explain NUMBER", "say what a number means"),
+        ("explain --code CODE", "say what kind a code of a pattern is"),
+    ],
+    help: "",
+    run: explain,
+};
+
 /// Explains what the arguments name: a number, a code, or a table and inputs over it.
-pub fn explain(arguments: &[&str]) -> Reply {
-    if let ["--code", code] = arguments {
-        return kind(code);
+fn explain(arguments: &[&str], _: &mut Console) -> Reply {
+    match arguments {
+        [] => wrong_call("explain"),
+        ["--code", code] => kind(code),
+        [number] if number.parse::<u32>().is_ok() => meaning(number.parse().unwrap_or(u32::MAX)),
+        [table, inputs @ ..] => explain_inputs(table, inputs),
     }
-    if let [Ok(number)] = arguments.iter().map(|text| text.parse()).collect::<Vec<_>>()[..] {
-        return meaning(number);
-    }
-    let (path, mut rest) = (arguments[0], &arguments[1..]);
+}
+
+/// Checks a table, and inputs over it.
+fn explain_inputs(path: &str, mut rest: &[&str]) -> Reply {
     let table = read(path)?;
     let mut text = input("table", path, &table, &table)?;
     while let [option, path, later @ ..] = rest {
@@ -27,21 +46,22 @@ pub fn explain(arguments: &[&str]) -> Reply {
             "--states" => "states",
             "--pattern" => "pattern",
             "--record" => "record",
-            _ => return trouble(format!("{option}: see qonveshir --help")),
+            "--stored" => "stored",
+            _ => return trouble(format!("{option}: see qonveshir explain --help")),
         };
         text += &input(kind, path, &read(path)?, &table)?;
         rest = later;
     }
     match rest {
         [] => Ok(text),
-        _ => wrong_call(),
+        _ => wrong_call("explain"),
     }
 }
 
 fn meaning(number: u32) -> Reply {
     match Word::of(number) {
         Some(word) => Ok(format!("{number} {}: {}\n", word.text(), word.meaning())),
-        None => trouble(format!("{number}: numbers are 0 to {}", Word::ALL.len() - 1)),
+        None => trouble(format!("{number}: there is no such number")),
     }
 }
 
@@ -61,7 +81,7 @@ fn input(kind: &str, path: &str, bytes: &[u8], table: &[u8]) -> Reply {
     }
 }
 
-fn check(kind: &str, bytes: &[u8], table: &[u8]) -> Result<(), Refusal> {
+pub fn check(kind: &str, bytes: &[u8], table: &[u8]) -> Result<(), Refusal> {
     let symbols = Table::read(table)?;
     match kind {
         "classes" => Classes::read(symbols, bytes).map(|_| ())?,
@@ -69,13 +89,14 @@ fn check(kind: &str, bytes: &[u8], table: &[u8]) -> Result<(), Refusal> {
         "states" => reference::check_states(table, bytes)?,
         "pattern" => Steps::new().read(symbols, bytes).map(|_| ())?,
         "record" => Record::check(symbols, bytes)?,
+        "stored" => stored::check(symbols, bytes).map(|_| ())?,
         _ => {}
     }
     Ok(())
 }
 
 /// Number, word, input, byte and what was expected there.
-fn refused(kind: &str, path: &str, bytes: &[u8], table: &[u8], refusal: Refusal) -> String {
+pub fn refused(kind: &str, path: &str, bytes: &[u8], table: &[u8], refusal: Refusal) -> String {
     let (word, within) = (refusal.fault.word, refusal.fault.at as usize);
     let start = refusal.entry.and_then(|entry| Sheet::read(bytes).ok()?.range(entry));
     let at = start.map_or(0, |range| range.start) + within;
@@ -105,13 +126,19 @@ fn expected(kind: &str, word: Word, in_entry: bool, at: usize) -> &'static str {
     match word {
         Word::Table if at >= TABLE_LIMIT => "at most 200 bytes",
         Word::Table => "0 to 8 children, or 255 for a list",
+        Word::Short if kind == "stored" => {
+            "a further node, or a list's number of children or length"
+        }
         Word::Short => "a further node, or a list's number of children",
         Word::Spare => "the end, since the last node ends before",
         Word::Deep => "nesting of at most 32, complements not counted",
         Word::Long if kind == "pattern" || kind == "rules" && in_entry => "at most 256 bytes",
+        Word::Long if kind == "stored" && at == STORED_LIMIT => "at most 8,192 bytes",
+        Word::Long if kind == "stored" => "an old form of at most 4,096 bytes",
         Word::Long if kind == "record" || in_entry => "at most 4,096 bytes",
         Word::Long if at == 0 => "at most 64 rules",
         Word::Long => "at most 32,768 bytes",
+        Word::Length => "the length in bytes of the list's children, low byte first",
         Word::Stray => "a run name only as a direct child of a list",
         _ => word.meaning(),
     }

@@ -1,89 +1,203 @@
 //! `match`.
 
-use crate::{print, read_symbols, trouble, Reply, Stop, ENGINE};
+use crate::command::{wrong_call, Command};
+use crate::marks::{coloured, marked, Mark, GREEN, RED};
+use crate::progress::Progress;
+use crate::{read_symbols, trouble, Console, Look, Reply, Stop, ENGINE};
 use interface::{Answer, Answers, Outcome, Word, NAMES, RUNS};
 use notation::{Error, Symbols};
 use std::ops::Range;
 
+pub const MATCH: Command = Command {
+    name: "match",
+    usage: &[
+        (
+            "match [--all] [--marks] [--allowance N] SYMBOLS RULE STATE",
+            "match a rule against a state, both given as text, and show the first answer, or all \
+             of them; N, 100,000 if not given, is the allowance of each answer",
+        ),
+        (
+            "match --plain [--marks] SYMBOLS RULE STATE",
+            "match a plain rule by the plain tier, which needs no allowance: a rule without \
+             complements, with no name or run name twice and at most one run name in a list",
+        ),
+    ],
+    help: "\
+The first line has the word (bound, none or spent) and the count. If the rule is
+bound, a line for each of its names and run names shows the part of the state
+that it stands for, where that lies in the state's bytes, and of a run how many
+terms it has. On a terminal, and with --marks, the state is shown too, with
+marks below these parts: ^ below a part, | where an empty run stands. `qonveshir
+why SYMBOLS RULE STATE` shows where a rule fails.
+",
+    run: matched,
+};
+
+/// The allowance, if none is given; the report's own.
+pub const ALLOWANCE: u32 = 100_000;
+
+/// Matches what is asked with an allowance.
+type Find = fn(&Asked, u32, &mut Console) -> Reply;
+
+/// Runs a match by its arguments: options, then symbols, rule and state.
+fn matched(mut arguments: &[&str], console: &mut Console) -> Reply {
+    let (mut find, mut allowance): (Find, _) = (find, ALLOWANCE);
+    loop {
+        match arguments {
+            ["--plain", rest @ ..] => return matched_plain(rest, console),
+            ["--all", rest @ ..] => (find, arguments) = (find_all, rest),
+            ["--marks", rest @ ..] => (console.look.marks, arguments) = (true, rest),
+            ["--allowance", number, rest @ ..] => {
+                (allowance, arguments) = (read_allowance(number)?, rest)
+            }
+            [symbols, rule, state] => {
+                return find(&Asked::read(symbols, rule, state)?, allowance, console)
+            }
+            _ => return wrong_call("match"),
+        }
+    }
+}
+
+/// The same by the plain tier; of the options only `--marks` may follow.
+fn matched_plain(arguments: &[&str], console: &mut Console) -> Reply {
+    match arguments {
+        ["--marks", rest @ ..] => {
+            console.look.marks = true;
+            matched_plain(rest, console)
+        }
+        [symbols, rule, state] => find_plain(&Asked::read(symbols, rule, state)?, console.look),
+        _ => wrong_call("match"),
+    }
+}
+
+pub fn read_allowance(number: &str) -> Result<u32, Stop> {
+    number.parse().or_else(|_| trouble(format!("--allowance {number}: expected 0 to {}", u32::MAX)))
+}
+
 /// Matches a rule against a state, up to the classes that the symbols have, and shows what each
 /// free name and run name stands for.
-pub fn find(symbols: &str, rule: &str, state: &str, allowance: u32) -> Reply {
-    let asked = Asked::read(symbols, rule, state)?;
-    let mut answers = asked.answers(allowance);
-    match answers.next() {
-        Some(Ok((answer, count))) => asked.bound(&answer, count),
-        Some(Err(outcome)) => Err(Stop::No(stopped(outcome))),
-        None => Err(Stop::No(none(answers.counted()))),
+fn find(asked: &Asked, allowance: u32, console: &mut Console) -> Reply {
+    let (look, mut answers) = (console.look, asked.answers(allowance));
+    match next_answer(&mut answers, allowance) {
+        Some(Ok((answer, count))) => asked.bound(&answer, count, look),
+        Some(Err(outcome)) => Err(Stop::No(stopped(outcome, look))),
+        None => Err(Stop::No(none(answers.counted(), look))),
+    }
+}
+
+/// The same by the plain tier, which takes no allowance.
+fn find_plain(asked: &Asked, look: Look) -> Reply {
+    let (table, classes) = (asked.symbols.table(), asked.symbols.classes());
+    let (outcome, answer) =
+        ENGINE.0.find_plain_with_classes(table, classes, &asked.pattern, &asked.record);
+    match outcome.word() {
+        Some(Word::Bound) => asked.bound(&answer, outcome.count, look),
+        Some(Word::None) => Err(Stop::No(none(outcome.count, look))),
+        _ => Err(Stop::No(stopped(outcome, look))),
     }
 }
 
 /// The same for every answer, in order, each with the whole allowance and printed when it is found.
-pub fn find_all(symbols: &str, rule: &str, state: &str, allowance: u32) -> Reply {
-    let asked = Asked::read(symbols, rule, state)?;
-    let mut answers = asked.answers(allowance);
+fn find_all(asked: &Asked, allowance: u32, console: &mut Console) -> Reply {
+    let (look, mut answers) = (console.look, asked.answers(allowance));
     let mut number = 0;
-    for found in &mut answers {
-        let (answer, count) = found.map_err(|outcome| Stop::No(stopped(outcome)))?;
-        if !print(&asked.bound(&answer, count)?).or_else(trouble)? {
+    while let Some(found) = next_answer(&mut answers, allowance) {
+        let (answer, count) = found.map_err(|outcome| Stop::No(stopped(outcome, look)))?;
+        if !console.print(&asked.bound(&answer, count, look)?).or_else(trouble)? {
             return Ok(String::new());
         }
         number += 1;
     }
     match number {
-        0 => Err(Stop::No(none(answers.counted()))),
+        0 => Err(Stop::No(none(answers.counted(), look))),
         _ => Ok(format!("answers: {number}, sum of counts: {}\n", answers.counted())),
     }
 }
 
+/// The next answer; that it is looked for is told if it takes long.
+pub fn next_answer(
+    answers: &mut Answers,
+    allowance: u32,
+) -> Option<Result<(Answer, u64), Outcome>> {
+    let _progress = Progress::of_match(allowance);
+    answers.next()
+}
+
 /// A rule and a state over symbols.
-struct Asked {
-    symbols: Symbols,
-    pattern: Vec<u8>,
-    record: Vec<u8>,
+pub struct Asked {
+    pub symbols: Symbols,
+    pub pattern: Vec<u8>,
+    pub record: Vec<u8>,
 }
 
 impl Asked {
-    fn read(symbols: &str, rule: &str, state: &str) -> Result<Self, Stop> {
+    pub fn read(symbols: &str, rule: &str, state: &str) -> Result<Self, Stop> {
         let symbols = read_symbols(symbols)?;
         let pattern = symbols.pattern(rule).or_else(|error| trouble(format!("rule, {error}")))?;
         let record = symbols.term(state).or_else(|error| trouble(format!("state, {error}")))?;
         Ok(Asked { symbols, pattern, record })
     }
 
-    fn answers(&self, allowance: u32) -> Answers<'_> {
+    pub fn answers(&self, allowance: u32) -> Answers<'_> {
         let Asked { symbols, pattern, record } = self;
         let (table, classes) = (symbols.table(), Some(symbols.classes()));
         Answers::new(ENGINE.0, table, classes, pattern, record, allowance)
     }
 
-    /// The count, and a line for each free name and run name.
-    fn bound(&self, answer: &Answer, count: u64) -> Reply {
+    /// The count, the state with marks if the look has them, and a line for each free name and run
+    /// name.
+    fn bound(&self, answer: &Answer, count: u64, look: Look) -> Reply {
         let names = (0..NAMES).filter_map(|i| Some((format!("?{i}"), answer.name(i)?, None)));
         let runs =
             (0..RUNS).filter_map(|j| Some((format!("@{j}"), answer.run(j)?, answer.terms(j))));
-        let lines = names.chain(runs).map(|(name, part, terms)| self.shown(&name, part, terms));
-        let lines: Result<String, Error> = lines.collect();
-        Ok(format!("bound {count}\n{}", lines.or_else(trouble)?))
+        let parts: Vec<_> = names.chain(runs).collect();
+        let lines: Result<String, Error> =
+            parts.iter().map(|(name, part, terms)| self.shown(name, part, *terms)).collect();
+        let mut text = format!("{} {count}\n", coloured(Word::Bound.text(), GREEN, look));
+        if look.marks && !parts.is_empty() {
+            text += &self.with_marks(&parts, look).or_else(trouble)?;
+        }
+        Ok(text + &lines.or_else(trouble)?)
+    }
+
+    /// The state with marks below the parts.
+    fn with_marks<T>(
+        &self,
+        parts: &[(String, Range<usize>, T)],
+        look: Look,
+    ) -> Result<String, Error> {
+        let shown = self.symbols.shown_term(&self.record)?;
+        let mark = |(name, part, _): &(String, Range<usize>, T)| Mark {
+            label: name.clone(),
+            part: shown.part(part.clone()),
+        };
+        Ok(marked("", &shown.text, &parts.iter().map(mark).collect::<Vec<_>>(), look))
     }
 
     /// One line: the name, its part as text, where that lies, and how many terms a run has.
-    fn shown(&self, name: &str, part: Range<usize>, terms: Option<u16>) -> Result<String, Error> {
+    fn shown(&self, name: &str, part: &Range<usize>, terms: Option<u16>) -> Result<String, Error> {
         let place = format!("offset {}, length {}", part.start, part.len());
         let terms = terms.map_or(String::new(), |terms| format!(", terms {terms}"));
+        Ok(format!("{name} = {}  ({place}{terms})\n", self.part(part.clone())?))
+    }
+
+    /// A part of the state as text.
+    pub fn part(&self, part: Range<usize>) -> Result<String, Error> {
         let text = self.symbols.show_run(&self.record[part])?;
-        let text = if text.is_empty() { "nothing" } else { &text };
-        Ok(format!("{name} = {text}  ({place}{terms})\n"))
+        Ok(if text.is_empty() { "nothing".into() } else { text })
     }
 }
 
-fn none(count: u64) -> String {
-    format!("{} {count}", Word::None.text())
+pub fn none(count: u64, look: Look) -> String {
+    format!("{} {count}", coloured(Word::None.text(), RED, look))
 }
 
 /// An outcome that is spent or refused.
-fn stopped(outcome: Outcome) -> String {
+pub fn stopped(outcome: Outcome, look: Look) -> String {
     match outcome.word() {
-        Some(Word::Spent) => format!("{} {}", Word::Spent.text(), outcome.count),
+        Some(Word::Spent) => {
+            format!("{} {}", coloured(Word::Spent.text(), RED, look), outcome.count)
+        }
         _ => format!("refused {}", outcome.number),
     }
 }

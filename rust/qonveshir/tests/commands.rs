@@ -1,28 +1,11 @@
 //! The commands, their output and their exit status.
 
+mod common;
+
+use common::{folder, run, SYMBOLS};
+use std::fs;
 use std::io::Read;
-use std::path::{Path, PathBuf};
 use std::process::{Command, Stdio};
-use std::{env, fs};
-
-/// A folder of its own for a test, with document 01's symbols.
-fn folder(name: &str) -> PathBuf {
-    let folder = env::temp_dir().join(format!("qonveshir-{name}-{}", std::process::id()));
-    fs::create_dir_all(&folder).unwrap();
-    fs::write(folder.join("symbols"), "open shut held gate/1 row/2 gates/*\n").unwrap();
-    folder
-}
-
-/// Status and output of a command run in a folder.
-fn run(folder: &Path, arguments: &[&str]) -> (i32, String) {
-    let output = Command::new(env!("CARGO_BIN_EXE_qonveshir"))
-        .args(arguments)
-        .current_dir(folder)
-        .output()
-        .unwrap();
-    let text = [output.stdout, output.stderr].concat();
-    (output.status.code().unwrap(), String::from_utf8(text).unwrap())
-}
 
 #[test]
 fn matches() {
@@ -101,12 +84,31 @@ fn options_of_a_match() {
     assert_eq!(find(&["--allowance", "5", "--all"]), bound);
     let number = "qonveshir: --allowance -1: expected 0 to 4294967295\n";
     assert_eq!(find(&["--all", "--allowance", "-1"]), (2, number.into()));
-    let wrong = (2, "qonveshir: a wrong call; see qonveshir --help\n".into());
+    let wrong = (2, "qonveshir: a wrong call; see qonveshir match --help\n".into());
     for options in [&["--al"][..], &["--all", "more"], &["--all", "--all", "more"]] {
         assert_eq!(find(options), wrong, "{options:?}");
     }
     assert_eq!(run(&folder, &["match", "--all", "symbols", "open"]), wrong);
     assert_eq!(run(&folder, &["match", "--all"]), wrong);
+    fs::remove_dir_all(folder).unwrap();
+}
+
+#[test]
+fn matches_by_the_plain_tier() {
+    let folder = folder("plain");
+    fs::write(folder.join("classes"), "open held gates/* stopped=held").unwrap();
+    let find = |rule, state| run(&folder, &["match", "--plain", "classes", rule, state]);
+    let bound = "bound 3\n@0 = open, held  (offset 2, length 2, terms 2)\n";
+    assert_eq!(find("gates(@0, held)", "gates(open, held, stopped)"), (0, bound.into()));
+    assert_eq!(find("gates(@0, held)", "gates()"), (1, "none 1\n".into()));
+    assert_eq!(find("gates(@0, held)", "gates(held, open)"), (1, "none 3\n".into()));
+    for rule in ["!held", "gates(?0, ?0)", "gates(@0, @1)"] {
+        assert_eq!(find(rule, "open"), (1, "refused 23\n".into()), "{rule}");
+    }
+    let (status, text) = run(&folder, &["explain", "23"]);
+    assert_eq!((status, &text[..12]), (0, "23 not plain"));
+    let wrong = (2, "qonveshir: a wrong call; see qonveshir match --help\n".into());
+    assert_eq!(run(&folder, &["match", "--plain", "--all", "classes", "open", "open"]), wrong);
     fs::remove_dir_all(folder).unwrap();
 }
 
@@ -162,10 +164,12 @@ fn packs_and_unpacks() {
 fn shows_what_rules_cost() {
     let folder = folder("cost");
     let rules = ["row(!?0, ?0)", "gates(@0, !open)", "!!gates(gates(), !gate(?1))", "!gates(@0)"];
+    let rules = [&rules[..], &["row(?0, open)", "gates(@0, open)", "gates(@0, @1)"]].concat();
     fs::write(folder.join("rules"), rules.join("\n")).unwrap();
     let command = |text: &str| run(&folder, &text.split(' ').collect::<Vec<_>>());
-    assert_eq!(command("pack rules symbols rules r"), (0, "r: 40 bytes\n".into()));
+    assert_eq!(command("pack rules symbols rules r"), (0, "r: 63 bytes\n".into()));
     let costs = ["at most 4", "no bound", "at most 7", "no bound"];
+    let costs = [&costs[..], &["at most 3, plain", "no bound, plain", "no bound"]].concat();
     let lines = costs.iter().zip(rules).map(|(cost, rule)| format!("{cost}: {rule}\n"));
     assert_eq!(command("cost symbols r"), (0, lines.collect()));
     fs::write(folder.join("r"), [1, 0, 6, 0, 1, 0, 232]).unwrap();
@@ -282,6 +286,49 @@ fn explains_class_lists() {
 }
 
 #[test]
+fn stores_and_restores() {
+    let folder = folder("store");
+    let command = |text: &str| run(&folder, &text.split(' ').collect::<Vec<_>>());
+    fs::write(folder.join("old"), [5, 2, 5, 1, 0, 1]).unwrap();
+    assert_eq!(command("store record symbols old new"), (0, "new: 10 bytes\n".into()));
+    assert_eq!(fs::read(folder.join("new")).unwrap(), [5, 2, 6, 0, 5, 1, 1, 0, 0, 1]);
+    assert_eq!(command("restore record symbols new back"), (0, "back: 6 bytes\n".into()));
+    assert_eq!(fs::read(folder.join("back")).unwrap(), [5, 2, 5, 1, 0, 1]);
+    fs::write(folder.join("new"), [5, 1, 2, 0, 0]).unwrap();
+    let wrong = "new: refused 17 length: a stored list tells another length than that of its \
+                 children\n";
+    assert_eq!(command("restore record symbols new back"), (1, wrong.into()));
+    fs::write(folder.join("t"), [0, 0, 0, 1, 2, 255]).unwrap();
+    let told = "t: accepted as table\n";
+    let (status, text) = command("explain t --stored new");
+    assert_eq!(status, 1, "{text}");
+    assert!(text.contains("byte: 2, which is 2\n") && !text.contains(told), "{text}");
+    assert_eq!(command("restore record symbols old back").0, 1);
+    fs::remove_dir_all(folder).unwrap();
+}
+
+#[test]
+fn stores_the_states_of_a_sheet() {
+    let folder = folder("states");
+    let command = |text: &str| run(&folder, &text.split(' ').collect::<Vec<_>>());
+    fs::write(folder.join("text"), "gates(open, shut)\nheld\ngate(gates())\n").unwrap();
+    assert_eq!(command("pack states symbols text sheet").0, 0);
+    assert_eq!(command("store states symbols sheet lines"), (0, "lines: 27 bytes\n".into()));
+    let lines = "050202000001\n02\n0305000000\n";
+    assert_eq!(fs::read_to_string(folder.join("lines")).unwrap(), lines);
+    assert_eq!(command("restore states symbols lines back").0, 0);
+    assert_eq!(fs::read(folder.join("back")).unwrap(), fs::read(folder.join("sheet")).unwrap());
+    fs::write(folder.join("lines"), "02\n0500\n").unwrap();
+    let (status, text) = command("restore states symbols lines back");
+    assert_eq!((status, text.starts_with("lines: line 2: refused 2 short")), (1, true), "{text}");
+    for wrong in ["0", "0G", "+5"] {
+        fs::write(folder.join("lines"), wrong).unwrap();
+        assert_eq!(command("restore states symbols lines back").0, 2, "{wrong}");
+    }
+    fs::remove_dir_all(folder).unwrap();
+}
+
+#[test]
 fn wrong_calls() {
     let folder = folder("calls");
     assert_eq!(run(&folder, &[]).0, 2);
@@ -289,5 +336,83 @@ fn wrong_calls() {
     assert_eq!(run(&folder, &["explain", "16"]).0, 2);
     assert_eq!(run(&folder, &["--help"]).0, 0);
     assert!(run(&folder, &["--version"]).1.starts_with("qonveshir 0."));
+    let unknown = "qonveshir: mach: no such command; see qonveshir --help\n";
+    assert_eq!(run(&folder, &["mach"]), (2, unknown.into()));
+    for name in command_line::COMMANDS.iter().map(|command| command.name) {
+        let wrong = format!("qonveshir: a wrong call; see qonveshir {name} --help\n");
+        assert_eq!(run(&folder, &[name]), (2, wrong), "{name}");
+        let (status, help) = run(&folder, &[name, "--help"]);
+        assert_eq!(status, 0, "{name}");
+        assert!(help.starts_with(&format!("usage:\n  qonveshir {name} ")), "{help}");
+        assert_eq!(run(&folder, &[name, "symbols", "-h"]), (0, help), "{name}");
+    }
+    fs::remove_dir_all(folder).unwrap();
+}
+
+#[test]
+fn help_fits_a_page() {
+    let folder = folder("help");
+    let (_, help) = run(&folder, &["--help"]);
+    for command in command_line::COMMANDS {
+        for (call, _) in command.usage {
+            assert!(help.contains(&format!("  qonveshir {call}")), "{call}");
+        }
+        let (_, own) = run(&folder, &[command.name, "--help"]);
+        assert!(own.contains(command.help));
+        assert!(own.lines().chain(help.lines()).all(|line| line.len() <= 80), "{own}");
+    }
+    fs::remove_dir_all(folder).unwrap();
+}
+
+#[test]
+fn symbols_from_a_file_or_in_place() {
+    let folder = folder("in-place");
+    let find = |symbols| run(&folder, &["match", symbols, "row(!?0, ?0)", "row(open, shut)"]);
+    let bound = (0, "bound 4\n?0 = shut  (offset 2, length 1)\n".to_string());
+    assert_eq!(find("symbols"), bound);
+    assert_eq!(find(SYMBOLS), bound);
+    fs::write(folder.join("two words"), SYMBOLS).unwrap();
+    assert_eq!(find("two words"), bound);
+    let (status, text) = find("nowhere");
+    assert_eq!(status, 2);
+    assert!(text.starts_with("qonveshir: nowhere: "), "{text}");
+    let wrong = "qonveshir: symbols, column 6: expected 0 to 8 children or *, found \"9\"\n";
+    assert_eq!(find("open gate/9"), (2, wrong.into()));
+    fs::remove_dir_all(folder).unwrap();
+}
+
+#[test]
+fn marks_where_the_parts_stand() {
+    let folder = folder("marks");
+    let find = |rule, state| run(&folder, &["match", "--marks", SYMBOLS, rule, state]).1;
+    let shown = "\
+bound 17
+    gates(open, gate(shut), held, gate(shut))
+?0              ^^^^^^^^^^
+@0        ^^^^
+@1                          ^^^^
+@2                                         |
+?0 = gate(shut)  (offset 3, length 2)
+@0 = open  (offset 2, length 1, terms 1)
+@1 = held  (offset 5, length 1, terms 1)
+@2 = nothing  (offset 8, length 0, terms 0)
+";
+    let state = "gates(open, gate(shut), held, gate(shut))";
+    assert_eq!(find("gates(@0, ?0, @1, ?0, @2)", state), shown);
+    assert_eq!(find("gates(@0)", "gates()").lines().nth(2), Some("@0        |"));
+    assert_eq!(find("!shut", "open"), "bound 2\n");
+    fs::remove_dir_all(folder).unwrap();
+}
+
+#[test]
+fn arguments_that_are_no_text() {
+    use std::os::unix::ffi::OsStrExt;
+    let folder = folder("bytes");
+    let argument = std::ffi::OsStr::from_bytes(b"open \xff");
+    let mut program = common::program(&folder, &["match"]);
+    let output = program.arg(argument).output().unwrap();
+    assert_eq!(output.status.code(), Some(2));
+    let told = "qonveshir: \"open \\xFF\": not text in UTF-8\n";
+    assert_eq!(String::from_utf8(output.stderr).unwrap(), told);
     fs::remove_dir_all(folder).unwrap();
 }

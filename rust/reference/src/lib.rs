@@ -4,14 +4,18 @@
 //! table of where each term ends ([`record`]), and the search ([`search`]) goes back by a stack
 //! of run names. A record's bytes determine its term, so equal terms are equal bytes. Up to class
 //! the same search runs on a pattern and a record whose symbols are replaced by their classes
-//! ([`classes`]); where parts lie is not changed by that.
+//! ([`classes`]); where parts lie is not changed by that. The search has two variants, with the
+//! same counts: one tries every length of a run name, one counts those that cannot hold without
+//! trying them.
 
 pub mod classes;
 pub mod fault;
 pub mod pattern;
+pub mod plain;
 pub mod record;
 pub mod search;
 pub mod sheet;
+pub mod stored;
 pub mod table;
 
 use classes::Classes;
@@ -23,11 +27,18 @@ use search::{Found, Search};
 use sheet::Sheet;
 use table::Table;
 
-/// The independent implementation.
-#[derive(Clone, Copy, Debug, Default)]
-pub struct Reference;
+pub use Independent::{Reference, Shortcuts};
 
-impl Library for Reference {
+/// The independent implementation, by the variants of its search.
+#[derive(Clone, Copy, Debug, PartialEq, Eq)]
+pub enum Independent {
+    /// Tries every length of a run name.
+    Reference,
+    /// Counts the lengths that cannot hold without trying them.
+    Shortcuts,
+}
+
+impl Library for Independent {
     fn match_one(
         &self,
         table: &[u8],
@@ -36,7 +47,7 @@ impl Library for Reference {
         allowance: u32,
         answer: &mut [u16],
     ) -> Outcome {
-        shown(match_one(table, None, pattern, record, allowance, answer))
+        shown(match_one(*self, table, None, pattern, record, allowance, answer))
     }
 
     fn match_one_with_classes(
@@ -48,7 +59,7 @@ impl Library for Reference {
         allowance: u32,
         answer: &mut [u16],
     ) -> Outcome {
-        shown(match_one(table, Some(classes), pattern, record, allowance, answer))
+        shown(match_one(*self, table, Some(classes), pattern, record, allowance, answer))
     }
 
     fn next(
@@ -60,7 +71,7 @@ impl Library for Reference {
         allowance: u32,
         answer: &mut [u16],
     ) -> Outcome {
-        shown(next(table, None, pattern, record, given, allowance, answer))
+        shown(next(*self, table, None, pattern, record, given, allowance, answer))
     }
 
     fn next_with_classes(
@@ -73,7 +84,28 @@ impl Library for Reference {
         allowance: u32,
         answer: &mut [u16],
     ) -> Outcome {
-        shown(next(table, Some(classes), pattern, record, given, allowance, answer))
+        shown(next(*self, table, Some(classes), pattern, record, given, allowance, answer))
+    }
+
+    fn match_plain(
+        &self,
+        table: &[u8],
+        pattern: &[u8],
+        record: &[u8],
+        answer: &mut [u16],
+    ) -> Outcome {
+        shown(match_plain(table, None, pattern, record, answer))
+    }
+
+    fn match_plain_with_classes(
+        &self,
+        table: &[u8],
+        classes: &[u8],
+        pattern: &[u8],
+        record: &[u8],
+        answer: &mut [u16],
+    ) -> Outcome {
+        shown(match_plain(table, Some(classes), pattern, record, answer))
     }
 
     fn match_rules(
@@ -84,7 +116,7 @@ impl Library for Reference {
         allowance: u32,
         answer: &mut [u16],
     ) -> Outcome {
-        shown(match_rules(table, None, rules, record, allowance, answer))
+        shown(match_rules(*self, table, None, rules, record, allowance, answer))
     }
 
     fn match_rules_with_classes(
@@ -96,7 +128,7 @@ impl Library for Reference {
         allowance: u32,
         answer: &mut [u16],
     ) -> Outcome {
-        shown(match_rules(table, Some(classes), rules, record, allowance, answer))
+        shown(match_rules(*self, table, Some(classes), rules, record, allowance, answer))
     }
 
     fn write_sheet(
@@ -148,6 +180,14 @@ impl Library for Reference {
     fn cost(&self, table: &[u8], pattern: &[u8]) -> Outcome {
         shown(cost(table, pattern))
     }
+
+    fn store(&self, table: &[u8], record: &[u8], output: &mut [u8]) -> Outcome {
+        shown(stored::store(table, record, output))
+    }
+
+    fn restore(&self, table: &[u8], stored: &[u8], output: &mut [u8]) -> Outcome {
+        shown(stored::restore(table, stored, output))
+    }
 }
 
 /// Why a call refuses: the fault and the index of the entry that it lies in, if any.
@@ -197,6 +237,7 @@ fn cost(table: &[u8], pattern: &[u8]) -> Result<Outcome, Refusal> {
 /// a call without one is as fast as if there were none.
 #[inline(always)]
 fn match_one(
+    variant: Independent,
     table: &[u8],
     brought: Option<&[u8]>,
     pattern: &[u8],
@@ -209,11 +250,15 @@ fn match_one(
     let classes = read_classes(table, brought)?;
     let mut steps = Steps::new();
     let start = steps.read(table, pattern)?;
-    first_of(table, classes, steps, &[start], record, allowance, answer)
+    with_search(variant, table, classes, steps, record, |search| {
+        first_of(search, &[start], allowance, answer)
+    })
 }
 
 /// Shows the answer after the one with the given lengths, up to class if a class list is brought.
+#[allow(clippy::too_many_arguments)]
 fn next(
+    variant: Independent,
     table: &[u8],
     brought: Option<&[u8]>,
     pattern: &[u8],
@@ -229,7 +274,7 @@ fn next(
     let start = steps.read(table, pattern)?;
     let runs = steps.free_runs(start);
     let unknown = Fault::new(Word::Unknown, 0);
-    with_search(table, classes, steps, record, |search| {
+    with_search(variant, table, classes, steps, record, |search| {
         if given.len() != runs.len() {
             return Err(unknown.into());
         }
@@ -242,9 +287,28 @@ fn next(
     })
 }
 
+/// Matches one plain pattern, up to class if a class list is brought.
+fn match_plain(
+    table: &[u8],
+    brought: Option<&[u8]>,
+    pattern: &[u8],
+    record: &[u8],
+    answer: &mut [u16],
+) -> Result<Outcome, Refusal> {
+    let answer = wide(answer)?;
+    let table = Table::read(table)?;
+    let classes = read_classes(table, brought)?;
+    Steps::new().read(table, pattern)?;
+    let rule = plain::read(table, pattern).ok_or(Fault::new(Word::NotPlain, 0))?;
+    let ends = &mut Vec::new();
+    let record = Record::read(table, record, ends)?;
+    Ok(plain::run(table, classes, &rule, record, answer))
+}
+
 /// Tries the patterns of a sheet, up to class if a class list is brought.
 #[inline(always)]
 fn match_rules(
+    variant: Independent,
     table: &[u8],
     brought: Option<&[u8]>,
     rules: &[u8],
@@ -257,40 +321,37 @@ fn match_rules(
     let classes = read_classes(table, brought)?;
     let mut steps = Steps::new();
     let starts = read_rules(table, rules, &mut steps)?;
-    first_of(table, classes, steps, &starts, record, allowance, answer)
+    with_search(variant, table, classes, steps, record, |search| {
+        first_of(search, &starts, allowance, answer)
+    })
 }
 
-/// Reads a record and tries the patterns that start at these steps, up to the first that is bound
-/// or spent.
+/// Tries the patterns that start at these steps, up to the first that is bound or spent.
 #[inline(always)]
 fn first_of(
-    table: Table,
-    classes: Option<Classes>,
-    steps: Steps,
+    search: &mut Search,
     starts: &[usize],
-    record: &[u8],
     allowance: u32,
     answer: &mut [u16; ANSWER],
 ) -> Result<Outcome, Refusal> {
-    with_search(table, classes, steps, record, |search| {
-        let mut sum = 0;
-        for (rule, &start) in starts.iter().enumerate() {
-            let (found, count) = search.run(start, allowance);
-            sum += count;
-            if found == Found::Bound {
-                search.answer(answer);
-            }
-            if found != Found::None {
-                return Ok(Outcome::counted(found.word(), rule, sum));
-            }
+    let mut sum = 0;
+    for (rule, &start) in starts.iter().enumerate() {
+        let (found, count) = search.run(start, allowance);
+        sum += count;
+        if found == Found::Bound {
+            search.answer(answer);
         }
-        Ok(Outcome::counted(Word::None, 0, sum))
-    })
+        if found != Found::None {
+            return Ok(Outcome::counted(found.word(), rule, sum));
+        }
+    }
+    Ok(Outcome::counted(Word::None, 0, sum))
 }
 
 /// Reads a record, and does something with a search of it by these patterns.
 #[inline(always)]
 fn with_search(
+    variant: Independent,
     table: Table,
     classes: Option<Classes>,
     mut steps: Steps,
@@ -305,7 +366,7 @@ fn with_search(
         merged = classes.merged(record.bytes);
         record.bytes = &merged;
     }
-    run(&mut Search::new(&steps, record))
+    run(&mut Search::new(variant, &steps, record))
 }
 
 /// The class list, if one is brought.

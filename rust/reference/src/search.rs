@@ -1,8 +1,12 @@
 //! The search and its count.
 
+mod shortcuts;
+
 use crate::pattern::{Step, Steps, NO_LIST};
 use crate::record::Record;
+use crate::{Independent, Shortcuts};
 use interface::{Word, ABSENT, ANSWER, ENTRY, NAMES, RUNS};
+use shortcuts::After;
 
 /// How a search ends.
 #[derive(Clone, Copy, Debug, PartialEq, Eq)]
@@ -45,10 +49,12 @@ struct Part {
 }
 
 /// A search of a record by any of several patterns. With `GIVEN` a level is that of a whole pattern,
-/// which starts with the lengths of a given answer; every other tries all lengths.
+/// which starts with the lengths of a given answer; every other tries all lengths. With `SHORT`
+/// lengths that cannot hold are counted, not tried.
 pub struct Search<'a> {
     steps: &'a [Step],
     record: Record<'a>,
+    short: bool,
     /// Pairs and lengths that may still be counted.
     left: u32,
     /// Where each open list of the pattern ends in the record.
@@ -65,12 +71,13 @@ pub struct Search<'a> {
 }
 
 impl<'a> Search<'a> {
-    pub fn new(steps: &'a Steps, record: Record<'a>) -> Self {
+    pub fn new(variant: Independent, steps: &'a Steps, record: Record<'a>) -> Self {
         let mut lists = [0; 256];
         lists[usize::from(NO_LIST)] = u16::MAX;
         Search {
             steps: steps.as_slice(),
             record,
+            short: variant == Shortcuts,
             left: 0,
             lists,
             assigned: 0,
@@ -106,12 +113,16 @@ impl<'a> Search<'a> {
         self.left = allowance;
         self.assigned = 0;
         self.put_by.clear();
-        let found = match self.level::<GIVEN>(start, 0) {
-            Ok(true) => Found::Bound,
-            Ok(false) => Found::None,
-            Err(Spent) => Found::Spent,
+        let found = match self.short {
+            false => self.level::<GIVEN, false>(start, 0),
+            true => self.level::<GIVEN, true>(start, 0),
         };
-        (found, u64::from(allowance - self.left))
+        let (found, left) = match found {
+            Ok(true) => (Found::Bound, self.left),
+            Ok(false) => (Found::None, self.left),
+            Err(Spent) => (Found::Spent, 0),
+        };
+        (found, u64::from(allowance - left))
     }
 
     /// Writes the assignment found.
@@ -128,15 +139,19 @@ impl<'a> Search<'a> {
     }
 
     /// Searches one level to its first answer, from the present assignments.
-    fn level<const GIVEN: bool>(&mut self, step: usize, at: usize) -> Result<bool, Spent> {
+    fn level<const GIVEN: bool, const SHORT: bool>(
+        &mut self,
+        step: usize,
+        at: usize,
+    ) -> Result<bool, Spent> {
         let first = self.put_by.len();
-        let found = self.rest::<GIVEN>(step, at, first)?;
+        let found = self.rest::<GIVEN, SHORT>(step, at, first)?;
         self.put_by.truncate(first);
         Ok(found)
     }
 
     /// Searches the rest of a level whose complements are put by from `first` on.
-    fn rest<const GIVEN: bool>(
+    fn rest<const GIVEN: bool, const SHORT: bool>(
         &mut self,
         mut step: usize,
         mut at: usize,
@@ -149,7 +164,7 @@ impl<'a> Search<'a> {
                 Step::Close { list } => (at == self.list_end(list)).then_some(at),
                 Step::Name { within, place } => self.name(within, place, at)?,
                 Step::Run { within, place } if self.assigned >> place & 1 == 0 => {
-                    return self.lengths::<GIVEN>(within, place, step, at, first);
+                    return self.lengths::<GIVEN, SHORT>(within, place, step, at, first);
                 }
                 Step::Run { within, place } => self.assigned_run(within, place, at)?,
                 Step::Complement { within, skip } => {
@@ -157,7 +172,7 @@ impl<'a> Search<'a> {
                     step = skip.into();
                     next
                 }
-                Step::Done => return self.done::<GIVEN>(first),
+                Step::Done => return self.done::<GIVEN, SHORT>(first),
             };
             match next {
                 Some(next) => (step, at) = (step + 1, next),
@@ -167,7 +182,7 @@ impl<'a> Search<'a> {
     }
 
     /// Tries the lengths of an unassigned run name, each with the rest of its level.
-    fn lengths<const GIVEN: bool>(
+    fn lengths<const GIVEN: bool, const SHORT: bool>(
         &mut self,
         within: u8,
         place: u8,
@@ -186,12 +201,16 @@ impl<'a> Search<'a> {
             };
             end = given;
         }
+        let after = if SHORT { self.after(step) } else { After::Any };
         loop {
+            if SHORT && !(GIVEN && self.checks) {
+                (end, terms) = self.skip(after, end, last, terms)?;
+            }
             self.count()?;
             self.assigned = assigned;
             self.put_by.truncate(put_by);
             self.parts[usize::from(place)] = Part { start: at as u16, end: end as u16, terms };
-            if self.rest::<GIVEN>(step + 1, end, first)? {
+            if self.rest::<GIVEN, SHORT>(step + 1, end, first)? {
                 return Ok(true);
             }
             if end == last || checks && self.checks {
@@ -216,8 +235,8 @@ impl<'a> Search<'a> {
     /// A level has no pair left. That is the given answer if it is being checked; the search then
     /// goes on as after a failure.
     #[inline(always)]
-    fn done<const GIVEN: bool>(&mut self, first: usize) -> Result<bool, Spent> {
-        let holds = self.complements_hold(first)?;
+    fn done<const GIVEN: bool, const SHORT: bool>(&mut self, first: usize) -> Result<bool, Spent> {
+        let holds = self.complements_hold::<SHORT>(first)?;
         if GIVEN && holds && self.checks {
             self.checks = false;
             return Ok(false);
@@ -226,11 +245,11 @@ impl<'a> Search<'a> {
     }
 
     /// Whether no inside of the complements put by from `first` on has an answer.
-    fn complements_hold(&mut self, first: usize) -> Result<bool, Spent> {
+    fn complements_hold<const SHORT: bool>(&mut self, first: usize) -> Result<bool, Spent> {
         let assigned = self.assigned;
         for i in first..self.put_by.len() {
             let PutBy { step, at } = self.put_by[i];
-            let found = self.level::<false>(step.into(), at.into())?;
+            let found = self.level::<false, SHORT>(step.into(), at.into())?;
             self.assigned = assigned;
             if found {
                 return Ok(false);

@@ -1,6 +1,6 @@
 -- `matcher::accepts_classes` meets its contract.
 use mathlib.Core.Path.{_∙_}
-use Rattle.matcher.proofs.Checks.{brought-is}
+use Rattle.call.proofs.Brought.{brought-is}
 use borrow.Author.Needs.{needs}
 use Rattle.matcher.proofs.accepts_classes.Statement.{statement}
 use Rattle.matcher.proofs.accepts_classes.Tie as tie

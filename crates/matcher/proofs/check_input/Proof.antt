@@ -1,26 +1,28 @@
 -- `matcher::check_input` meets its contract.
 use mathlib.Core.Path.{sym, _∙_}
 use borrow.Author.Tests.{not-true, not-false}
-use Rattle.matcher.proofs.Checks.{narrow-fails, table-fails, class-fails, pattern-fails, record-fails, all-pass}
+use Rattle.call.proofs.Checks.{narrow-fails, table-fails, class-fails}
+use Rattle.matcher.specs.Call.{checkOf}
+use Rattle.matcher.proofs.Checks.{pattern-fails, record-fails, all-pass}
 use borrow.Author.Needs.{needs}
 use Rattle.matcher.proofs.check_input.Statement.{statement}
 use Rattle.matcher.proofs.check_input.Tie as tie
 
 returns : tie.Need-returns
-returns c = narrow-fails _ _ _ _ _ (c .if1 .taken)
+returns c = narrow-fails _ _ _ _ checkOf (c .if1 .taken)
 
 check-table-requires : tie.Need-check-table-requires
 check-table-requires c κs = search needs
 
 returns-2 : tie.Need-returns-2
-returns-2 c = table-fails _ _ _ _ _ (c .before .before .if1 .left) (sym (c .before .check-table .ensures) ∙ not-true _ (c .if2 .taken))
+returns-2 c = table-fails _ _ _ _ checkOf (c .before .before .if1 .left) (sym (c .before .check-table .ensures) ∙ not-true _ (c .if2 .taken))
 
 accepts-classes-requires : tie.Need-accepts-classes-requires
 accepts-classes-requires c κs = search needs
 
 returns-3 : tie.Need-returns-3
 returns-3 c =
-    class-fails _ _ _ _ _ (c .before .before .before .before .if1 .left) (sym (c .before .before .before .check-table .ensures) ∙ not-false _ (c .before .before .if2 .left))
+    class-fails _ _ _ _ checkOf (c .before .before .before .before .if1 .left) (sym (c .before .before .before .check-table .ensures) ∙ not-false _ (c .before .before .if2 .left))
     (sym (c .before .accepts-classes .ensures) ∙ not-true _ (c .if3 .taken))
 
 read-pattern-requires : tie.Need-read-pattern-requires

@@ -1,6 +1,6 @@
 -- `matcher::next_brought` meets its contract.
 use native.Mathlib.Omega.{arith}
-use Rattle.matcher.specs.Call.{broughtBy}
+use Rattle.call.specs.Brought.{broughtBy}
 use Rattle.matcher.proofs.NextDemanded.{next-fails, next-passes}
 use borrow.Author.Needs.{needs}
 use Rattle.matcher.proofs.next_brought.Statement.{statement}

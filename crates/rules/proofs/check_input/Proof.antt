@@ -1,12 +1,14 @@
 -- `rules::check_input` meets its contract.
 use mathlib.Core.Path.{sym, _∙_}
-use Rattle.rules.proofs.Checks.{narrow-fails, sheet-fails, record-fails, all-pass}
+use Rattle.call.proofs.Checks.{narrow-fails}
+use Rattle.rules.specs.Call.{checkOf}
+use Rattle.rules.proofs.Checks.{sheet-fails, record-fails, all-pass}
 use borrow.Author.Needs.{needs}
 use Rattle.rules.proofs.check_input.Statement.{statement}
 use Rattle.rules.proofs.check_input.Tie as tie
 
 returns : tie.Need-returns
-returns c = narrow-fails _ _ _ _ (c .if1 .taken)
+returns c = narrow-fails _ _ _ _ checkOf (c .if1 .taken)
 
 check-rules-requires : tie.Need-check-rules-requires
 check-rules-requires c κs = search needs

@@ -1,8 +1,8 @@
 -- The search of levels meets its contracts. Each level within another has less of the pattern, or starts further on in it: `levels` falls.
 -- Assumes nothing.
-use Prim.Native.Nat.{ℕ, _+_, _-_, _*_, _<_, _≤_}
+use Prim.Native.Nat.{ℕ, _+_, _-_, _*_, _<_}
 use native.Mathlib.Omega.{arith}
-use mathlib.Core.Path.{refl, sym, ap, subst, _∙_}
+use mathlib.Core.Path.{sym, ap, subst, _∙_}
 use mathlib.Core.Bool.{false}
 use lib.ListN.{length}
 use denote.Ref.{now}
@@ -11,13 +11,13 @@ use borrow.Author.Tests.{not-true, not-false}
 use Rattle.search.specs.Level.{levels}
 use Rattle.search.specs.Inner.Memory.{packed, putByIn}
 use Rattle.search.specs.Inner.Bounds.{StopsAt, Unassigned}
-use Rattle.search.specs.Inner.Replies.{Decides}
+use Rattle.search.specs.Inner.Replies.{DecidesInside}
 use Rattle.search.specs.Inner.Halts.{Begun}
 use Rattle.search.specs.declared.Place.{Place}
-use Rattle.search.proofs.Steps.{rest-length}
+use Rattle.search.proofs.Skips.{skips-fair, behind-passed}
 use Rattle.search.proofs.FirstPairs.{complement-ends}
 use Rattle.search.proofs.Begins.{level-from, none-begun, run-begun}
-use Rattle.search.proofs.Levels.{rest-fails-by, rest-reports, rest-follows-by, rest-starts, level-run, Turns, turn-first, turn-holding, turn-hit, turn-last, turn-spent, turn-room, turn-more, Testing, test-first, test-end, test-next, test-stop, test-on, inside-length, inside-holding, complement-tests, follow-fails, follow-spent, follow-none, follow-tests, follow-tries}
+use Rattle.search.proofs.Levels.{rest-fails-by, rest-reports, rest-follows-by, rest-starts, level-run, level-skipped, level-over, Turns, turn-first, turn-holding, turn-hit, turn-last, turn-spent, turn-room, turn-more, turn-over, Testing, test-first, test-end, test-next, test-stop, test-on, inside-length, inside-holding, complement-tests, follow-fails, follow-spent, follow-none, follow-tests, follow-tries}
 use borrow.Fn.Kinds.{In}
 use borrow.Fn.PlainCycle.{Measures, is, falls, and}
 use Rattle.search.proofs.complement.Reads as complement
@@ -45,24 +45,26 @@ use Rattle.search.proofs.Marks.inside.Reads as inside-reads
 use Rattle.search.proofs.Marks.nodes.Reads as nodes-reads
 use Rattle.search.proofs.Marks.of.Reads as Marks-of-reads
 use Rattle.search.proofs.Marks.queue.Reads as queue-reads
+use Rattle.search.proofs.Place.behind.Reads as behind-reads
 use Rattle.search.proofs.Place.next.Reads as next-reads
 use Rattle.search.proofs.Place.of.Reads as Place-of-reads
 use Rattle.search.proofs.Place.passed.Reads as passed-reads
 use Rattle.search.proofs.Place.remaining.Reads as remaining-reads
 use Rattle.search.proofs.Place.start.Reads as start-reads
 use Rattle.search.proofs.also.Reads as also-reads
-use Rattle.search.proofs.first_pair.Reads as first-pair-reads
+use Rattle.search.proofs.at_once.Reads as at-once-reads
 use Rattle.search.proofs.is_failed.Reads as is-failed-reads
 use Rattle.search.proofs.is_failure.Reads as is-failure-reads
 use Rattle.search.proofs.is_found.Reads as is-found-reads
-use Rattle.search.proofs.longer.Reads as longer-reads
+use Rattle.search.proofs.lengthen.Reads as lengthen-reads
 use Rattle.search.proofs.opposite.Reads as opposite-reads
 use Rattle.search.proofs.packed.Reads as packed-reads
 use Rattle.search.proofs.report.Reads as report-reads
-use Rattle.search.proofs.walk.Reads as walk-reads
+use Rattle.search.proofs.onward.Reads as onward-reads
+use Rattle.search.proofs.skip_where.Reads as skip-where-reads
+use Rattle.search.proofs.wanted.Reads as wanted-reads
 use Rattle.search.proofs.wide.Reads as wide-reads
 use Rattle.term.proofs.Part.bound.Reads as bound-reads
-use Rattle.term.proofs.extent.Reads as extent-reads
 use Rattle.search.proofs.+complement+complements+follow+lengths+level+rest+start_level.{statement}
 use Rattle.search.proofs.+complement+complements+follow+lengths+level+rest+start_level.Tie.{close}
 
@@ -79,7 +81,7 @@ abbrev μ-lengths : Measures 8 lengths-kinds.ps ℕ
 μ-lengths κs a = 5 * levels (now (a .1 .1 .0)) (a .1 .1 .1 .1 .1 .1 .1 .1 .1 .1 .0 .at) + 1
 
 abbrev μ-level : Measures 8 level-kinds.ps ℕ
-μ-level κs a = 5 * levels (now (a .1 .1 .0)) (a .1 .1 .1 .1 .1 .1 .1 .1 .1 .1 .1 .1 .1 .1 .0 .at) + 4
+μ-level κs a = 5 * levels (now (a .1 .1 .0)) (a .1 .1 .1 .1 .1 .1 .1 .1 .1 .1 .1 .1 .1 .1 .1 .0 .at) + 4
 
 abbrev μ-rest : Measures 8 rest-kinds.ps ℕ
 μ-rest κs a = 5 * levels (now (a .1 .1 .0)) (a .1 .1 .1 .1 .1 .1 .1 .1 .1 .1 .0 .at) + 3
@@ -137,8 +139,8 @@ start-level-below t =
 
 abbrev complement-claims : ℕ → complement-lts.Claims
 complement-claims t = (
-  first-pair-reads.Asked,
-  first-pair-reads.Learnt,
+  at-once-reads.Asked,
+  at-once-reads.Learnt,
   opposite-reads.Asked,
   opposite-reads.Learnt,
   inside-reads.Asked,
@@ -173,22 +175,22 @@ complement-part-inside-start t c = omega arith
 complement-part-inside-end : (t : ℕ) → complement-lts.Need-part-inside-end (complement-claims t) (complement-at t) complement.Post
 complement-part-inside-end t c = omega (arith, c .before .before .before .before .pre .1 .0 .within)
 
-complement-first-pair-requires : (t : ℕ) → complement-lts.Need-first-pair-requires (complement-claims t) (complement-at t) complement.Post
-complement-first-pair-requires t c κs = search needs
+complement-at-once-requires : (t : ℕ) → complement-lts.Need-at-once-requires (complement-claims t) (complement-at t) complement.Post
+complement-at-once-requires t c κs = search needs
 
 complement-enum-known-first : (t : ℕ) → complement-lts.Need-enum-known-first (complement-claims t) (complement-at t) complement.Post
 complement-enum-known-first t c = search needs
 
 complement-sub-left : (t : ℕ) → complement-lts.Need-sub-left (complement-claims t) (complement-at t) complement.Post
-complement-sub-left t c = subst (Decides _ _ _ _ _ _) (c .before .first .given .1) (c .before .before .before .first-pair .ensures) .some
+complement-sub-left t c = subst (DecidesInside _ _ _ _ _ _ _ _) (c .before .first .given .1) (c .before .before .before .at-once .ensures) .some
 
 complement-opposite-requires : (t : ℕ) → complement-lts.Need-opposite-requires (complement-claims t) (complement-at t) complement.Post
 complement-opposite-requires t c κs = search needs
 
 complement-returns : (t : ℕ) → complement-lts.Need-returns (complement-claims t) (complement-at t) complement.Post
 complement-returns t c =
-    complement-ends _ _ (c .before .before .before .before .before .before .before .before .before .before .before .pre .1 .0 .within) _ _ _ _ _ _ _ _
-    (subst (Decides _ _ _ _ _ _) (c .before .before .first .given .1) (c .before .before .before .before .first-pair .ensures)) (c .opposite .ensures)
+    complement-ends _ _ (c .before .before .before .before .before .before .before .before .before .before .before .before .before .pre .1 .0 .within) _ _ _ _ _ _ _ _
+    (subst (DecidesInside _ _ _ _ _ _ _ _) (c .before .before .first .given .1) (c .before .before .before .before .at-once .ensures)) (c .opposite .ensures)
 
 complement-enum-told : (t : ℕ) → complement-lts.Need-enum-told (complement-claims t) (complement-at t) complement.Post
 complement-enum-told t c = search needs
@@ -201,7 +203,7 @@ complement-start-requires t c κs = search needs
 
 complement-start-level-requires : (t : ℕ) → complement-lts.Need-start-level-requires (complement-claims t) (complement-at t) complement.Post
 complement-start-level-requires t c κs =
-    let entered = c .before .before .before .before .before .before .before .before .before .before .before .before .before .before .before in
+    let entered = c .before .before .before .before .before .before .before .before .before .before .before .before .before .before .before .before .before in
     let pre = entered .pre in
     let w = pre .1 .0 .within in
     let d = inside-length (entered .args .pattern .now) (putByIn (entered .args .c)) w in
@@ -215,7 +217,7 @@ complement-opposite-requires-2 t c κs = search needs
 
 complement-returns-2 : (t : ℕ) → complement-lts.Need-returns-2 (complement-claims t) (complement-at t) complement.Post
 complement-returns-2 t c =
-    let pre = c .before .before .before .before .before .before .before .before .before .before .before .before .before .before .before .before .before .pre in
+    let pre = c .before .before .before .before .before .before .before .before .before .before .before .before .before .before .before .before .before .before .before .pre in
     complement-tests _ _ (pre .1 .0 .within) _ _ _ _ _ _ _ _ (pre .1 .1 .of-pattern) (c .before .before .before .inside2 .ensures) (c .before .before .start .ensures) (c .before .start-level .ensures)
     (c .opposite2 .ensures)
 
@@ -324,6 +326,12 @@ abbrev lengths-claims : ℕ → lengths-lts.Claims
 lengths-claims t = (
   passed-reads.Asked,
   passed-reads.Learnt,
+  wanted-reads.Asked,
+  wanted-reads.Learnt,
+  skip-where-reads.Asked,
+  skip-where-reads.Learnt,
+  behind-reads.Asked,
+  behind-reads.Learnt,
   wide-reads.Asked,
   wide-reads.Learnt,
   bound-reads.Asked,
@@ -345,16 +353,45 @@ lengths-claims t = (
 lengths-returns : (t : ℕ) → lengths-lts.Need-returns (lengths-claims t) (lengths-at t) lengths.Post
 lengths-returns t c = follow-none _ _ _ _ _ _ _ _ _ _ _ (c .if1 .taken)
 
-lengths-sub-left : (t : ℕ) → lengths-lts.Need-sub-left (lengths-claims t) (lengths-at t) lengths.Post
-lengths-sub-left t c = omega arith
-
 lengths-passed-requires : (t : ℕ) → lengths-lts.Need-passed-requires (lengths-claims t) (lengths-at t) lengths.Post
 lengths-passed-requires t c κs =
     let pre = c .before .before .before .before .before .before .pre .1 in
     (pre .1 .children, omega arith, omega (arith, pre .1 .at, pre .3 .of-pattern), omega (arith, pre .0 .holds .node, pre .3 .of-record))
 
+lengths-wanted-requires : (t : ℕ) → lengths-lts.Need-wanted-requires (lengths-claims t) (lengths-at t) lengths.Post
+lengths-wanted-requires t c κs = search needs
+
+lengths-sub-skip-where : (t : ℕ) → lengths-lts.Need-sub-skip-where (lengths-claims t) (lengths-at t) lengths.Post
+lengths-sub-skip-where t c = omega (arith, c .before .before .before .before .before .if1 .left)
+
+lengths-skip-where-requires : (t : ℕ) → lengths-lts.Need-skip-where-requires (lengths-claims t) (lengths-at t) lengths.Post
+lengths-skip-where-requires t c κs = (omega (arith, ap (λ (x : Place). x .node) (c .before .before .before .before .passed .ensures), c .before .before .before .before .before .before .before .before .before .before .before .pre .1 .0 .holds .node), c .before .before .before .before .before .before .before .before .before .before .before .pre .1 .3 .of-record)
+
+lengths-sub-left : (t : ℕ) → lengths-lts.Need-sub-left (lengths-claims t) (lengths-at t) lengths.Post
+lengths-sub-left t c = omega (arith, c .before .before .before .before .before .before .if1 .left)
+
+lengths-cast-left : (t : ℕ) → lengths-lts.Need-cast-left (lengths-claims t) (lengths-at t) lengths.Post
+lengths-cast-left t c = omega (arith, skips-fair (c .before .skip-where .ensures) .few, ap (λ (x : Place). x .elements) (c .before .before .before .before .before .before .passed .ensures), c .before .before .before .before .before .before .before .before .before .before .before .before .before .good)
+
+lengths-mul-left : (t : ℕ) → lengths-lts.Need-mul-left (lengths-claims t) (lengths-at t) lengths.Post
+lengths-mul-left t c = omega (arith, skips-fair (c .before .skip-where .ensures) .few, ap (λ (x : Place). x .elements) (c .before .before .before .before .before .before .passed .ensures), c .before .before .before .before .before .before .before .before .before .before .before .before .before .good)
+
+lengths-sub-left-2 : (t : ℕ) → lengths-lts.Need-sub-left-2 (lengths-claims t) (lengths-at t) lengths.Post
+lengths-sub-left-2 t c = omega (arith, skips-fair (c .before .skip-where .ensures) .paid)
+
+lengths-returns-2 : (t : ℕ) → lengths-lts.Need-returns-2 (lengths-claims t) (lengths-at t) lengths.Post
+lengths-returns-2 t c =
+    follow-tries _ _ _ _ _ _ _ _ _ _ _ (c .before .before .before .before .before .before .before .before .if1 .left) (c .before .before .before .before .before .before .before .before .before .before .before .before .before .before .pre .1 .1 .at)
+    (level-over _ _ (c .before .before .before .before .before .before .before .before .before .before .before .before .before .before .pre .1 .2) (c .before .before .skip-where .ensures) (c .before .before .before .before .before .before .before .passed .ensures) (omega arith) (c .if2 .taken))
+
+lengths-behind-requires : (t : ℕ) → lengths-lts.Need-behind-requires (lengths-claims t) (lengths-at t) lengths.Post
+lengths-behind-requires t c κs = skips-fair (c .before .before .skip-where .ensures) .few
+
 lengths-wide-requires : (t : ℕ) → lengths-lts.Need-wide-requires (lengths-claims t) (lengths-at t) lengths.Post
 lengths-wide-requires t c κs = search needs
+
+lengths-sub-bound : (t : ℕ) → lengths-lts.Need-sub-bound (lengths-claims t) (lengths-at t) lengths.Post
+lengths-sub-bound t c = omega (arith, skips-fair (c .before .before .before .before .before .before .skip-where .ensures) .further, ap (λ (x : Place). x .node) (c .before .before .before .before .before .before .before .before .before .before .before .passed .ensures))
 
 lengths-bound-requires : (t : ℕ) → lengths-lts.Need-bound-requires (lengths-claims t) (lengths-at t) lengths.Post
 lengths-bound-requires t c κs = search needs
@@ -363,10 +400,10 @@ lengths-packed-requires : (t : ℕ) → lengths-lts.Need-packed-requires (length
 lengths-packed-requires t c κs = search needs
 
 lengths-mul-parts : (t : ℕ) → lengths-lts.Need-mul-parts (lengths-claims t) (lengths-at t) lengths.Post
-lengths-mul-parts t c = omega (arith, c .before .before .wide .ensures, c .before .before .before .before .before .before .before .before .before .before .pre .1 .1 .variable)
+lengths-mul-parts t c = omega (arith, c .before .before .before .before .wide .ensures, c .before .before .before .before .before .before .before .before .before .before .before .before .before .before .before .before .before .before .before .before .pre .1 .1 .variable)
 
 lengths-element-write-parts : (t : ℕ) → lengths-lts.Need-element-write-parts (lengths-claims t) (lengths-at t) lengths.Post
-lengths-element-write-parts t c = omega (arith, c .before .before .wide .ensures, c .before .before .before .before .before .before .before .before .before .before .pre .1 .1 .variable)
+lengths-element-write-parts t c = omega (arith, c .before .before .before .before .wide .ensures, c .before .before .before .before .before .before .before .before .before .before .before .before .before .before .before .before .before .before .before .before .pre .1 .1 .variable)
 
 lengths-nodes-requires : (t : ℕ) → lengths-lts.Need-nodes-requires (lengths-claims t) (lengths-at t) lengths.Post
 lengths-nodes-requires t c κs = search needs
@@ -382,34 +419,43 @@ lengths-next-requires t c κs = search needs
 
 lengths-level-requires : (t : ℕ) → lengths-lts.Need-level-requires (lengths-claims t) (lengths-at t) lengths.Post
 lengths-level-requires t c κs =
-    let entered = c .before .before .before .before .before .before .before .before .before .before .before .before .before .before .before .before .before .before in
+    let entered = c .before .before .before .before .before .before .before .before .before .before .before .before .before .before .before .before .before .before .before .before .before .before .before .before .before .before .before .before in
     let pre = entered .pre in
-    let node = pre .1 .0 .holds .node in
+    let fair = skips-fair (c .before .before .before .before .before .before .before .before .before .before .before .before .before .before .before .before .skip-where .ensures) in
+    let past = c .before .before .before .before .before .before .before .before .before .before .before .before .before .before .before .before .before .before .before .before .before .passed .ensures in
+    let elements = ap (λ (x : Place). x .elements) past in
+    let node = ap (λ (x : Place). x .node) past in
     rw (
       c .next .ensures,
       c .before .remaining .ensures,
       c .before .before .queue .ensures,
       c .before .before .before .nodes .ensures,
-      c .before .before .before .before .before .before .before .before .before .before .wide .ensures,
-      c .before .before .before .before .before .before .before .before .before .before .before .passed .ensures,
+      c .before .before .before .before .before .before .before .before .before .before .before .before .wide .ensures,
+      c .before .before .before .before .before .before .before .before .before .before .before .before .before .behind .ensures ∙ behind-passed _ _ _ _ past (omega (arith, fair .further, node)),
     ) (
       omega (arith, pre .0, pre .1 .1 .at),
       (
-        run-begun _ 0 0 _ (pre .1 .0) (pre .1 .1 .at) (pre .1 .1 .variable) (pre .1 .2) (omega arith) (omega (arith, entered .good)) (omega (arith, node))
+        run-begun _ _ _ _ (pre .1 .0) (pre .1 .1 .at) (pre .1 .1 .variable) (pre .1 .2) (omega (arith, fair .few, elements)) (omega (arith, entered .good))
+            (omega (arith, fair .further, node, fair .within (omega (arith, node, pre .1 .0 .holds .node))))
             (c .before .before .before .before .before .before .before .before .packed .ensures ∙ ap packed (c .before .before .before .before .before .before .before .before .before .bound .ensures)),
         pre .1 .3,
       ),
     )
 
-lengths-returns-2 : (t : ℕ) → lengths-lts.Need-returns-2 (lengths-claims t) (lengths-at t) lengths.Post
-lengths-returns-2 t c =
-    let entered = c .before .before .before .before .before .before .before .before .before .before .before .before .before .before .before .before .before .before .before in
+lengths-returns-3 : (t : ℕ) → lengths-lts.Need-returns-3 (lengths-claims t) (lengths-at t) lengths.Post
+lengths-returns-3 t c =
+    let entered = c .before .before .before .before .before .before .before .before .before .before .before .before .before .before .before .before .before .before .before .before .before .before .before .before .before .before .before .before .before in
     let pre = entered .pre in
-    let node = pre .1 .0 .holds .node in
-    follow-tries _ _ _ _ _ _ _ _ _ _ _ (c .before .before .before .before .before .before .before .before .before .before .before .before .before .if1 .left) (pre .1 .1 .at)
-    (level-run _ _ 0 0 _ (c .before .before .before .before .before .before .before .before .before .before .before .wide .ensures) (pre .1 .0) (pre .1 .1 .at) (pre .1 .1 .variable) (pre .1 .2) (omega arith) (omega (arith, entered .good))
-    (omega (arith, node)) (c .before .before .before .before .before .before .before .before .before .packed .ensures ∙ ap packed (c .before .before .before .before .before .before .before .before .before .before .bound .ensures)) _ (c .before .before .before .before .before .before .before .before .before .before .before .before .passed .ensures)
-    (level-from (rw (c .before .before .before .queue .ensures, c .before .before .before .before .nodes .ensures)) (rw (c .before .next .ensures, c .before .before .remaining .ensures)) (c .level .ensures)))
+    let fair = skips-fair (c .before .before .before .before .before .before .before .before .before .before .before .before .before .before .before .before .before .skip-where .ensures) in
+    let past = c .before .before .before .before .before .before .before .before .before .before .before .before .before .before .before .before .before .before .before .before .before .before .passed .ensures in
+    let elements = ap (λ (x : Place). x .elements) past in
+    let node = ap (λ (x : Place). x .node) past in
+    follow-tries _ _ _ _ _ _ _ _ _ _ _ (c .before .before .before .before .before .before .before .before .before .before .before .before .before .before .before .before .before .before .before .before .before .before .before .if1 .left) (pre .1 .1 .at)
+    (level-skipped _ _ (pre .1 .2) (c .before .before .before .before .before .before .before .before .before .before .before .before .before .before .before .before .before .skip-where .ensures) past (omega arith) _ (omega (arith, fair .further, node))
+    (level-run _ _ _ _ _ (c .before .before .before .before .before .before .before .before .before .before .before .before .before .wide .ensures) (pre .1 .0) (pre .1 .1 .at) (pre .1 .1 .variable) (pre .1 .2) (omega (arith, fair .few, elements)) (omega (arith, entered .good))
+    (omega (arith, fair .further, node, fair .within (omega (arith, node, pre .1 .0 .holds .node)))) (c .before .before .before .before .before .before .before .before .before .packed .ensures ∙ ap packed (c .before .before .before .before .before .before .before .before .before .before .bound .ensures)) _
+    (c .before .before .before .before .before .before .before .before .before .before .before .before .before .before .behind .ensures ∙ behind-passed _ _ _ _ past (omega (arith, fair .further, node)))
+    (level-from (rw (c .before .before .before .queue .ensures, c .before .before .before .before .nodes .ensures)) (rw (c .before .next .ensures, c .before .before .remaining .ensures)) (c .level .ensures))))
 
 abbrev level-claims : ℕ → level-lts.Claims
 level-claims t = (
@@ -423,18 +469,16 @@ level-claims t = (
   rest.Post,
   is-failed-reads.Asked,
   is-failed-reads.Learnt,
-  extent-reads.Asked,
-  extent-reads.Learnt,
-  longer-reads.Asked,
-  longer-reads.Learnt,
+  lengthen-reads.Asked,
+  lengthen-reads.Learnt,
 )
 
 abbrev level-Inv-loop : level-lts.InvT-loop
-level-Inv-loop table classes pattern «record» parts₀ stack₀ assigned₀ left₀ v halts least marks seen place₀ parts stack assigned left place =
+level-Inv-loop table classes pattern «record» parts₀ stack₀ assigned₀ left₀ v halts least want marks outside seen place₀ parts stack assigned left place =
     Turns table classes pattern «record» assigned₀ left₀ parts₀ stack₀ v halts least marks place₀ left parts stack place
 
 abbrev level-μ-loop : level-lts.MeasureT-loop
-level-μ-loop table classes pattern «record» parts₀ stack₀ assigned₀ left₀ v halts least marks seen place₀ parts stack assigned left place =
+level-μ-loop table classes pattern «record» parts₀ stack₀ assigned₀ left₀ v halts least want marks outside seen place₀ parts stack assigned left place =
     place .elements
 
 -- where the level is begun
@@ -442,18 +486,6 @@ level-begun : (t : ℕ) (c : level-lts.After-also (level-claims t) (level-at t) 
     → Begun (length (c .before .before .before .before .before .before .before .before .args .pattern .now)) (length (c .before .before .before .before .before .before .before .before .args .«record» .now)) (c .before .before .before .before .before .before .before .before .args .assigned .now) (c .before .before .before .before .before .before .before .before .args .parts .now) (c .before .before .before .before .before .before .before .before .args .stack .now)
     (c .before .before .before .before .before .before .before .before .args .v) (c .before .before .before .before .before .before .before .before .args .halts) (c .before .before .before .before .before .before .before .before .args .least) (c .before .before .before .of .result) (c .before .before .of2 .result)
 level-begun t c = rw (c .before .before .of2 .ensures, c .before .before .before .of .ensures) (c .before .before .before .before .before .before .before .before .pre .1 .0)
-
--- one element more stays within the record
-level-grows : (t : ℕ) (c : level-lts.After-extent (level-claims t) (level-at t) level.Post level-Inv-loop level-μ-loop)
-    → c .before .before .before .before .before .before .before .before .before .before .before .before .before .loop .place .node + c .extent .result ≤ length (c .before .before .before .before .before .before .before .before .before .before .before .before .before .before .before .before .before .before .before .before .before .before .args .«record» .now)
-level-grows t c =
-    let loop = c .before .before .before .before .before .before .before .before .before .before .before .before .before .loop in
-    omega (
-      arith,
-      loop .inv .turn (level-begun t (c .before .before .before .before .before .before .before .before .before .before .before .before .before .before)) .trying .within,
-      c .extent .ensures .1,
-      rest-length (loop .place .node) (c .before .before .before .before .before .before .before .before .before .before .before .before .before .before .before .before .before .before .before .before .before .before .args .«record» .now),
-    )
 
 level-of-requires : (t : ℕ) → level-lts.Need-of-requires (level-claims t) (level-at t) level.Post level-Inv-loop level-μ-loop
 level-of-requires t c κs = search needs
@@ -480,75 +512,41 @@ level-rest-requires t c κs =
 level-is-failed-requires : (t : ℕ) → level-lts.Need-is-failed-requires (level-claims t) (level-at t) level.Post level-Inv-loop level-μ-loop
 level-is-failed-requires t c κs = search needs
 
-level-sub-left : (t : ℕ) → level-lts.Need-sub-left (level-claims t) (level-at t) level.Post level-Inv-loop level-μ-loop
-level-sub-left t c = omega (arith, c .if3 .left)
+level-sub-lengthen : (t : ℕ) → level-lts.Need-sub-lengthen (level-claims t) (level-at t) level.Post level-Inv-loop level-μ-loop
+level-sub-lengthen t c = omega (arith, c .before .if3 .left)
 
-level-sub-extent : (t : ℕ) → level-lts.Need-sub-extent (level-claims t) (level-at t) level.Post level-Inv-loop level-μ-loop
-level-sub-extent t c = c .before .before .before .before .before .before .before .before .before .before .before .loop .inv .turn (level-begun t (c .before .before .before .before .before .before .before .before .before .before .before .before)) .trying .within
-
-level-part-extent-start : (t : ℕ) → level-lts.Need-part-extent-start (level-claims t) (level-at t) level.Post level-Inv-loop level-μ-loop
-level-part-extent-start t c = c .before .before .before .before .before .before .before .before .before .before .before .loop .inv .turn (level-begun t (c .before .before .before .before .before .before .before .before .before .before .before .before)) .trying .within
-
-level-part-extent-end : (t : ℕ) → level-lts.Need-part-extent-end (level-claims t) (level-at t) level.Post level-Inv-loop level-μ-loop
-level-part-extent-end t c = omega arith
-
-level-extent-requires : (t : ℕ) → level-lts.Need-extent-requires (level-claims t) (level-at t) level.Post level-Inv-loop level-μ-loop
-level-extent-requires t c κs = search needs
-
-level-add-place : (t : ℕ) → level-lts.Need-add-place (level-claims t) (level-at t) level.Post level-Inv-loop level-μ-loop
-level-add-place t c = omega (arith, level-grows t c, c .before .before .before .before .before .before .before .before .before .before .before .before .before .before .before .before .before .before .before .before .before .before .pre .1 .1 .of-record)
-
-level-sub-place : (t : ℕ) → level-lts.Need-sub-place (level-claims t) (level-at t) level.Post level-Inv-loop level-μ-loop
-level-sub-place t c = omega (arith, c .before .before .before .before .before .before .before .if1 .left)
-
-level-mul-longer : (t : ℕ) → level-lts.Need-mul-longer (level-claims t) (level-at t) level.Post level-Inv-loop level-μ-loop
-level-mul-longer t c = omega (arith, c .before .before .before .before .before .before .before .before .before .before .before .before .before .before .before .before .before .before .before .before .before .before .before .pre .1 .0 .free .below)
-
-level-element-copy-out-longer : (t : ℕ) → level-lts.Need-element-copy-out-longer (level-claims t) (level-at t) level.Post level-Inv-loop level-μ-loop
-level-element-copy-out-longer t c = omega (arith, c .before .before .before .before .before .before .before .before .before .before .before .before .before .before .before .before .before .before .before .before .before .before .before .pre .1 .0 .free .below)
-
-level-longer-requires : (t : ℕ) → level-lts.Need-longer-requires (level-claims t) (level-at t) level.Post level-Inv-loop level-μ-loop
-level-longer-requires t c κs = (
-  turn-room _ _ _ _ _ _ _ _ _ _ _ _ _ (c .before .before .before .before .before .before .before .before .before .before .before .before .before .before .before .loop .inv) (c .before .before .before .before .before .before .before .before .before .before .before .before .before .before .before .before .before .before .before .before .before .before .before .before .pre .1 .1 .of-record) (c .before .before .before .before .before .before .before .before .before .before .before .before .before .before .before .before .also .ensures) (c .before .before .before .before .before .before .before .before .before .before .rest .ensures)
-      (level-begun t (c .before .before .before .before .before .before .before .before .before .before .before .before .before .before .before .before)) (omega (arith, c .before .before .before .before .before .before .before .before .if1 .left)),
-  omega (arith, level-grows t (c .before .before), c .before .before .before .before .before .before .before .before .before .before .before .before .before .before .before .before .before .before .before .before .before .before .before .before .pre .1 .1 .of-record),
-)
-
-level-mul-parts : (t : ℕ) → level-lts.Need-mul-parts (level-claims t) (level-at t) level.Post level-Inv-loop level-μ-loop
-level-mul-parts t c = omega (arith, c .before .before .before .before .before .before .before .before .before .before .before .before .before .before .before .before .before .before .before .before .before .before .before .before .before .pre .1 .0 .free .below)
-
-level-element-write-parts : (t : ℕ) → level-lts.Need-element-write-parts (level-claims t) (level-at t) level.Post level-Inv-loop level-μ-loop
-level-element-write-parts t c = omega (arith, c .before .before .before .before .before .before .before .before .before .before .before .before .before .before .before .before .before .before .before .before .before .before .before .before .before .pre .1 .0 .free .below)
+level-lengthen-requires : (t : ℕ) → level-lts.Need-lengthen-requires (level-claims t) (level-at t) level.Post level-Inv-loop level-μ-loop
+level-lengthen-requires t c κs = turn-room _ _ _ _ _ _ _ _ _ _ _ _ _ (c .before .before .before .before .before .before .before .before .before .before .before .before .loop .inv) (c .before .before .before .before .before .before .before .before .before .before .before .before .before .before .before .before .before .before .before .before .before .pre .1 .1 .of-record) (c .before .before .before .before .before .before .before .before .before .before .before .before .before .also .ensures) (c .before .before .before .before .before .before .before .rest .ensures) (level-begun t (c .before .before .before .before .before .before .before .before .before .before .before .before .before)) (omega (arith, c .before .before .before .before .before .if1 .left))
 
 level-loop-less : (t : ℕ) → level-lts.Need-loop-less (level-claims t) (level-at t) level.Post level-Inv-loop level-μ-loop
-level-loop-less t c = omega (arith, c .before .before .before .before .before .before .before .before .before .if1 .left)
+level-loop-less t c = omega (arith, ap (λ (x : Place). x .elements) (c .before .before .lengthen .ensures .place), c .before .before .before .before .before .before .before .before .if1 .left)
 
 level-loop-again : (t : ℕ) → level-lts.Need-loop-again (level-claims t) (level-at t) level.Post level-Inv-loop level-μ-loop
-level-loop-again t c =
-    turn-more _ _ _ _ _ _ _ _ _ _ _ _ _ (c .before .before .before .before .before .before .before .before .before .before .before .before .before .before .before .before .loop .inv) (c .before .before .before .before .before .before .before .before .before .before .before .before .before .before .before .before .before .before .before .before .before .before .before .before .before .pre .1 .1 .of-record) (c .before .before .before .before .before .before .before .before .before .before .before .before .before .before .before .before .before .also .ensures) (c .before .before .before .before .before .before .before .before .before .before .before .rest .ensures)
-    (sym (c .before .before .before .before .before .before .before .before .is-failed .ensures) ∙ not-false _ (c .before .before .before .before .before .before .before .if2 .left)) (omega (arith, c .before .before .before .before .before .before .before .before .before .if1 .left)) (c .before .before .before .before .before .if3 .left) _
-    (c .before .before .before .extent .result) (c .longer .result) (c .before .before .before .extent .ensures .0) refl refl refl refl (level-grows t (c .before .before .before)) (c .longer .ensures)
+level-loop-again t c = turn-more _ _ _ _ _ _ _ _ _ _ _ _ _ (c .before .before .before .before .before .before .before .before .before .before .before .before .before .before .before .loop .inv) (c .before .before .before .before .before .before .before .before .before .before .before .before .before .before .before .before .before .before .before .before .before .before .before .before .pre .1 .1 .of-record) (c .before .before .before .before .before .before .before .before .before .before .before .before .before .before .before .before .also .ensures) (c .before .before .before .before .before .before .before .before .before .before .rest .ensures)
+    (sym (c .before .before .before .before .before .before .before .is-failed .ensures) ∙ not-false _ (c .before .before .before .before .before .before .if2 .left)) (omega (arith, c .before .before .before .before .before .before .before .before .if1 .left)) (c .before .before .before .before .if3 .left) (c .before .before .lengthen .ensures)
 
 level-returns : (t : ℕ) → level-lts.Need-returns (level-claims t) (level-at t) level.Post level-Inv-loop level-μ-loop
-level-returns t c =
-    level-from (c .before .before .before .before .before .before .before .before .before .before .before .of .ensures) (c .before .before .before .before .before .before .before .before .before .before .of2 .ensures)
+level-returns t c = level-from (c .before .before .before .before .before .before .before .before .before .before .before .of .ensures) (c .before .before .before .before .before .before .before .before .before .before .of2 .ensures)
     (turn-last _ _ _ _ _ _ _ _ _ _ _ _ _ (c .before .before .before .before .before .before .before .loop .inv) (c .before .before .before .before .before .before .before .before .before .before .before .before .before .before .before .before .pre .1 .1 .of-record) (c .before .before .before .before .before .before .before .before .also .ensures) (c .before .before .rest .ensures) (c .if1 .taken))
 
 level-returns-2 : (t : ℕ) → level-lts.Need-returns-2 (level-claims t) (level-at t) level.Post level-Inv-loop level-μ-loop
-level-returns-2 t c =
-    level-from (c .before .before .before .before .before .before .before .before .before .before .before .before .before .of .ensures) (c .before .before .before .before .before .before .before .before .before .before .before .before .of2 .ensures)
+level-returns-2 t c = level-from (c .before .before .before .before .before .before .before .before .before .before .before .before .before .of .ensures) (c .before .before .before .before .before .before .before .before .before .before .before .before .of2 .ensures)
     (turn-hit _ _ _ _ _ _ _ _ _ _ _ _ _ (c .before .before .before .before .before .before .before .before .before .loop .inv) (c .before .before .before .before .before .before .before .before .before .before .before .before .before .before .before .before .before .before .pre .1 .1 .of-record) (c .before .before .before .before .before .before .before .before .before .before .also .ensures) (c .before .before .before .before .rest .ensures) (sym (c .before .is-failed .ensures) ∙ not-true _ (c .if2 .taken)))
 
 level-returns-3 : (t : ℕ) → level-lts.Need-returns-3 (level-claims t) (level-at t) level.Post level-Inv-loop level-μ-loop
-level-returns-3 t c =
-    level-from (c .before .before .before .before .before .before .before .before .before .before .before .before .before .before .before .of .ensures) (c .before .before .before .before .before .before .before .before .before .before .before .before .before .before .of2 .ensures)
+level-returns-3 t c = level-from (c .before .before .before .before .before .before .before .before .before .before .before .before .before .before .before .of .ensures) (c .before .before .before .before .before .before .before .before .before .before .before .before .before .before .of2 .ensures)
     (turn-spent _ _ _ _ _ _ _ _ _ _ _ _ _ (c .before .before .before .before .before .before .before .before .before .before .before .loop .inv) (c .before .before .before .before .before .before .before .before .before .before .before .before .before .before .before .before .before .before .before .before .pre .1 .1 .of-record) (c .before .before .before .before .before .before .before .before .before .before .before .before .also .ensures) (c .before .before .before .before .before .before .rest .ensures)
     (sym (c .before .before .before .is-failed .ensures) ∙ not-false _ (c .before .before .if2 .left)) (omega (arith, c .before .before .before .before .if1 .left)) (c .if3 .taken))
 
+level-returns-4 : (t : ℕ) → level-lts.Need-returns-4 (level-claims t) (level-at t) level.Post level-Inv-loop level-μ-loop
+level-returns-4 t c = level-from (c .before .before .before .before .before .before .before .before .before .before .before .before .before .before .before .before .before .before .of .ensures) (c .before .before .before .before .before .before .before .before .before .before .before .before .before .before .before .before .before .of2 .ensures)
+    (turn-over _ _ _ _ _ _ _ _ _ _ _ _ _ (c .before .before .before .before .before .before .before .before .before .before .before .before .before .before .loop .inv) (c .before .before .before .before .before .before .before .before .before .before .before .before .before .before .before .before .before .before .before .before .before .before .before .pre .1 .1 .of-record) (c .before .before .before .before .before .before .before .before .before .before .before .before .before .before .before .also .ensures) (c .before .before .before .before .before .before .before .before .before .rest .ensures)
+    (sym (c .before .before .before .before .before .before .is-failed .ensures) ∙ not-false _ (c .before .before .before .before .before .if2 .left)) (omega (arith, c .before .before .before .before .before .before .before .if1 .left)) (c .before .before .before .if3 .left) (c .before .lengthen .ensures) (c .if4 .taken))
+
 abbrev rest-claims : ℕ → rest-lts.Claims
 rest-claims t = (
-  walk-reads.Asked,
-  walk-reads.Learnt,
+  onward-reads.Asked,
+  onward-reads.Learnt,
   is-failure-reads.Asked,
   is-failure-reads.Learnt,
   report-reads.Asked,
@@ -557,33 +555,29 @@ rest-claims t = (
   follow.Post,
 )
 
-rest-walk-requires : (t : ℕ) → rest-lts.Need-walk-requires (rest-claims t) (rest-at t) rest.Post
-rest-walk-requires t c κs = c .before .before .before .before .before .before .before .before .pre .1
+rest-onward-requires : (t : ℕ) → rest-lts.Need-onward-requires (rest-claims t) (rest-at t) rest.Post
+rest-onward-requires t c κs = c .before .before .before .before .before .before .before .before .pre .1
 
 rest-is-failure-requires : (t : ℕ) → rest-lts.Need-is-failure-requires (rest-claims t) (rest-at t) rest.Post
 rest-is-failure-requires t c κs = search needs
 
 rest-returns : (t : ℕ) → rest-lts.Need-returns (rest-claims t) (rest-at t) rest.Post
-rest-returns t c =
-    rest-fails-by _ (c .before .before .before .before .walk .ensures) (c .before .before .before .before .before .before .before .before .before .before .before .before .before .pre .1 .0)
-    (sym (c .before .is-failure .ensures) ∙ c .if1 .taken)
+rest-returns t c = rest-fails-by _ (c .before .before .before .before .onward .ensures) (c .before .before .before .before .before .before .before .before .before .before .before .before .before .pre .1 .0) (sym (c .before .is-failure .ensures) ∙ c .if1 .taken)
 
 rest-report-requires : (t : ℕ) → rest-lts.Need-report-requires (rest-claims t) (rest-at t) rest.Post
 rest-report-requires t c κs = search needs
 
 rest-returns-2 : (t : ℕ) → rest-lts.Need-returns-2 (rest-claims t) (rest-at t) rest.Post
-rest-returns-2 t c =
-    rest-reports _ (c .before .before .before .before .before .before .before .walk .ensures) (c .before .before .if2 .taken) (sym (c .before .before .before .before .is-failure .ensures) ∙ c .before .before .before .if1 .left) (c .report .ensures)
+rest-returns-2 t c = rest-reports _ (c .before .before .before .before .before .before .before .onward .ensures) (c .before .before .if2 .taken) (sym (c .before .before .before .before .is-failure .ensures) ∙ c .before .before .before .if1 .left) (c .report .ensures)
 
 rest-follow-requires : (t : ℕ) → rest-lts.Need-follow-requires (rest-claims t) (rest-at t) rest.Post
 rest-follow-requires t c κs =
     let pre = c .before .before .before .before .before .before .before .before .before .before .before .before .before .before .before .before .before .before .pre in
-    let w = c .before .before .before .before .before .before .before .before .before .walk .ensures (pre .1 .0 .state) (pre .1 .0 .holds) in
+    let w = c .before .before .before .before .before .before .before .before .before .onward .ensures .going (pre .1 .0 .state) (pre .1 .0 .holds) in
     (omega (arith, pre .0, w .further), (record { state = w .end; holds = w .holds }, w .stops, w .unassigned, pre .1 .1))
 
 rest-returns-3 : (t : ℕ) → rest-lts.Need-returns-3 (rest-claims t) (rest-at t) rest.Post
-rest-returns-3 t c =
-    rest-follows-by _ (c .before .before .before .before .before .before .before .before .before .before .walk .ensures) (c .before .before .before .before .before .if2 .left) (c .before .before .before .before .before .before .before .before .before .before .before .before .before .before .before .before .before .before .before .pre .1 .0) (c .follow .ensures)
+rest-returns-3 t c = rest-follows-by _ (c .before .before .before .before .before .before .before .before .before .before .onward .ensures) (c .before .before .before .before .before .if2 .left) (c .before .before .before .before .before .before .before .before .before .before .before .before .before .before .before .before .before .before .before .pre .1 .0) (c .follow .ensures)
 
 abbrev start-level-claims : ℕ → start-level-lts.Claims
 start-level-claims t = (
@@ -641,7 +635,7 @@ pub +complement+complements+follow+lengths+level+rest+start-level-spec : {M : Ty
     (complement-sub-inside t)
     (complement-part-inside-start t)
     (complement-part-inside-end t)
-    (complement-first-pair-requires t)
+    (complement-at-once-requires t)
     (complement-enum-known-first t)
     (complement-sub-left t)
     (complement-opposite-requires t)
@@ -688,9 +682,18 @@ pub +complement+complements+follow+lengths+level+rest+start-level-spec : {M : Ty
     (lengths-at t)
     lengths.Post
     (lengths-returns t)
-    (lengths-sub-left t)
     (lengths-passed-requires t)
+    (lengths-wanted-requires t)
+    (lengths-sub-skip-where t)
+    (lengths-skip-where-requires t)
+    (lengths-sub-left t)
+    (lengths-cast-left t)
+    (lengths-mul-left t)
+    (lengths-sub-left-2 t)
+    (lengths-returns-2 t)
+    (lengths-behind-requires t)
     (lengths-wide-requires t)
+    (lengths-sub-bound t)
     (lengths-bound-requires t)
     (lengths-packed-requires t)
     (lengths-mul-parts t)
@@ -700,7 +703,7 @@ pub +complement+complements+follow+lengths+level+rest+start-level-spec : {M : Ty
     (lengths-remaining-requires t)
     (lengths-next-requires t)
     (lengths-level-requires t)
-    (lengths-returns-2 t))
+    (lengths-returns-3 t))
     (λ t. level-lts.spec
     (level-claims t)
     (level-at t)
@@ -713,28 +716,19 @@ pub +complement+complements+follow+lengths+level+rest+start-level-spec : {M : Ty
     (level-loop-holds t)
     (level-rest-requires t)
     (level-is-failed-requires t)
-    (level-sub-left t)
-    (level-sub-extent t)
-    (level-part-extent-start t)
-    (level-part-extent-end t)
-    (level-extent-requires t)
-    (level-add-place t)
-    (level-sub-place t)
-    (level-mul-longer t)
-    (level-element-copy-out-longer t)
-    (level-longer-requires t)
-    (level-mul-parts t)
-    (level-element-write-parts t)
+    (level-sub-lengthen t)
+    (level-lengthen-requires t)
     (level-loop-less t)
     (level-loop-again t)
     (level-returns t)
     (level-returns-2 t)
-    (level-returns-3 t))
+    (level-returns-3 t)
+    (level-returns-4 t))
     (λ t. rest-lts.spec
     (rest-claims t)
     (rest-at t)
     rest.Post
-    (rest-walk-requires t)
+    (rest-onward-requires t)
     (rest-is-failure-requires t)
     (rest-returns t)
     (rest-report-requires t)

@@ -4,7 +4,7 @@ use lib.ListN.{length}
 use native.Mathlib.Omega.{arith}
 use borrow.Author.Needs.{needs}
 use Rattle.search.proofs.Givens.{Behind, behind-first, behind-next, behind-end}
-use Rattle.search.proofs.Steps.{rest-length}
+use Rattle.skips.proofs.Passing.{rest-length}
 use Rattle.search.proofs.behind.Statement.{statement}
 use Rattle.search.proofs.behind.Tie as tie
 use Rattle.search.proofs.behind.Reads as reads

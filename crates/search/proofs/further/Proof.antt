@@ -1,7 +1,7 @@
 -- `search::further` meets its contract. Assumes nothing.
 use native.Mathlib.Omega.{arith}
 use borrow.Author.Needs.{needs}
-use Rattle.search.proofs.Steps.{rest-length}
+use Rattle.skips.proofs.Passing.{rest-length}
 use mathlib.Core.Path.{refl, ap, _∙_}
 use Rattle.search.specs.Inner.Memory.{packed}
 use Rattle.search.proofs.Begins.{level-from, run-begun}
@@ -61,6 +61,9 @@ mul-parts c = omega (arith, c .before .before .before .before .before .before .b
 element-write-parts : tie.Need-element-write-parts
 element-write-parts c = omega (arith, c .before .before .before .before .before .before .before .before .before .before .before .before .before .before .before .pre .1 .variable)
 
+wanted-requires : tie.Need-wanted-requires
+wanted-requires c κs = search needs
+
 nodes-requires : tie.Need-nodes-requires
 nodes-requires c κs = search needs
 
@@ -75,61 +78,36 @@ next-requires c κs = search needs
 
 level-requires : tie.Need-level-requires
 level-requires c κs =
-    let entered = c .before .before .before .before .before .before .before .before .before .before .before .before .before .before .before .before .before .before .before .before .before .before .before in
+    let entered = c .before .before .before .before .before .before .before .before .before .before .before .before .before .before .before .before .before .before .before .before .before .before .before .before .before in
     let pre = entered .pre in
-    let few = c .before .before .before .before .before .before .before .before .before .before .before .before .before .before .before .before .before .if1 .left in
-    let extent = c .before .before .before .before .before .before .before .before .before .before .before .before .before .extent in
+    let few = c .before .before .before .before .before .before .before .before .before .before .before .before .before .before .before .before .before .before .before .if1 .left in
+    let extent = c .before .before .before .before .before .before .before .before .before .before .before .before .before .before .before .extent in
     let end = rest-length (entered .args .node) (entered .args .«record» .now) in
-    let is-part = c .before .before .before .before .before .before .before .before .packed .ensures ∙ ap packed (c .before .before .before .before .before .before .before .before .before .bound .ensures) in
+    let is-part = c .before .before .before .before .before .before .before .before .before .before .packed .ensures ∙ ap packed (c .before .before .before .before .before .before .before .before .before .before .before .bound .ensures) in
     rw (
       c .next .ensures,
       c .before .remaining .ensures,
       c .before .before .queue .ensures,
       c .before .before .before .nodes .ensures,
-      c .before .before .before .before .before .before .before .before .before .before .before .passed .ensures,
+      c .before .before .before .before .before .before .before .before .before .before .before .before .before .passed .ensures,
     ) (
-      run-begun _ _ _ _ (pre .0) (pre .1 .at) (pre .1 .variable) (pre .2) (omega (arith, few)) (omega (arith, c .before .before .before .before .before .before .before .before .before .before .before .before .before .before .before .before .before .before .struct-known .given))
+      run-begun _ _ _ _ (pre .0) (pre .1 .at) (pre .1 .variable) (pre .2) (omega (arith, few)) (omega (arith, c .before .before .before .before .before .before .before .before .before .before .before .before .before .before .before .before .before .before .before .before .struct-known .given))
           (omega (arith, pre .4, pre .5, extent .ensures .1, end)) is-part,
       pre .6,
     )
 
 returns-3 : tie.Need-returns-3
 returns-3 c =
-    let entered = c .before .before .before .before .before .before .before .before .before .before .before .before .before .before .before .before .before .before .before .before .before .before .before .before in
+    let entered = c .before .before .before .before .before .before .before .before .before .before .before .before .before .before .before .before .before .before .before .before .before .before .before .before .before .before in
     let pre = entered .pre in
-    let few = c .before .before .before .before .before .before .before .before .before .before .before .before .before .before .before .before .before .before .if1 .left in
-    let extent = c .before .before .before .before .before .before .before .before .before .before .before .before .before .before .extent in
+    let few = c .before .before .before .before .before .before .before .before .before .before .before .before .before .before .before .before .before .before .before .before .if1 .left in
+    let extent = c .before .before .before .before .before .before .before .before .before .before .before .before .before .before .before .before .extent in
     let end = rest-length (entered .args .node) (entered .args .«record» .now) in
-    let is-part = c .before .before .before .before .before .before .before .before .before .packed .ensures ∙ ap packed (c .before .before .before .before .before .before .before .before .before .before .bound .ensures) in
-    further-level _ _ _ _ _ _ _ _ _ _ _ _ _ (omega (arith, few)) (c .before .before .before .before .before .before .before .before .before .before .before .before .before .before .before .before .if2 .left) (pre .1 .at) (pre .4) (extent .result) (extent .ensures .0)
-    (level-run _ _ _ _ _ refl (pre .0) (pre .1 .at) (pre .1 .variable) (pre .2) (omega (arith, few)) (omega (arith, c .before .before .before .before .before .before .before .before .before .before .before .before .before .before .before .before .before .before .before .struct-known .given))
-    (omega (arith, pre .4, pre .5, extent .ensures .1, end)) is-part _ (c .before .before .before .before .before .before .before .before .before .before .before .before .passed .ensures)
+    let is-part = c .before .before .before .before .before .before .before .before .before .before .before .packed .ensures ∙ ap packed (c .before .before .before .before .before .before .before .before .before .before .before .before .bound .ensures) in
+    further-level _ _ _ _ _ _ _ _ _ _ _ _ _ (omega (arith, few)) (c .before .before .before .before .before .before .before .before .before .before .before .before .before .before .before .before .before .before .if2 .left) (pre .1 .at) (pre .4) (extent .result) (extent .ensures .0)
+    (level-run _ _ _ _ _ refl (pre .0) (pre .1 .at) (pre .1 .variable) (pre .2) (omega (arith, few)) (omega (arith, c .before .before .before .before .before .before .before .before .before .before .before .before .before .before .before .before .before .before .before .before .before .struct-known .given))
+    (omega (arith, pre .4, pre .5, extent .ensures .1, end)) is-part _ (c .before .before .before .before .before .before .before .before .before .before .before .before .before .before .passed .ensures)
     (level-from (rw (c .before .before .before .queue .ensures, c .before .before .before .before .nodes .ensures)) (rw (c .before .next .ensures, c .before .before .remaining .ensures)) (c .level .ensures)))
 
 pub further-spec : {M : Type 1} → statement M
-further-spec =
-    tie.close
-    (tie.spec
-    returns
-    returns-2
-    sub-left
-    sub-extent
-    part-extent-start
-    part-extent-end
-    extent-requires
-    add-end
-    add-passed
-    sub-passed
-    passed-requires
-    sub-bound
-    add-bound
-    bound-requires
-    packed-requires
-    mul-parts
-    element-write-parts
-    nodes-requires
-    queue-requires
-    remaining-requires
-    next-requires
-    level-requires
-    returns-3)
+further-spec = tie.close (tie.spec returns returns-2 sub-left sub-extent part-extent-start part-extent-end extent-requires add-end add-passed sub-passed passed-requires sub-bound add-bound bound-requires packed-requires mul-parts element-write-parts wanted-requires nodes-requires queue-requires remaining-requires next-requires level-requires returns-3)

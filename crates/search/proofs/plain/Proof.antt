@@ -3,7 +3,8 @@ use native.Mathlib.Omega.{arith}
 use borrow.Author.Needs.{needs}
 use borrow.Author.Tests.{le-leb, lt-leb, eq-eqb, ne-eqb}
 use Rattle.search.specs.State.{plainStep}
-use Rattle.search.proofs.Steps.{rest-length, plain-pair}
+use Rattle.skips.proofs.Passing.{rest-length}
+use Rattle.search.proofs.Steps.{plain-pair}
 use Rattle.search.proofs.plain.Statement.{statement}
 use Rattle.search.proofs.plain.Tie as tie
 

@@ -13,7 +13,7 @@ use Rattle.term.specs.declared.Code.the-variants.{Symbol, Name, Run, Complement
 use Rattle.term.proofs.Code as codes
 use Rattle.term.proofs.Codes.{decode-below}
 use Rattle.search.specs.Spread.{runHere}
-use Rattle.search.proofs.Steps.{rest-length}
+use Rattle.skips.proofs.Passing.{rest-length}
 use Rattle.search.proofs.Spreads.{Spreading, spread-first, spread-end, spread-falls, spread-past, spread-seen, spread-short, spread-new}
 use Rattle.search.proofs.spread.Statement.{statement}
 use Rattle.search.proofs.spread.Tie as tie

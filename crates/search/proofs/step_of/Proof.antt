@@ -19,7 +19,8 @@ use Rattle.search.specs.Inner.Memory.{partIn}
 use Rattle.search.specs.State.{variableOf, stepOf, codeStep, plainStep}
 use Rattle.search.specs.declared.Place.{Place}
 use Rattle.search.specs.declared.Step.{Step}
-use Rattle.search.proofs.Steps.{rest-drop, step-at}
+use Rattle.skips.proofs.Passing.{rest-drop}
+use Rattle.search.proofs.Steps.{step-at}
 use Rattle.search.proofs.step_of.Statement.{statement}
 use Rattle.search.proofs.step_of.Tie as tie
 

@@ -100,6 +100,7 @@ pub record Begun (codes bytes assigned : ℕ) (parts stack : List ℕ) (v : ℕ)
   pub behind : from ≤ p .node
   pub within : p .node ≤ bytes
   pub named : first < most → v < variables
+  pub all : v < variables → least ≡ 0
   pub written : v < variables → getD parts v 0 ≡ packed (boundPart from (p .node - from) first)
   pub halting : Halting halts v first most (p .node - from)
 

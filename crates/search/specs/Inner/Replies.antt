@@ -3,14 +3,14 @@ use Prim.Native.Nat.{ℕ, zero, suc, _+_, _-_, _*_, _<_, _≤_}
 use mathlib.Core.Path.{_≡_}
 use mathlib.Core.List.{List, [], _∷_}
 use mathlib.Core.Bool.{Bool, true, false, cond}
-use lib.ListN.{length, drop, set}
+use lib.ListN.{length, getD, drop, set}
 use lib.Dec.{eqb}
 use Rattle.term.specs.Code.{variables}
 use Rattle.term.specs.Extent.{extentOf}
-use Rattle.term.specs.Part.{boundPart}
+use Rattle.term.specs.Part.{part, boundPart}
 use Rattle.term.specs.declared.Part.{Part}
 use Rattle.search.specs.State.{PutBy, State, place, state}
-use Rattle.search.specs.Level.{Reply, reply, failedAt, spentAt, startOf, orElse, insideOf, complementsOf, stopBy, levelOf, levels}
+use Rattle.search.specs.Level.{Reply, reply, failedAt, spentAt, startOf, orElse, insideOf, complementsOf, stopBy, levelOf, levels, endOf}
 use Rattle.search.specs.Shown.{entryWidth}
 use Rattle.search.specs.Inner.Memory.{bit, partIn, Holds, Holding, Kept}
 use Rattle.search.specs.declared.Place.{Place}
@@ -110,6 +110,16 @@ pub record EndsAtOnce (table classes pattern bytes : List ℕ) (node left : ℕ)
 abbrev pub Decides : List ℕ → List ℕ → List ℕ → List ℕ → ℕ → ℕ → First → Type 0
 Decides table classes pattern bytes node left (Decided outcome) = EndsAtOnce table classes pattern bytes node left outcome
 Decides table classes pattern bytes node left Unsure = Unit {0}
+
+-- the same within a complement, where the buffers hold what is assigned; what is assigned there is dropped
+pub record EndsInside (table classes pattern bytes : List ℕ) (assigned : ℕ) (parts : List ℕ) (node left : ℕ) (outcome : Outcome) : Type 0 where
+  pub some : 0 < left
+  pub ends : (shown : List Part) → ((v : ℕ) → v < variables → getD shown v (part 0 0 0) ≡ partIn assigned parts v) → (n : ℕ) → 0 < n
+      → endOf (levelOf n table classes bytes pattern (startOf shown node) left) ≡ record { outcome = outcome; left = left - 1 }
+
+abbrev pub DecidesInside : List ℕ → List ℕ → List ℕ → List ℕ → ℕ → List ℕ → ℕ → ℕ → First → Type 0
+DecidesInside table classes pattern bytes assigned parts node left (Decided outcome) = EndsInside table classes pattern bytes assigned parts node left outcome
+DecidesInside table classes pattern bytes assigned parts node left Unsure = Unit {0}
 
 -- The replies: the definition's, with any number of levels that is enough, and what is left alone
 

@@ -1,0 +1,77 @@
+-- The checks of a call pass exactly on accepted input.
+use Prim.Native.Nat.{ℕ, _<_, _≤_}
+use native.Mathlib.Omega.{arith}
+use mathlib.Core.Path.{_≡_, refl, _∙_, ap}
+use mathlib.Core.Logic.{_↔_}
+use mathlib.Core.List.{List}
+use mathlib.Core.Option.{Option}
+use mathlib.Core.Bool.{Bool, true, false}
+use lib.Dec.{leb}
+use borrow.Author.Tests.{leb-true, le-leb, lt-leb}
+use Rattle.reader.specs.Reading.{Answer as Reading, refused, read}
+use Rattle.term.specs.Table.{tableAccepted}
+use Rattle.term.specs.declared.Refusal.{Refusal}
+use Rattle.term.specs.declared.Refusal.the-variants.{Table, Narrow, Class}
+use Rattle.search.specs.Shown.{answerWidth}
+use Rattle.call.specs.Brought.{broughtAccepted}
+use Rattle.call.specs.Verdict.{Verdict, passed, fault, check, reading, both}
+use Rattle.call.specs.Call.{checks}
+
+-- Verdicts
+
+pub fault-passed : {X : Type 0} {r : Refusal} {i : ℕ} {x : X} → _≡_ {A = Verdict X} (fault r i) (passed x) → ⊥
+fault-passed e = let z : _≡_ {A = ℕ} 0 1 = cc in omega arith
+
+pub reading-passed : {X : Type 0} (y : Reading X) (x : X) → reading y ≡ passed x → (n : ℕ) × (y ≡ read x n)
+reading-passed (read y n) x e = (n, cc)
+reading-passed (refused r) x e = absurd (fault-passed e)
+
+pub both-passed : {X Y : Type 0} (v : Verdict X) (w : Verdict Y) (x : X) (y : Y) → both v w ≡ passed (x, y) → (v ≡ passed x) × (w ≡ passed y)
+both-passed (fault r i) w x y e = absurd (fault-passed e)
+both-passed (passed u) (fault r i) x y e = absurd (fault-passed e)
+both-passed {X} {Y} (passed u) (passed v) x y e =
+    let z : _≡_ {A = X × Y} (u, v) (x, y) = cc in (ap (λ (p : X × Y). passed (p .0)) z, ap (λ (p : X × Y). passed (p .1)) z)
+
+module _ {X : Type 0} (table : List ℕ) (brought : Option (List ℕ)) (width : ℕ) (own : Verdict X) where
+  -- each check by what is told of the ones before it, in the words of whoever makes them
+
+  module _ {W : Type 0} (word : Verdict X → W) where
+    pub narrow-fails : width < answerWidth → word (fault Narrow 0) ≡ word (checks table brought width own)
+    unfolding checks
+    narrow-fails h = rw (lt-leb answerWidth width h)
+
+    module _ (wide : answerWidth ≤ width) where
+      pub table-fails : tableAccepted table ≡ false → word (fault Table 0) ≡ word (checks table brought width own)
+      unfolding checks
+      table-fails h = rw (le-leb answerWidth width wide, h)
+
+      module _ (tabled : tableAccepted table ≡ true) where
+        pub class-fails : broughtAccepted table brought ≡ false → word (fault Class 0) ≡ word (checks table brought width own)
+        unfolding checks
+        class-fails h = rw (le-leb answerWidth width wide, tabled, h)
+
+  -- where all pass, the call's own decide
+  pub then-own : answerWidth ≤ width → tableAccepted table ≡ true → broughtAccepted table brought ≡ true → checks table brought width own ≡ own
+  unfolding checks
+  then-own wide tabled h = rw (le-leb answerWidth width wide, tabled, h)
+
+  passed-checks : (x : X) → checks table brought width own ≡ passed x
+      → (answerWidth ≤ width) × (broughtAccepted table brought ≡ true) × (tableAccepted table ≡ true) × (own ≡ passed x)
+  unfolding checks
+  passed-checks x e = go (leb answerWidth width) refl (tableAccepted table) refl (broughtAccepted table brought) refl e
+    where
+      go : (a : Bool) → leb answerWidth width ≡ a → (b : Bool) → tableAccepted table ≡ b → (c : Bool) → broughtAccepted table brought ≡ c
+          → check a Narrow (check b Table (check c Class own)) ≡ passed x
+          → (answerWidth ≤ width) × (broughtAccepted table brought ≡ true) × (tableAccepted table ≡ true) × (own ≡ passed x)
+      go true f true g true h e = (leb-true answerWidth width f, h, g, e)
+      go true f true g false h e = absurd (fault-passed e)
+      go true f false g c h e = absurd (fault-passed e)
+      go false f b g c h e = absurd (fault-passed e)
+
+  -- Accepted input is a table that is accepted and an own reading that passes
+  module _ (Accepted : X → Type 0) (reads : (x : X) → Accepted x ↔ ((tableAccepted table ≡ true) × (own ≡ passed x))) (x : X) where
+    pub passed-exactly : (checks table brought width own ≡ passed x) ↔ ((answerWidth ≤ width) × (broughtAccepted table brought ≡ true) × Accepted x)
+    passed-exactly = (
+      λ e. let c = passed-checks x e in (c .0, c .1, reads x .1 (c .2, c .3)),
+      λ a. let c = reads x .0 (a .2) in then-own (a .0) (c .0) (a .1) ∙ c .1,
+    )

@@ -1,0 +1,106 @@
+-- The checks pass exactly on accepted input that is plain.
+use Prim.Native.Nat.{ℕ, _≤_}
+use mathlib.Core.Path.{_≡_, refl, sym, _∙_, ap}
+use mathlib.Core.Logic.{_↔_}
+use mathlib.Core.List.{List}
+use mathlib.Core.Option.{Option}
+use mathlib.Core.Bool.{Bool, true, false, true≢false}
+use Rattle.term.specs.Limits.{Octets}
+use Rattle.term.specs.Pattern.{Pattern}
+use Rattle.term.specs.Table.{tableAccepted}
+use Rattle.term.specs.Term.{Term}
+use Rattle.term.specs.declared.Refusal.{Refusal}
+use Rattle.term.specs.declared.Refusal.the-variants.{NotPlain}
+use Rattle.reader.specs.Reading.{shown, readRecord, readPattern}
+use Rattle.reader.specs.declared.Read.{Read}
+use Rattle.reader.specs.declared.Read.the-variants.{Ends}
+use Rattle.reader.proofs.Answers.{refused-shown, ends-shown}
+use Rattle.reader.proofs.Typed.{pattern-read}
+use Rattle.search.specs.Shown.{answerWidth}
+use Rattle.link.specs.Input.{Input}
+use Rattle.link.proofs.Linked.{table-short}
+use Rattle.call.specs.Brought.{broughtAccepted}
+use Rattle.call.specs.Verdict.{Verdict, passed, fault, check, reading, both}
+use Rattle.call.proofs.Checks as every
+use Rattle.matcher.specs.Call.{checkOf}
+use Rattle.matcher.specs.declared.Check.the-variants.{Passed, Failed}
+use Rattle.matcher.proofs.Checks as matched
+use Rattle.plain.specs.Bytes.{plainFrom}
+use Rattle.plain.specs.Call.{AcceptedPlain, plainly, plainTrees, plainChecked}
+use Rattle.plain.specs.Check.{isPlain}
+use Rattle.plain.specs.Plain.{Plain}
+use Rattle.plain.proofs.Checking.{check-exact}
+use Rattle.plain.proofs.Looked.{looked}
+
+-- a verdict that passes has the pattern that was read
+first-passed : (p : Pattern) (w : Verdict Term) (q : Pattern) (t : Term) → both (passed p) w ≡ passed (q, t) → p ≡ q
+first-passed p w q t e = let z = every.both-passed (passed p) w q t e .0 in cc
+
+plainly-passed : (v : Verdict Pattern) (w : Verdict Term) (q : Pattern) (t : Term)
+    → (both (plainly v) w ≡ passed (q, t)) ↔ ((both v w ≡ passed (q, t)) × (isPlain q ≡ true))
+plainly-passed (fault r i) w q t = (λ e. absurd (every.fault-passed e), λ e. absurd (every.fault-passed (e .0)))
+plainly-passed (passed p) w q t = go (isPlain p) refl
+  where
+    go : (b : Bool) → isPlain p ≡ b
+        → (both (check b NotPlain (passed p)) w ≡ passed (q, t)) ↔ ((both (passed p) w ≡ passed (q, t)) × (isPlain q ≡ true))
+    go true h = (λ e. (e, sym (ap isPlain (first-passed p w q t e)) ∙ h), λ e. e .0)
+    go false h = (
+      λ e. absurd (every.fault-passed e),
+      λ e. absurd (true≢false (sym (e .1) ∙ sym (ap isPlain (first-passed p w q t (e .0))) ∙ h)),
+    )
+
+module _ (table pattern bytes : List ℕ) (pattern-octets : Octets pattern) (record-octets : Octets bytes) where
+  -- accepted input is what is read
+  pub reads : (x : Pattern × Term) → AcceptedPlain table pattern bytes x ↔ ((tableAccepted table ≡ true) × (plainTrees table pattern bytes ≡ passed x))
+  reads x = (
+    λ a.
+        let i = matched.reads table pattern bytes pattern-octets record-octets x .0 (a .0) in
+        (i .0, both-plain .1 (i .1, check-exact (x .0) .1 (a .1))),
+    λ e.
+        let p = both-plain .0 (e .1) in
+        (matched.reads table pattern bytes pattern-octets record-octets x .1 (e .0, p .0), check-exact (x .0) .0 (p .1)),
+  )
+    where
+      both-plain : (plainTrees table pattern bytes ≡ passed x)
+          ↔ ((both (reading (readPattern table pattern)) (reading (readRecord table bytes)) ≡ passed x) × (isPlain (x .0) ≡ true))
+      both-plain = plainly-passed (reading (readPattern table pattern)) (reading (readRecord table bytes)) (x .0) (x .1)
+
+  module _ (brought : Option (List ℕ)) (width : ℕ) (q : Pattern) (t : Term) where
+    pub checked-exactly : (plainChecked table brought pattern bytes width ≡ passed (q, t))
+        ↔ ((answerWidth ≤ width) × (broughtAccepted table brought ≡ true) × (Input table pattern bytes q t × Plain q))
+    checked-exactly = every.passed-exactly table brought width (plainTrees table pattern bytes) (AcceptedPlain table pattern bytes) reads (q, t)
+
+-- the own checks, each by what is told of the ones before it
+
+module _ (table : List ℕ) (brought : Option (List ℕ)) (pattern bytes : List ℕ) (width : ℕ) (wide : answerWidth ≤ width) (tabled : tableAccepted table ≡ true)
+    (classed : broughtAccepted table brought ≡ true) where
+  pub own-checked : plainChecked table brought pattern bytes width ≡ plainTrees table pattern bytes
+  own-checked = every.then-own table brought width (plainTrees table pattern bytes) wide tabled classed
+
+  pub pattern-fails : (r : Refusal) → shown (readPattern table pattern) ≡ Read.Refused r → Failed r ≡ checkOf (plainChecked table brought pattern bytes width)
+  pattern-fails r e = rw (own-checked, refused-shown (readPattern table pattern) r e)
+
+  module _ (octets : Octets pattern) (n : ℕ) (ends : shown (readPattern table pattern) ≡ Ends n) where
+    abbrev tree : Pattern
+    tree = ends-shown (readPattern table pattern) n ends .0
+
+    plain-is : plainFrom table pattern false 0 ≡ isPlain tree
+    plain-is =
+        let r = pattern-read table pattern octets n tree (ends-shown (readPattern table pattern) n ends .1) in
+        ap (λ (l : List ℕ). plainFrom table l false 0) (sym (r .0)) ∙ looked table (table-short table tabled) tree _ _ (r .1 .fits)
+
+    by-plain : plainChecked table brought pattern bytes width
+        ≡ both (check (plainFrom table pattern false 0) NotPlain (passed tree)) (reading (readRecord table bytes))
+    by-plain =
+        rw (own-checked, ends-shown (readPattern table pattern) n ends .1)
+        (ap (λ (b : Bool). both (check b NotPlain (passed tree)) (reading (readRecord table bytes))) (sym plain-is))
+
+    pub plain-fails : plainFrom table pattern false 0 ≡ false → Failed NotPlain ≡ checkOf (plainChecked table brought pattern bytes width)
+    plain-fails h = rw (by-plain, h)
+
+    module _ (is-plain : plainFrom table pattern false 0 ≡ true) where
+      pub record-fails : (r : Refusal) → shown (readRecord table bytes) ≡ Read.Refused r → Failed r ≡ checkOf (plainChecked table brought pattern bytes width)
+      record-fails r e = rw (by-plain, is-plain, refused-shown (readRecord table bytes) r e)
+
+      pub all-pass : (m : ℕ) → shown (readRecord table bytes) ≡ Ends m → Passed ≡ checkOf (plainChecked table brought pattern bytes width)
+      all-pass m e = rw (by-plain, is-plain, ends-shown (readRecord table bytes) m e .1)

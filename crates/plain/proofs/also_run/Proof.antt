@@ -1,0 +1,67 @@
+-- `plain::also_run` meets its contract.
+use Rattle.plain.proofs.Among.{also-is}
+use borrow.Author.Needs.{needs}
+use Rattle.plain.proofs.also_run.Statement.{statement}
+use Rattle.plain.proofs.also_run.Tie as tie
+use Rattle.plain.proofs.also_run.Reads as reads
+use Rattle.plain.proofs.also_run.Lts as lts
+
+-- src/lib.rt:86:28
+enum-told : tie.Need-enum-told
+enum-told c = search needs
+
+-- src/lib.rt:87:26
+enum-told-2 : tie.Need-enum-told-2
+enum-told-2 c = search needs
+
+-- src/lib.rt:88:19
+enum-known-code : tie.Need-enum-known-code
+enum-known-code c = search needs
+
+-- src/lib.rt:89:21
+add-t5 : tie.Need-add-t5
+add-t5 c = search needs
+
+-- src/lib.rt:92:29
+enum-told-3 : tie.Need-enum-told-3
+enum-told-3 c = search needs
+
+-- src/lib.rt:93:26
+enum-told-4 : tie.Need-enum-told-4
+enum-told-4 c = search needs
+
+-- src/lib.rt:81:1
+returns : tie.Need-returns
+returns c = search needs
+
+-- src/lib.rt:81:1
+returns-2 : tie.Need-returns-2
+returns-2 c = search needs
+
+-- src/lib.rt:81:1
+returns-3 : tie.Need-returns-3
+returns-3 c = also-is _ _ _ (c .before .before .code .given .1)
+
+-- src/lib.rt:81:1
+returns-4 : tie.Need-returns-4
+returns-4 c = search needs
+
+-- src/lib.rt:81:1
+returns-5 : tie.Need-returns-5
+returns-5 c = search needs
+
+pub also-run-spec : {M : Type 1} → statement M
+also-run-spec =
+    tie.close
+    (tie.spec
+    enum-told
+    enum-told-2
+    enum-known-code
+    add-t5
+    enum-told-3
+    enum-told-4
+    returns
+    returns-2
+    returns-3
+    returns-4
+    returns-5)

@@ -1,0 +1,33 @@
+-- `plain::match_checked` meets its contract.
+use borrow.Author.Tests.{not-true, not-false}
+use Rattle.plain.proofs.Demanded.{ended-fails, ended-fits}
+use borrow.Author.Needs.{needs}
+use Rattle.plain.proofs.match_checked.Statement.{statement}
+use Rattle.plain.proofs.match_checked.Tie as tie
+use Rattle.plain.proofs.match_checked.Reads as reads
+use Rattle.plain.proofs.match_checked.Lts as lts
+use Rattle.plain.proofs.tier.Reads as tier-reads
+use Rattle.search.proofs.show.Reads as show-reads
+
+-- src/lib.rt:393:9
+tier-requires : tie.Need-tier-requires
+tier-requires c κs = search needs
+
+-- src/lib.rt:396:9
+returns : tie.Need-returns
+returns c = ended-fails _ _ (c .before .before .tier .ensures .0) _ (not-true _ (c .if1 .taken))
+
+-- src/lib.rt:398:5
+show-requires : tie.Need-show-requires
+show-requires c κs = search needs
+
+-- src/lib.rt:381:1
+same-length : tie.Need-same-length
+same-length c = search needs
+
+-- src/lib.rt:381:1
+returns-2 : tie.Need-returns-2
+returns-2 c = ended-fits _ _ (c .before .before .before .before .before .before .before .tier .ensures .0) _ (not-false _ (c .before .before .before .before .before .if1 .left)) _ (c .before .before .before .before .before .before .before .tier .ensures .1) _ (c .before .before .show .ensures)
+
+pub match-checked-spec : {M : Type 1} → statement M
+match-checked-spec = tie.close (tie.spec tier-requires returns show-requires same-length returns-2)

@@ -1,0 +1,50 @@
+-- `plain::take` meets its contract.
+use borrow.Author.Needs.{needs}
+use Rattle.plain.proofs.take.Statement.{statement}
+use Rattle.plain.proofs.take.Tie as tie
+use Rattle.plain.proofs.take.Reads as reads
+use Rattle.plain.proofs.take.Lts as lts
+use Rattle.plain.proofs.wide.Reads as wide-reads
+use Rattle.plain.proofs.with.Reads as with-reads
+use Rattle.search.proofs.packed.Reads as packed-reads
+use Rattle.term.proofs.Part.bound.Reads as bound-reads
+
+-- src/lib.rt:275:9
+wide-requires : tie.Need-wide-requires
+wide-requires c κs = search needs
+
+-- src/lib.rt:276:31
+bound-requires : tie.Need-bound-requires
+bound-requires c κs = search needs
+
+-- src/lib.rt:276:16
+packed-requires : tie.Need-packed-requires
+packed-requires c κs = search needs
+
+-- src/lib.rt:276:5
+mul-parts : tie.Need-mul-parts
+mul-parts c = search needs
+
+-- src/lib.rt:276:5
+element-write-parts : tie.Need-element-write-parts
+element-write-parts c = search needs
+
+-- src/lib.rt:277:5
+with-requires : tie.Need-with-requires
+with-requires c κs = search needs
+
+-- src/lib.rt:271:1
+returns : tie.Need-returns
+returns c = (c .with .ensures, rw (c .before .packed .ensures, c .before .before .bound .ensures, c .before .before .before .wide .ensures))
+
+pub take-spec : {M : Type 1} → statement M
+take-spec =
+    tie.close
+    (tie.spec
+    wide-requires
+    bound-requires
+    packed-requires
+    mul-parts
+    element-write-parts
+    with-requires
+    returns)

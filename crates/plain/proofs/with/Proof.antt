@@ -1,0 +1,21 @@
+-- `plain::with` meets its contract.
+use native.Mathlib.Omega.{arith}
+use mathlib.Core.Path.{ap}
+use lib.Bits.{bitOr}
+use Rattle.search.proofs.Masks.{power-fits}
+use borrow.Author.Needs.{needs}
+use Rattle.plain.proofs.with.Statement.{statement}
+use Rattle.plain.proofs.with.Tie as tie
+use Rattle.plain.proofs.with.Reads as reads
+use Rattle.plain.proofs.with.Lts as lts
+
+-- src/lib.rt:77:13
+shl-result : tie.Need-shl-result
+shl-result c = search needs
+
+-- src/lib.rt:73:1
+returns : tie.Need-returns
+returns c = ap (bitOr (c .args .mask)) (power-fits (c .args .v) (omega (arith, c .pre)))
+
+pub with-spec : {M : Type 1} → statement M
+with-spec = tie.close (tie.spec shl-result returns)

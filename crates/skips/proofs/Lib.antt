@@ -1,0 +1,2 @@
+-- The laws of elements that are passed over together.
+pub mod Passing

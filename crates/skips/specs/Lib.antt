@@ -1,0 +1,2 @@
+-- Elements that are passed over together.
+pub mod Passed

@@ -1,0 +1,45 @@
+-- The move from the old form to the stored one and back: 1, the checks of what is read, and "a short output is 12, last". It shows the length that
+-- was written; the output past it stays, and all of it where the move is refused.
+use Prim.Native.Nat.{ℕ}
+use mathlib.Core.List.{List, [], _++_}
+use mathlib.Core.Bool.{cond}
+use lib.ListN.{length, drop}
+use lib.Dec.{leb}
+use Rattle.term.specs.Refusal.{numberOf}
+use Rattle.term.specs.Table.{tableAccepted}
+use Rattle.term.specs.Term.{Term, termBytes}
+use Rattle.reader.specs.Reading.{Answer, refused, read, readRecord}
+use Rattle.term.specs.declared.Refusal.the-variants.{Table, Full}
+use Rattle.stored.specs.Form.{storedBytes}
+use Rattle.stored.specs.Reading.{readStored}
+use Rattle.stored.specs.declared.Move.{Move}
+use Rattle.stored.specs.declared.Move.the-variants.{Written}
+
+-- its number, 0 where the bytes were written, and their length, 0 where it is refused
+abbrev pub moveNumber : Move → ℕ
+moveNumber (Written n) = 0
+moveNumber (Move.Refused r) = numberOf r
+
+abbrev pub moveLength : Move → ℕ
+moveLength (Written n) = n
+moveLength (Move.Refused r) = 0
+
+-- the bytes to be written, or why there are none
+unfoldable pub bytesBy : (Term → List ℕ) → Answer Term → Answer (List ℕ)
+bytesBy f (refused r) = refused r
+bytesBy f (read t n) = read (f t) n
+
+unfoldable pub storing : List ℕ → List ℕ → Answer (List ℕ)
+storing table s = cond (tableAccepted table) (bytesBy (λ t. storedBytes table t []) (readRecord table s)) (refused Table)
+
+unfoldable pub restoring : List ℕ → List ℕ → Answer (List ℕ)
+restoring table s = cond (tableAccepted table) (bytesBy (λ t. termBytes table t []) (readStored table s)) (refused Table)
+
+-- what is shown of a move into so much room, and the output after it
+unfoldable pub moved : Answer (List ℕ) → ℕ → Move
+moved (refused r) room = Move.Refused r
+moved (read bs n) room = cond (leb (length bs) room) (Written (length bs)) (Move.Refused Full)
+
+unfoldable pub outputAfter : Answer (List ℕ) → List ℕ → List ℕ
+outputAfter (refused r) out = out
+outputAfter (read bs n) out = cond (leb (length bs) (length out)) (bs ++ drop (length bs) out) out

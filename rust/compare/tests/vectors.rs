@@ -1,0 +1,250 @@
+//! Runs the vectors of `crates/vectors` that are one of the library's calls, by each library, and
+//! compares what is answered with the outcome that the line states. `QONVESHIR_VECTORS` names
+//! another folder.
+
+use interface::{Library, Outcome, Word, ABSENT, ANSWER, ENTRY, NAMES, RUNS};
+use reference::{Reference, Shortcuts};
+use std::{collections::BTreeMap, env, fs, path::PathBuf};
+
+const FILES: [&str; 9] = [
+    "matches.txt",
+    "classes.txt",
+    "complements.txt",
+    "nexts.txt",
+    "plains.txt",
+    "costs.txt",
+    "rules.txt",
+    "sheets.txt",
+    "stored.txt",
+];
+
+#[test]
+fn every_vector_by_stepping() {
+    every_vector_by(&Reference);
+}
+
+#[test]
+fn every_vector_with_shortcuts() {
+    every_vector_by(&Shortcuts);
+}
+
+#[cfg(feature = "link")]
+#[test]
+fn every_vector_by_the_proved_library() {
+    every_vector_by(&proved::Proved);
+}
+
+fn every_vector_by(library: &dyn Library) {
+    let folder = env::var_os("QONVESHIR_VECTORS").map_or_else(
+        || PathBuf::from(env!("CARGO_MANIFEST_DIR")).join("../../crates/vectors/data"),
+        PathBuf::from,
+    );
+    let mut run = BTreeMap::new();
+    for name in FILES {
+        let path = folder.join(name);
+        let text = fs::read_to_string(&path).unwrap_or_else(|e| panic!("{}: {e}", path.display()));
+        for line in text.lines().filter(|line| !line.is_empty() && !line.starts_with('#')) {
+            let (call, stated) = line.split_once(" = ").expect(line);
+            let words: Vec<&str> = call.split(' ').collect();
+            if let Some(answered) = outcome(library, words[1], &words[2..], stated) {
+                assert_eq!(answered, stated, "{line}");
+                let fields = match words[1] {
+                    "next" => 6,
+                    "match_plain" => 4,
+                    _ => 5,
+                };
+                let classes = if words.len() > 2 + fields { " with classes" } else { "" };
+                *run.entry(format!("{}{classes}", words[1])).or_insert(0) += 1;
+            }
+        }
+    }
+    let calls = [
+        "check_rules",
+        "check_states",
+        "cost_of",
+        "match_one",
+        "match_one with classes",
+        "match_plain",
+        "match_plain with classes",
+        "match_rules",
+        "match_rules with classes",
+        "next",
+        "next with classes",
+        "place_of",
+        "restore",
+        "store",
+        "write_sheet",
+    ];
+    assert!(run.keys().eq(calls), "calls that were run: {run:?}");
+    assert!(run["match_one"] >= 1_000, "only {} matches", run["match_one"]);
+}
+
+/// What is answered, as a line states it, or nothing where it is none of the calls.
+fn outcome(library: &dyn Library, call: &str, fields: &[&str], stated: &str) -> Option<String> {
+    Some(match (call, fields) {
+        ("match_one" | "match_rules", [inputs @ .., allowance, width]) => {
+            found(library, call, inputs, &[], number(allowance), number(width))
+        }
+        ("match_plain", [inputs @ .., width]) => {
+            found(library, call, inputs, &[], 0, number(width))
+        }
+        ("next", [inputs @ .., given, allowance, width]) => {
+            found(library, call, inputs, &list(given), number(allowance), number(width))
+        }
+        ("cost_of", [table, pattern]) => cost(library.cost(&bytes(table), &bytes(pattern))),
+        ("check_rules", [table, sheet]) => {
+            checked(&bytes(sheet), |sheet| library.check_rules(&bytes(table), sheet))
+        }
+        ("check_states", [table, sheet]) => {
+            checked(&bytes(sheet), |sheet| library.check_states(&bytes(table), sheet))
+        }
+        ("place_of", [sheet, index]) => {
+            let part = library.entry(&bytes(sheet), number(index));
+            match part.number {
+                0 => format!("at {} {}", part.offset, part.length),
+                number => format!("refused {number}"),
+            }
+        }
+        ("write_sheet", [table, records, lengths, room]) => {
+            let (table, records, lengths) = (bytes(table), bytes(records), list(lengths));
+            let write = |output: &mut [u8]| library.write_sheet(&table, &records, &lengths, output);
+            written(number(room), true, stated, write)
+        }
+        ("store" | "restore", [table, record, room]) => {
+            let (table, record) = (bytes(table), bytes(record));
+            written(number(room), false, stated, |output| match call {
+                "store" => library.store(&table, &record, output),
+                _ => library.restore(&table, &record, output),
+            })
+        }
+        _ => return None,
+    })
+}
+
+/// The outcome of a search of a table, a class list if there is one, a pattern or rules (p), and a
+/// record.
+fn found(
+    library: &dyn Library,
+    call: &str,
+    inputs: &[&str],
+    given: &[u16],
+    allowance: u32,
+    width: u32,
+) -> String {
+    let inputs: Vec<Vec<u8>> = inputs.iter().map(|text| bytes(text)).collect();
+    let find = |answer: &mut [u16]| match (call, &inputs[..]) {
+        ("match_one", [t, p, r]) => library.match_one(t, p, r, allowance, answer),
+        ("match_one", [t, c, p, r]) => {
+            library.match_one_with_classes(t, c, p, r, allowance, answer)
+        }
+        ("match_plain", [t, p, r]) => library.match_plain(t, p, r, answer),
+        ("match_plain", [t, c, p, r]) => library.match_plain_with_classes(t, c, p, r, answer),
+        ("next", [t, p, r]) => library.next(t, p, r, given, allowance, answer),
+        ("next", [t, c, p, r]) => library.next_with_classes(t, c, p, r, given, allowance, answer),
+        ("match_rules", [t, p, r]) => library.match_rules(t, p, r, allowance, answer),
+        ("match_rules", [t, c, p, r]) => {
+            library.match_rules_with_classes(t, c, p, r, allowance, answer)
+        }
+        _ => panic!("{call}: a wrong number of inputs"),
+    };
+    matched(width, call == "match_rules", find)
+}
+
+/// The outcome of a match with a buffer of so many numbers; that of a rule sheet shows an index.
+fn matched(width: u32, rules: bool, find: impl Fn(&mut [u16]) -> Outcome) -> String {
+    let before: Vec<u16> = (0..width as u16).map(|i| 1_000 + i).collect();
+    let mut answer = before.clone();
+    let outcome = find(&mut answer);
+    let written = if outcome.number == 0 { ANSWER } else { 0 };
+    assert_eq!(answer[written..], before[written..], "numbers that must stay");
+    let index = if rules { format!(" {}", outcome.index) } else { String::new() };
+    match outcome.word().unwrap() {
+        Word::Bound => format!("bound{index} {}{}", outcome.count, parts(&answer)),
+        word @ (Word::None | Word::Spent) => format!("{}{index} {}", word.text(), outcome.count),
+        word => format!("refused {}{index}", word.number()),
+    }
+}
+
+/// The outcome of a cost.
+fn cost(outcome: Outcome) -> String {
+    match outcome.word().unwrap() {
+        word @ (Word::Bound | Word::None) => format!("{} {}", word.text(), outcome.count),
+        word => format!("refused {}", word.number()),
+    }
+}
+
+/// The free names and run names with offset, length and number of terms.
+fn parts(answer: &[u16]) -> String {
+    let marks = (0..NAMES).map(|i| format!("?{i}")).chain((0..RUNS).map(|j| format!("@{j}")));
+    let entries = answer.chunks_exact(ENTRY).zip(marks).filter(|(one, _)| one != &[ABSENT, 0, 0]);
+    entries.map(|(one, mark)| format!(" {mark}={}+{}:{}", one[0], one[1], one[2])).collect()
+}
+
+/// The outcome of a check. The number of entries, which the call doesn't show, is the sheet's own.
+fn checked(sheet: &[u8], check: impl Fn(&[u8]) -> Outcome) -> String {
+    let outcome = check(sheet);
+    match outcome.number {
+        0 => format!("accepted {}", u16::from_le_bytes([sheet[0], sheet[1]])),
+        number => format!("refused {number} {}", outcome.index),
+    }
+}
+
+/// The outcome of a writing with so much room; that of a sheet's refusal shows an index. What is
+/// written is shown as stated where that stands for it.
+fn written(room: u32, sheet: bool, stated: &str, write: impl Fn(&mut [u8]) -> Outcome) -> String {
+    let before = vec![250; room as usize];
+    let mut output = before.clone();
+    let outcome = write(&mut output);
+    let size = outcome.count as usize;
+    assert_eq!(output[size..], before[size..], "bytes that must stay");
+    if outcome.number != 0 {
+        let index = if sheet { format!(" {}", outcome.index) } else { String::new() };
+        return format!("refused {}{index}", outcome.number);
+    }
+    let text = stated.rsplit(' ').next().unwrap();
+    let same = stated.starts_with("written") && bytes(text) == output[..size];
+    format!("written {size} {}", if same { text } else { "another output" })
+}
+
+fn number(text: &str) -> u32 {
+    text.parse().expect(text)
+}
+
+/// Bytes in hexadecimal, `-` for none; `00(237)` is 237 bytes of 00, and `[258,1,64]` the pairs of
+/// 64 entries of one byte, the first at offset 258.
+fn bytes(text: &str) -> Vec<u8> {
+    let mut bytes = Vec::new();
+    let mut rest = if text == "-" { "" } else { text };
+    while !rest.is_empty() {
+        if let Some((pairs, later)) = rest.strip_prefix('[').and_then(|r| r.split_once(']')) {
+            let [offset, length, times] = list(pairs)[..] else { panic!("{text}") };
+            for i in 0..times {
+                bytes.extend((offset + i * length).to_le_bytes());
+                bytes.extend(length.to_le_bytes());
+            }
+            rest = later;
+            continue;
+        }
+        let byte = u8::from_str_radix(&rest[..2], 16).expect(text);
+        let (times, later) = repeated(&rest[2..]);
+        bytes.extend((0..times).map(|_| byte));
+        rest = later;
+    }
+    bytes
+}
+
+/// A list of numbers, `-` for none; `1(63),2` is 63 times 1, then 2.
+fn list(text: &str) -> Vec<u16> {
+    let items = text.split(',').filter(|item| *item != "-");
+    let times = |item: &str| repeated(&item[item.find('(').unwrap_or(item.len())..]).0;
+    let value = |item: &str| item.split('(').next().unwrap().parse().expect(text);
+    items.flat_map(|item| (0..times(item)).map(move |_| value(item))).collect()
+}
+
+/// The number in brackets at the start of a text, or 1, and what comes after it.
+fn repeated(text: &str) -> (usize, &str) {
+    match text.strip_prefix('(').and_then(|rest| rest.split_once(')')) {
+        Some((times, later)) => (times.parse().expect(text), later),
+        None => (1, text),
+    }
+}
