@@ -83,8 +83,15 @@ fn plains() -> Vec<Workload> {
         pairs.push(one.beside(["plain: a child pattern each", "full: a child pattern each"]));
         let one = Match::of("", n, "gates(open, shut)", &list("held"));
         pairs.push(one.beside(["plain: another number", "full: another number"]));
+        let rule = format!("gates({}@0)", "open, ".repeat(n - 2));
+        let one = Match::of("", n, &rule, &list("held"));
+        pairs.push(
+            one.beside(["plain: symbols, then a run name", "full: symbols, then a run name"]),
+        );
     }
-    pairs.into_iter().flatten().collect()
+    let mut all: Vec<Workload> = pairs.into_iter().flatten().collect();
+    all.sort_by_key(|one| one.name);
+    all
 }
 
 /// The lengths of lists between which the time of a step is compared.
