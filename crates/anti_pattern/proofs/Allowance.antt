@@ -8,10 +8,10 @@ use native.Mathlib.Omega.{arith}
 use Rattle.term.specs.Pattern.{Pattern}
 use Rattle.term.specs.Term.{Term}
 use Rattle.term.specs.declared.Part.{Part}
-use Rattle.anti_pattern.specs.Answer.{bound, nothing, spent, parts, countOf, shown, answer}
+use Rattle.anti_pattern.specs.Answer.{bound, nothing, spent, parts, countOf, matchingOf, answer}
 use Rattle.anti_pattern.specs.Language.{Language}
 use Rattle.anti_pattern.proofs.Meter.{metered, meter, answered}
-use Rattle.anti_pattern.specs.Search.{Env, Outcome, found, failed, firstAnswer, whole}
+use Rattle.anti_pattern.specs.Search.{Env, Answers, found, failed, firstAnswer, whole}
 use Rattle.anti_pattern.proofs.Metering.{leb-true, leb-false, Split, enough, over, split, meter-spent, meter-within}
 
 module _ (l : Language) (q : Pattern) (t : Term) (n : ℕ) where
@@ -19,7 +19,7 @@ module _ (l : Language) (q : Pattern) (t : Term) (n : ℕ) where
   unfolding answer
   answer-over h = rw (leb-true (suc n) (countOf l q t) h)
 
-  pub answer-within : countOf l q t ≤ n → answer l q t n ≡ shown (l .table) (whole l q t .out) (countOf l q t)
+  pub answer-within : countOf l q t ≤ n → answer l q t n ≡ matchingOf (l .table) (whole l q t .out) (countOf l q t)
   unfolding answer
   answer-within h = rw (leb-false (suc n) (countOf l q t) (omega arith))
 
@@ -27,7 +27,7 @@ module _ (l : Language) (q : Pattern) (t : Term) (n : ℕ) where
   pub answer-metered : answer l q t n ≡ answered (l .table) n (meter n (whole l q t))
   answer-metered = go (split (countOf l q t) n)
     where
-      same : (o : Outcome) (c : ℕ) → c ≤ n → shown (l .table) o c ≡ answered (l .table) n (metered true o (n - c))
+      same : (o : Answers) (c : ℕ) → c ≤ n → matchingOf (l .table) o c ≡ answered (l .table) n (metered true o (n - c))
       same (found e m o) c h = ap (bound (parts (l .table) e)) (omega arith)
       same failed c h = ap nothing (omega arith)
 
@@ -41,7 +41,7 @@ module _ (l : Language) (q : Pattern) (t : Term) (n : ℕ) where
       → (countOf l q t ≤ n) × ((e : Env) × (firstAnswer (whole l q t .out) ≡ some e) × (ps ≡ parts (l .table) e))
   bound-found ps m h = go (split (countOf l q t) n)
     where
-      by : (o : Outcome) → whole l q t .out ≡ o → shown (l .table) o (countOf l q t) ≡ bound ps m
+      by : (o : Answers) → whole l q t .out ≡ o → matchingOf (l .table) o (countOf l q t) ≡ bound ps m
           → (e : Env) × (firstAnswer (whole l q t .out) ≡ some e) × (ps ≡ parts (l .table) e)
       by (found e x o) z k = (e, ap firstAnswer z, cc)
       by failed z k = let y : _≡_ {A = ℕ} 0 1 = cc in absurd (omega arith)

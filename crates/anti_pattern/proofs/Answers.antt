@@ -8,26 +8,26 @@ use Rattle.term.specs.Class.{Alike}
 use Rattle.term.specs.Pattern.{Pattern}
 use Rattle.term.specs.Term.{Term}
 use Rattle.term.specs.declared.Part.{Part}
-use Rattle.anti_pattern.specs.Answer.{Answer, bound, nothing, spent, countOf, shown, answer}
+use Rattle.anti_pattern.specs.Answer.{Matching, bound, nothing, spent, countOf, matchingOf, answer}
 use Rattle.anti_pattern.specs.Demands.{First, Unsatisfied}
 use Rattle.anti_pattern.specs.Language.{Language, TermOf}
 use Rattle.anti_pattern.specs.Meaning.{Assignment}
 use Rattle.anti_pattern.specs.Place.{partsAt}
-use Rattle.anti_pattern.specs.Search.{Outcome, found, failed, firstAnswer, whole}
+use Rattle.anti_pattern.specs.Search.{Answers, found, failed, firstAnswer, whole}
 use Rattle.anti_pattern.proofs.Allowance.{answer-over, answer-within}
 use Rattle.anti_pattern.proofs.First.{found-first, failed-none, one-first}
 use Rattle.anti_pattern.proofs.Metering.{Split, enough, over, split}
-use Rattle.anti_pattern.proofs.Placed.{Answers, shown-at-first-place, parts-one}
+use Rattle.anti_pattern.proofs.Placed.{AnswerIn, shown-at-first-place, parts-one}
 
 module _ (l : Language) (k : Alike (l .table) (l .classes)) (q : Pattern) (t : Term) (g : TermOf l t) where
-  data Answered (n : ℕ) : Answer → Type 0 where
+  data Answered (n : ℕ) : Matching → Type 0 where
     is-spent : n < countOf l q t → Answered n (spent n)
     is-none : countOf l q t ≤ n → Unsatisfied l q t → Answered n (nothing (countOf l q t))
     is-bound : countOf l q t ≤ n → (a : Assignment) → First l q t a → Answered n (bound (partsAt (l .table) q t a) (countOf l q t))
 
-  within-answered : (n : ℕ) → countOf l q t ≤ n → (o : Outcome) → whole l q t .out ≡ o → Answered n (shown (l .table) o (countOf l q t))
+  within-answered : (n : ℕ) → countOf l q t ≤ n → (o : Answers) → whole l q t .out ≡ o → Answered n (matchingOf (l .table) o (countOf l q t))
   within-answered n i (found e m o) h =
-      subst (λ (ps : List Part). Answered n (bound ps (countOf l q t))) (sym (shown-at-first-place l q t g e (subst (λ (r : Outcome). Answers r e) (sym h) (inl refl))))
+      subst (λ (ps : List Part). Answered n (bound ps (countOf l q t))) (sym (shown-at-first-place l q t g e (subst (λ (r : Answers). AnswerIn r e) (sym h) (inl refl))))
       (is-bound i (e .value) (found-first l q t g e (ap firstAnswer h)))
   within-answered n i failed h = is-none i (failed-none l q t g (ap firstAnswer h))
 
@@ -57,17 +57,17 @@ module _ (l : Language) (k : Alike (l .table) (l .classes)) (q : Pattern) (t : T
     bound-there : {ps : List Part} {m : ℕ} → Answered n (bound ps m) → Bound ps m
     bound-there (is-bound i a f) = (refl, i, (a, f, refl))
 
-    spent-back : (m : ℕ) → Spent m → {x : Answer} → Answered n x → x ≡ spent m
+    spent-back : (m : ℕ) → Spent m → {x : Matching} → Answered n x → x ≡ spent m
     spent-back m s (is-spent i) = ap spent (sym (s .0))
     spent-back m s (is-none i u) = absurd (omega (arith, s .1))
     spent-back m s (is-bound i a f) = absurd (omega (arith, s .1))
 
-    none-back : (m : ℕ) → None m → {x : Answer} → Answered n x → x ≡ nothing m
+    none-back : (m : ℕ) → None m → {x : Matching} → Answered n x → x ≡ nothing m
     none-back m s (is-spent i) = absurd (omega (arith, s .1))
     none-back m s (is-none i u) = ap nothing (sym (s .0))
     none-back m s (is-bound i a f) = absurd (s .2 a (f .satisfies))
 
-    bound-back : (ps : List Part) (m : ℕ) → Bound ps m → {x : Answer} → Answered n x → x ≡ bound ps m
+    bound-back : (ps : List Part) (m : ℕ) → Bound ps m → {x : Matching} → Answered n x → x ≡ bound ps m
     bound-back ps m s (is-spent i) = absurd (omega (arith, s .1))
     bound-back ps m s (is-none i u) = absurd (u (s .2 .0) (s .2 .1 .satisfies))
     bound-back ps m s (is-bound i a f) =

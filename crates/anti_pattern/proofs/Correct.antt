@@ -15,7 +15,7 @@ use Rattle.term.specs.Term.{Term, node, Terms, nil, _::_, _⧺_, count, single,
 use Rattle.anti_pattern.specs.Language.{Language, TermOf, TermsOf, _⊢_≋_}
 use Rattle.anti_pattern.specs.Meaning.{Assignment, Extends, Holds, HoldAll, OneAt, CountAsOne}
 use Rattle.anti_pattern.specs.Order.{lengthOf, All, Member, Ascending}
-use Rattle.anti_pattern.specs.Search.{Env, update, bind, Outcome, found, failed, answers, Result, ifTrue, ifSome, after, Deferred, Next, refuted, finish, sameOr, lengths, exactly, Tries, every, only, freely, tryFresh, behind, tryRun, search, searches}
+use Rattle.anti_pattern.specs.Search.{Env, update, bind, Answers, found, failed, answers, Result, ifTrue, ifSome, after, Deferred, Continuation, refuted, finish, sameOr, lengths, exactly, Tries, every, only, freely, tryFresh, behind, tryRun, search, searches}
 use Rattle.anti_pattern.specs.Variables.{vars, varsAll, free}
 use borrow.Author.Tests.{eqb-true, eq-eqb}
 use Rattle.term.proofs.SameParts.{same-terms, same-counts}
@@ -38,10 +38,10 @@ abbrev pub Permitted : (ℕ → Tries) → Assignment → Type 0
 Permitted how a = (v : ℕ) (w : Terms) → a v ≡ some w → Permits (how v) (count w)
 
 -- the assignments of an outcome's answers
-abbrev pub values : Outcome → List Assignment
+abbrev pub values : Answers → List Assignment
 values o = map (λ e. e .value) (answers o)
 
-values-after : (o : Outcome) (n : ℕ) (f : Unit {0} → Result) → values (after o n f .out) ≡ values o ++ values (f tt .out)
+values-after : (o : Answers) (n : ℕ) (f : Unit {0} → Result) → values (after o n f .out) ≡ values o ++ values (f tt .out)
 values-after (found e m o) n f = ap (e .value ∷_) (values-after o m f)
 values-after failed n f = refl
 
@@ -78,23 +78,23 @@ mutual
   all-freely (run v qs) = all-freely qs
 
 -- what the complements put by decide at the end of a level
-abbrev Ended : Env → Type 0 → Outcome → Type 0
+abbrev Ended : Env → Type 0 → Answers → Type 0
 Ended e C (found f m o) = (f ≡ e) × (o ≡ failed) × C
 Ended e C failed = C → ⊥
 
-abbrev Refutes : Type 0 → Outcome → Type 0
+abbrev Refutes : Type 0 → Answers → Type 0
 Refutes D (found f m o) = D → ⊥
 Refutes D failed = D
 
 abbrev PutBy : List Deferred → (Assignment → Type 0) → Type 0
 PutBy put C = (e : Env) → Ended e (C (e .value)) (finish e put .out)
 
-finish-last : (e : Env) (C D : Type 0) (o : Outcome) (n : ℕ) → C → Refutes D o → Ended e (C × D) (refuted o n (λ u. finish e []) .out)
+finish-last : (e : Env) (C D : Type 0) (o : Answers) (n : ℕ) → C → Refutes D o → Ended e (C × D) (refuted o n (λ u. finish e []) .out)
 unfolding finish
 finish-last e C D (found f m o) n c r = λ p. r (p .1)
 finish-last e C D failed n c r = (refl, refl, (c, r))
 
-finish-step : (e : Env) (C D : Type 0) (o : Outcome) (n : ℕ) (ds ds′ : List Deferred)
+finish-step : (e : Env) (C D : Type 0) (o : Answers) (n : ℕ) (ds ds′ : List Deferred)
     → (Ended e C (finish e ds .out) → Ended e (C × D) (finish e ds′ .out))
     → Ended e C (refuted o n (λ u. finish e ds) .out) → Ended e (C × D) (refuted o n (λ u. finish e ds′) .out)
 finish-step e C D (found f m o) n ds ds′ r h = λ p. h (p .0)
@@ -131,7 +131,7 @@ module _ (l : Language) where
     pub complete : (b : Assignment) → Candidate how a vs K b → (c : Assignment) × Member c bs × CountAsOne l c b
     pub ordered : Ascending (Before vs) bs
 
-  abbrev Best : (ℕ → Tries) → Assignment → List ℕ → (Assignment → Type 0) → Outcome → Type 0
+  abbrev Best : (ℕ → Tries) → Assignment → List ℕ → (Assignment → Type 0) → Answers → Type 0
   Best how a vs K o = Lists how a vs K (values o)
 
   no-candidate : {how : ℕ → Tries} {a : Assignment} {vs : List ℕ} {K : Assignment → Type 0}
@@ -193,16 +193,16 @@ module _ (l : Language) where
   Respects K = (b c : Assignment) → CountAsOne l b c → K b → K c
 
   -- a continuation: from any assignments and complements put by, it lists the candidates of the rest of the level
-  abbrev Leads : (ℕ → Tries) → Next → List ℕ → (Assignment → Type 0) → Type 1
+  abbrev Leads : (ℕ → Tries) → Continuation → List ℕ → (Assignment → Type 0) → Type 1
   Leads how k vs K =
       (e : Env) (put : List Deferred) (C : Assignment → Type 0) → Permitted how (e .value) → Respects C → PutBy put C
       → Best how (e .value) vs (λ b. K b × C b) (k e put .out)
 
-  finish-best : (how : ℕ → Tries) (e : Env) (C : Assignment → Type 0) → Permitted how (e .value) → (o : Outcome) → Ended e (C (e .value)) o
+  finish-best : (how : ℕ → Tries) (e : Env) (C : Assignment → Type 0) → Permitted how (e .value) → (o : Answers) → Ended e (C (e .value)) o
       → Best how (e .value) [] (λ b. Unit {0} × C b) o
   finish-best how e C ok (found f m o) h =
       subst (Lists how (e .value) [] (λ b. Unit {0} × C b))
-      (sym (ap₂ (λ (g : Env) (p : Outcome). g .value ∷ values p) (h .0) (h .1))) (record {
+      (sym (ap₂ (λ (g : Env) (p : Answers). g .value ∷ values p) (h .0) (h .1))) (record {
         sound = (record { extends = extends-refl l (e .value); permitted = ok; meets = (tt, h .2) }, tt);
         complete = λ b s. (
           e .value,
@@ -259,7 +259,7 @@ module _ (l : Language) where
       (λ b c s r p. inr (ap lengthOf (extends-at l a b vs v x e (s .extends) ∙ sym (extends-at l a c vs v x e (r .extends))), p)) h
 
   -- a name set against a term
-  module _ (how : ℕ → Tries) (e : Env) (v at : ℕ) (w : Terms) (g : TermsOf l w) (k : Next) (vs : List ℕ) (K : Assignment → Type 0) (r : Respects K) (x : Leads how k vs K)
+  module _ (how : ℕ → Tries) (e : Env) (v at : ℕ) (w : Terms) (g : TermsOf l w) (k : Continuation) (vs : List ℕ) (K : Assignment → Type 0) (r : Respects K) (x : Leads how k vs K)
       (put : List Deferred) (C : Assignment → Type 0) (ok : Permitted how (e .value)) (may : Permits (how v) (count w)) (c : Respects C)
       (p : PutBy put C) where
     name-kept : (y : Terms) (m : Bool) → sameTerms (l .classes) y w ≡ m → e .value v ≡ some y
@@ -372,7 +372,7 @@ module _ (l : Language) where
     fresh-best ts g (only n) e = exactly-best n ts nil (e ∙ ap only (omega arith)) g tt
 
   -- the inside of a complement, searched as a level, decides the complement
-  inside : (q : Pattern) (t : Term) (e : Env) (o : Outcome)
+  inside : (q : Pattern) (t : Term) (e : Env) (o : Answers)
       → Best freely (e .value) (free q) (λ b. (Holds l (TermsOf l) q b t × Unit {0}) × Unit {0}) o
       → Refutes (Holds l (TermsOf l) (complement q) (e .value) t) o
   inside q t e (found f m o) h = λ n. n (f .value) (h .sound .0 .extends) (h .sound .0 .meets .0 .0)
@@ -424,7 +424,7 @@ module _ (l : Language) where
   mutual
     unfolding search
 
-    search-leads : (how : ℕ → Tries) (q : Pattern) → NamesMay how q → (t : Term) → TermOf l t → (at : ℕ) (k : Next) (vs : List ℕ) (K : Assignment → Type 0) → Respects K → Leads how k vs K
+    search-leads : (how : ℕ → Tries) (q : Pattern) → NamesMay how q → (t : Term) → TermOf l t → (at : ℕ) (k : Continuation) (vs : List ℕ) (K : Assignment → Type 0) → Respects K → Leads how k vs K
         → Leads how (λ e put. search (l .table) (l .classes) how q t at e put k) (vars q vs) (λ b. Holds l (TermsOf l) q b t × K b)
     search-leads how (name v) may t g at k vs K r x e put C ok c p =
         best-iff (λ b y. let u = single-open l (y .0 .0) t (y .0 .2) in (((u .0, y .0 .1 ∙ ap some (u .1), u .2), y .1 .0), y .1 .1))
@@ -445,7 +445,7 @@ module _ (l : Language) where
         (λ b d i y. y) nothing-put))
         (p f)))
 
-    searches-lead : (how : ℕ → Tries) (qs : Children) → AllMay how qs → (ts : Terms) → TermsOf l ts → (at : ℕ) (k : Next) (vs : List ℕ) (K : Assignment → Type 0) → Respects K → Leads how k vs K
+    searches-lead : (how : ℕ → Tries) (qs : Children) → AllMay how qs → (ts : Terms) → TermsOf l ts → (at : ℕ) (k : Continuation) (vs : List ℕ) (K : Assignment → Type 0) → Respects K → Leads how k vs K
         → Leads how (λ e put. searches (l .table) (l .classes) how qs ts at e put k) (varsAll qs vs) (λ b. HoldAll l (TermsOf l) qs b ts × K b)
     searches-lead how end may nil g at k vs K r x e put C ok c p = best-iff (λ b y. ((refl, y .0), y .1)) (λ b y. (y .0 .1, y .1)) (x e put C ok c p)
     searches-lead how end may (t :: ts) g at k vs K r x e put C ok c p = no-candidate (λ b s. nil-cons (sym (s .meets .0 .0)))

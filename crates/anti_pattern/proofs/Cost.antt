@@ -16,13 +16,13 @@ use Rattle.term.specs.Term.{Term, node, Terms, nil, _::_, single, size}
 use Rattle.term.specs.Tree.{empty, more, branch, listCode, encode, encodes}
 use Rattle.term.specs.declared.Code.the-variants.{Symbol, Name, Run, Complement}
 use Rattle.term.proofs.Sizes.{branch-length, more-length}
-use Rattle.anti_pattern.specs.Answer.{countOf, shown, answer}
+use Rattle.anti_pattern.specs.Answer.{countOf, matchingOf}
 use Rattle.anti_pattern.specs.Cost.{nodes, nodesIn, ample, Enough, hasRuns, hasRunsIn}
 use Rattle.anti_pattern.specs.Demands.{BoundOrNone, NoneOrUnknown, CostBound}
 use Rattle.anti_pattern.specs.Language.{Language}
-use Rattle.anti_pattern.specs.Next.{givenTo, check, resumed, hasLengths, resumedAfter, checkCount, nextCount, follows, spentOr, known, oneForEach, next}
+use Rattle.anti_pattern.specs.Next.{givenTo, checkGiven, resumed, hasLengths, resumedAfter, checkCount, nextCount, follows, spentOr, unknownOr, oneForEach, next}
 use Rattle.anti_pattern.specs.Published.{NoRuns, NoRunsIn}
-use Rattle.anti_pattern.specs.Search.{Env, Outcome, found, failed, Result, plus, fail, ifTrue, ifSome, Deferred, Next, refuted, finish, Tries, freely, start, assign, search, searches, whole}
+use Rattle.anti_pattern.specs.Search.{Env, Answers, found, failed, Result, plus, fail, ifTrue, ifSome, Deferred, Continuation, refuted, finish, Tries, freely, start, assign, search, searches, whole}
 use Rattle.anti_pattern.specs.Variables.{firsts, freeRuns}
 use Rattle.anti_pattern.proofs.Allowance.{answer-within}
 use Rattle.anti_pattern.proofs.Following.{cond-false}
@@ -30,7 +30,7 @@ use Rattle.anti_pattern.proofs.Metering.{leb-false}
 use Rattle.anti_pattern.proofs.Published.{no-runs}
 
 -- no answer follows the first
-abbrev Once : Outcome → Type 0
+abbrev Once : Answers → Type 0
 Once (found e m o) = (m ≡ 0) × (o ≡ failed)
 Once failed = Unit {0}
 
@@ -55,7 +55,7 @@ ifSome-within : (o : Option Env) (f : Env → Result) {n : ℕ} → ((e : Env) �
 ifSome-within none f {n} a = fail-within n
 ifSome-within (some e) f a = a e
 
-refuted-within : (o : Outcome) (c m n l : ℕ) (f : Unit {0} → Result) → c ≤ m → AtMost n (f tt) → m + n ≤ l → AtMost l (refuted o c f)
+refuted-within : (o : Answers) (c m n l : ℕ) (f : Unit {0} → Result) → c ≤ m → AtMost n (f tt) → m + n ≤ l → AtMost l (refuted o c f)
 refuted-within (found e k o) c m n l f h a i = record { cost-within = omega (arith, h, i); once = tt }
 refuted-within failed c m n l f h a i = plus-within c n a (omega (arith, h, i))
 
@@ -75,7 +75,7 @@ finish-within e (d ∷ ds) w h =
     refuted-within (d e .out) (d e .cost) (h .0) (h .1) w (λ u. finish e ds) (h .3 e .cost-within) (finish-within e ds (h .1) (h .4)) (h .2)
 
 -- a continuation counts so much at most, and besides what the complements put by do
-abbrev Leads : Next → ℕ → Type 0
+abbrev Leads : Continuation → ℕ → Type 0
 Leads k c = (e : Env) (put : List Deferred) (w : ℕ) → Weigh put w → AtMost (c + w) (k e put)
 
 finish-leads : Leads finish 0
@@ -85,7 +85,7 @@ module _ (table classes : List ℕ) where
   mutual
     unfolding search
 
-    pub search-within : (how : ℕ → Tries) (q : Pattern) → NoRuns q → (t : Term) (at : ℕ) (e : Env) (put : List Deferred) (k : Next) (w c : ℕ)
+    pub search-within : (how : ℕ → Tries) (q : Pattern) → NoRuns q → (t : Term) (at : ℕ) (e : Env) (put : List Deferred) (k : Continuation) (w c : ℕ)
         → Weigh put w → Leads k c → AtMost (nodes q + (c + w)) (search table classes how q t at e put k)
     search-within how (name v) n t at e put k w c h l =
         plus-within 1 (c + w) (ifSome-within (assign classes e v at (single t)) (λ f. k f put) (λ f. l f put w h)) (omega arith)
@@ -97,7 +97,7 @@ module _ (table classes : List ℕ) where
         λ f. within (search-within freely q n t at f [] finish 0 0 tt finish-leads) (omega arith) in
         plus-within 1 (c + (w + nodes q)) (l e _ (w + nodes q) (weigh-snoc put _ w (nodes q) h inside)) (omega arith)
 
-    searches-within : (how : ℕ → Tries) (qs : Children) → NoRunsIn qs → (ts : Terms) (at : ℕ) (e : Env) (put : List Deferred) (k : Next) (w c : ℕ)
+    searches-within : (how : ℕ → Tries) (qs : Children) → NoRunsIn qs → (ts : Terms) (at : ℕ) (e : Env) (put : List Deferred) (k : Continuation) (w c : ℕ)
         → Weigh put w → Leads k c → AtMost (nodesIn qs + (c + w)) (searches table classes how qs ts at e put k)
     searches-within how end n nil at e put k w c h l = within (l e put w h) (omega arith)
     searches-within how end n (t :: ts) at e put k w c h l = fail-within _
@@ -109,7 +109,7 @@ module _ (table classes : List ℕ) where
 
 -- the whole search
 
-resumed-fail : (is : Env → Bool) (o : Outcome) → Once o → resumed is o ≡ fail
+resumed-fail : (is : Env → Bool) (o : Answers) → Once o → resumed is o ≡ fail
 resumed-fail is (found e m o) h = go (is e)
   where
     go : (b : Bool) → cond b (record { out = o; cost = m }) (resumed is o) ≡ fail
@@ -121,8 +121,8 @@ module _ (l : Language) (q : Pattern) (n : NoRuns q) (t : Term) where
   whole-within : AtMost (nodes q) (whole l q t)
   whole-within = within (search-within (l .table) (l .classes) freely q n t 0 start [] finish 0 0 tt finish-leads) (omega arith)
 
-  check-whole : (given : List ℕ) → check l q t given ≡ whole l q t
-  unfolding check
+  check-whole : (given : List ℕ) → checkGiven l q t given ≡ whole l q t
+  unfolding checkGiven
   check-whole given =
       ap (λ (vs : List ℕ). search (l .table) (l .classes) (givenTo vs given) q t 0 start [] finish) (ap firsts (no-runs q n []))
 
@@ -143,10 +143,10 @@ module _ (l : Language) (q : Pattern) (n : NoRuns q) (t : Term) where
         let m : ltb allowance (checkCount l q t given) ≡ false = leb-false (suc allowance) _ (omega (arith, check-counts given)) in
         let n : ltb allowance (nextCount l q t given) ≡ false = leb-false (suc allowance) _ (omega (arith, counts given)) in
         rw (m, n, ap (λ (r : Result). r .out) (none-resumed given))
-        (follow (eqb (length given) (length (freeRuns q))) (check l q t given .out) (nextCount l q t given) allowance);
+        (follow (eqb (length given) (length (freeRuns q))) (checkGiven l q t given .out) (nextCount l q t given) allowance);
   }
     where
-      not-spent : (o : Outcome) → BoundOrNone (shown (l .table) o (countOf l q t))
+      not-spent : (o : Answers) → BoundOrNone (matchingOf (l .table) o (countOf l q t))
       not-spent (found e m o) = tt
       not-spent failed = tt
 
@@ -156,8 +156,8 @@ module _ (l : Language) (q : Pattern) (n : NoRuns q) (t : Term) where
       counts : (given : List ℕ) → nextCount l q t given ≡ countOf l q t
       counts given = omega (arith, check-counts given, ap (λ (r : Result). r .cost) (none-resumed given))
 
-      follow : (m : Bool) (o : Outcome) (c allowance : ℕ)
-          → NoneOrUnknown (oneForEach m (λ u. spentOr false allowance (λ u. known o (λ u. spentOr false allowance (λ u. follows (shown (l .table) failed c))))))
+      follow : (m : Bool) (o : Answers) (c allowance : ℕ)
+          → NoneOrUnknown (oneForEach m (λ u. spentOr false allowance (λ u. unknownOr o (λ u. spentOr false allowance (λ u. follows (matchingOf (l .table) failed c))))))
       follow true (found e k o) c allowance = tt
       follow true failed c allowance = tt
       follow false o c allowance = tt

@@ -15,9 +15,9 @@ use Rattle.anti_pattern.specs.AntiTerm.{Anti}
 use Rattle.anti_pattern.specs.Demands.{SearchDecides, PartsShown, AnswerExact, PublishedAgrees, OverTable, NextExact, EveryAnswer, CostBound, ChoicesAgree, ChoiceMatters, SingleClasses}
 use Rattle.anti_pattern.specs.Language.{Language, language, Classed, TermOf, TermsOf}
 use Rattle.anti_pattern.specs.Meaning.{Assignment, OneAt}
-use Rattle.anti_pattern.specs.Next.{check, resumedAfter, next}
+use Rattle.anti_pattern.specs.Next.{checkGiven, resumedAfter, next}
 use Rattle.anti_pattern.specs.Published.{NoRuns}
-use Rattle.anti_pattern.specs.Rides.{RidesHold, StepsHold}
+use Rattle.anti_pattern.specs.Rides.{RidesHold, NextRidesHold}
 use Rattle.anti_pattern.specs.Search.{finish, behind, search}
 use Rattle.anti_pattern.specs.Variables.{among, NoName, freeRuns}
 use Rattle.anti_pattern.proofs.Alike.{term-eq, one-refl}
@@ -107,6 +107,6 @@ pub rides-hold : RidesHold
 unfolding answer search finish behind size
 rides-hold = refl
 
-pub steps-hold : StepsHold
-unfolding next check resumedAfter search finish behind size
-steps-hold = refl
+pub next-rides-hold : NextRidesHold
+unfolding next checkGiven resumedAfter search finish behind size
+next-rides-hold = refl

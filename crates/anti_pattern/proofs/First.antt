@@ -13,7 +13,7 @@ use Rattle.anti_pattern.specs.Demands.{First, Unsatisfied, Enumerates, a
 use Rattle.anti_pattern.specs.Language.{Language, TermOf, TermsOf, _⊢_≋_}
 use Rattle.anti_pattern.specs.Meaning.{Assignment, unassigned, ExtendsAt, Extends, Holds, HoldAll, Satisfies, OneAt, CountAsOne}
 use Rattle.anti_pattern.specs.Order.{lengthOf, All, Member, Ascending, runLengths, Smaller}
-use Rattle.anti_pattern.specs.Search.{Env, start, Outcome, found, failed, firstAnswer, answers, Tries, freely, finish, search, whole}
+use Rattle.anti_pattern.specs.Search.{Env, start, Answers, found, failed, firstAnswer, answers, Tries, freely, finish, search, whole}
 use Rattle.anti_pattern.specs.Variables.{vars, varsAll, free, among, runs, runsAll, without, firsts, freeRuns}
 use Rattle.anti_pattern.proofs.Correct.{Before, Permitted, Candidate, values, NamesMay, freely-may, level-lists}
 use borrow.Author.Tests.{eqb-true}
@@ -178,14 +178,14 @@ module _ (l : Language) where
     pub found-first : (e : Env) → firstAnswer (whole l q t .out) ≡ some e → First l q t (e .value)
     found-first e h = go (whole l q t .out) h enumerates
       where
-        go : (o : Outcome) → firstAnswer o ≡ some e → Enumerates l q t (values o) → First l q t (e .value)
+        go : (o : Answers) → firstAnswer o ≡ some e → Enumerates l q t (values o) → First l q t (e .value)
         go (found f m o) h x = subst (λ (y : Env). First l q t (y .value)) (some-is h) (enumerates-first q t (f .value) (values o) x)
         go failed h x = absurd (none-is h)
 
     pub failed-none : firstAnswer (whole l q t .out) ≡ none → Unsatisfied l q t
     failed-none h = go (whole l q t .out) h enumerates
       where
-        go : (o : Outcome) → firstAnswer o ≡ none → Enumerates l q t (values o) → Unsatisfied l q t
+        go : (o : Answers) → firstAnswer o ≡ none → Enumerates l q t (values o) → Unsatisfied l q t
         go (found f m o) h x = absurd (none-is (sym h))
         go failed h x = enumerates-none q t x
 

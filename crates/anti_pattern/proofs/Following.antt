@@ -15,21 +15,21 @@ use Rattle.term.specs.Class.{Alike}
 use Rattle.term.specs.Code.{variables}
 use Rattle.term.specs.Part.{part}
 use Rattle.term.specs.declared.Part.{Part}
-use Rattle.anti_pattern.specs.Answer.{bound, nothing, spent, countOf, shown}
+use Rattle.anti_pattern.specs.Answer.{bound, nothing, spent, countOf, matchingOf}
 use Rattle.anti_pattern.specs.Demands.{Enumerates, assignments, Given, NextAfter, Last, OneForEach, UnknownLengths, NextExact, lengthsShown, Asked, no-more, one-more, Calls, none-at-all, from-first, EveryAnswer}
 use Rattle.anti_pattern.specs.Language.{Language, TermOf, TermsOf}
 use Rattle.anti_pattern.specs.Meaning.{Assignment, ExtendsAt, Extends, Satisfies, CountAsOne}
-use Rattle.anti_pattern.specs.Next.{givenTo, check, sameNumbers, resumed, hasLengths, resumedAfter, checkCount, nextCount, Following, follows, unknown, spentOr, known, oneForEach, next}
+use Rattle.anti_pattern.specs.Next.{givenTo, checkGiven, sameNumbers, resumed, hasLengths, resumedAfter, checkCount, nextCount, Following, follows, unknown, spentOr, unknownOr, oneForEach, next}
 use Rattle.anti_pattern.specs.Order.{lengthOf, All, Member, runLengths, Smaller}
-use Rattle.anti_pattern.specs.Place.{partOf, orAbsent, partAt, partsAt}
-use Rattle.anti_pattern.specs.Search.{Env, Outcome, found, failed, firstAnswer, answers, Result, fail, Tries, every, only, freely, whole}
+use Rattle.anti_pattern.specs.Place.{assignedPart, orAbsent, variablePart, partsAt}
+use Rattle.anti_pattern.specs.Search.{Env, Answers, found, failed, firstAnswer, answers, Result, fail, Tries, every, only, freely, whole}
 use Rattle.anti_pattern.specs.Variables.{vars, varsAll, free, among, NoName, NoNames, runs, runsAll, without, firsts, freeRuns}
 use Rattle.anti_pattern.proofs.Correct.{Permits, Permitted, NamesMay, AllMay, values}
 use Rattle.anti_pattern.proofs.Facts.{eqb-same}
 use Rattle.anti_pattern.proofs.First.{some-is, none-is, smaller-once, one-run-lengths, smaller-one, one-smaller, equal-lengths, one-first, EnumeratesBy, enumerates-by, enumerates, enumerates-first, enumerates-none}
 use Rattle.anti_pattern.proofs.Listed.{all-member, member-right, member-split, ascending-before, ascending-after}
 use Rattle.anti_pattern.proofs.Metering.{Split, enough, over, split, leb-true, leb-false}
-use Rattle.anti_pattern.proofs.Placed.{Answers, free-placed, shown-at-first-places, parts-one}
+use Rattle.anti_pattern.proofs.Placed.{AnswerIn, free-placed, shown-at-first-places, parts-one}
 use Rattle.anti_pattern.proofs.Alike.{one-sym}
 use Rattle.anti_pattern.proofs.Answers.{none-exactly, bound-exactly}
 use Rattle.anti_pattern.proofs.Each.{each-at}
@@ -52,11 +52,11 @@ numbers-same (x ∷ xs) = rw (eqb-same x) (numbers-same xs)
 
 -- what comes after the answer that is meant
 
-data Resumes (is : Env → Bool) (o : Outcome) : Result → Type 0 where
+data Resumes (is : Env → Bool) (o : Answers) : Result → Type 0 where
   not-there : All (λ e. is e ≡ false) (answers o) → Resumes is o fail
   there : {r : Result} (xs : List Env) (e : Env) → answers o ≡ xs ++ (e ∷ answers (r .out)) → is e ≡ true → Resumes is o r
 
-resumes : (is : Env → Bool) (o : Outcome) → Resumes is o (resumed is o)
+resumes : (is : Env → Bool) (o : Answers) → Resumes is o (resumed is o)
 resumes is failed = not-there tt
 resumes is (found e n o) = go (is e) refl (resumes is o)
   where
@@ -275,26 +275,26 @@ member-value (f ∷ es) e (inl h) = inl (ap (λ (g : Env). g .value) h)
 member-value (f ∷ es) e (inr m) = inr (member-value es e m)
 
 module _ (l : Language) (q : Pattern) (t : Term) (of : TermOf l t) (apart : NoName (freeRuns q) q) (given : List ℕ) (each : OneForEach q given) where
-  checks : EnumeratesBy l (givenTo (freeRuns q) given) q t (values (check l q t given .out))
-  unfolding check
+  checks : EnumeratesBy l (givenTo (freeRuns q) given) q t (values (checkGiven l q t given .out))
+  unfolding checkGiven
   checks = enumerates-by l q t of (givenTo (freeRuns q) given) (names-may (freeRuns q) given q apart)
 
-  pub check-answers : (e : Env) → Answers (check l q t given .out) e → Given l q t given (e .value)
+  pub check-answers : (e : Env) → AnswerIn (checkGiven l q t given .out) e → Given l q t given (e .value)
   check-answers e m =
-      let s = all-member (λ a. Satisfies l q t a × Permitted (givenTo (freeRuns q) given) a) (values (check l q t given .out)) (e .value) (checks .satisfy)
-      (member-value (answers (check l q t given .out)) e m) in record {
+      let s = all-member (λ a. Satisfies l q t a × Permitted (givenTo (freeRuns q) given) a) (values (checkGiven l q t given .out)) (e .value) (checks .satisfy)
+      (member-value (answers (checkGiven l q t given .out)) e m) in record {
         satisfies = s .0;
         lengths = permit-lengths (freeRuns q) given (e .value) each (distinct-firsts (runs q [])) (run-assigned l q t (e .value) (s .0))
             (λ v w m k. s .1 v w k);
       }
 
-  check-known : (e : Env) (n : ℕ) (o : Outcome) → check l q t given .out ≡ found e n o → Given l q t given (e .value)
-  check-known e n o h = check-answers e (subst (λ (x : Outcome). Answers x e) (sym h) (inl refl))
+  check-known : (e : Env) (n : ℕ) (o : Answers) → checkGiven l q t given .out ≡ found e n o → Given l q t given (e .value)
+  check-known e n o h = check-answers e (subst (λ (x : Answers). AnswerIn x e) (sym h) (inl refl))
 
-  check-unknown : check l q t given .out ≡ failed → (a : Assignment) → Given l q t given a → ⊥
+  check-unknown : checkGiven l q t given .out ≡ failed → (a : Assignment) → Given l q t given a → ⊥
   check-unknown h a g =
       let m = checks .listed a (g .satisfies) (lengths-permit (freeRuns q) given a (g .lengths)) in
-      subst (λ (x : Outcome). Member (m .0) (values x)) h (m .1)
+      subst (λ (x : Answers). Member (m .0) (values x)) h (m .1)
 
 -- what comes after the given answer
 
@@ -338,7 +338,7 @@ module _ (l : Language) (q : Pattern) (t : Term) (of : TermOf l t) (given : List
   data After : Result → Type 0 where
     unmeant : ((a : Assignment) → Given l q t given a → ⊥) → After fail
     meant : {r : Result} (xs : List Assignment) (a : Assignment) → Given l q t given a → Enumerates l q t (xs ++ (a ∷ values (r .out)))
-        → ((e : Env) → Answers (r .out) e → Answers (whole l q t .out) e) → After r
+        → ((e : Env) → AnswerIn (r .out) e → AnswerIn (whole l q t .out) e) → After r
 
   resumed-after : After (resumedAfter l q t given)
   unfolding resumedAfter
@@ -359,19 +359,19 @@ module _ (l : Language) (q : Pattern) (t : Term) (of : TermOf l t) (given : List
 
   -- and the first of these is the next
   pub resumed-next : (e : Env) → firstAnswer (resumedAfter l q t given .out) ≡ some e
-      → (a : Assignment) × Given l q t given a × NextAfter l q t a (e .value) × Answers (whole l q t .out) e
+      → (a : Assignment) × Given l q t given a × NextAfter l q t a (e .value) × AnswerIn (whole l q t .out) e
   resumed-next e h = go resumed-after h
     where
-      first : (xs : List Assignment) (a : Assignment) → Given l q t given a → (o : Outcome) → Enumerates l q t (xs ++ (a ∷ values o))
-          → ((f : Env) → Answers o f → Answers (whole l q t .out) f) → firstAnswer o ≡ some e
-          → (a : Assignment) × Given l q t given a × NextAfter l q t a (e .value) × Answers (whole l q t .out) e
+      first : (xs : List Assignment) (a : Assignment) → Given l q t given a → (o : Answers) → Enumerates l q t (xs ++ (a ∷ values o))
+          → ((f : Env) → AnswerIn o f → AnswerIn (whole l q t .out) f) → firstAnswer o ≡ some e
+          → (a : Assignment) × Given l q t given a × NextAfter l q t a (e .value) × AnswerIn (whole l q t .out) e
       first xs a g (found f n o) x k h =
-          subst (λ (y : Env). (a : Assignment) × Given l q t given a × NextAfter l q t a (y .value) × Answers (whole l q t .out) y) (some-is h)
+          subst (λ (y : Env). (a : Assignment) × Given l q t given a × NextAfter l q t a (y .value) × AnswerIn (whole l q t .out) y) (some-is h)
           (a, g, next-of l q t xs a (f .value) (values o) x, k f (inl refl))
       first xs a g failed x k h = absurd (none-is h)
 
       go : {r : Result} → After r → firstAnswer (r .out) ≡ some e
-          → (a : Assignment) × Given l q t given a × NextAfter l q t a (e .value) × Answers (whole l q t .out) e
+          → (a : Assignment) × Given l q t given a × NextAfter l q t a (e .value) × AnswerIn (whole l q t .out) e
       go (unmeant u) h = absurd (none-is h)
       go {r} (meant xs a g x k) h = first xs a g (r .out) x k h
 
@@ -391,12 +391,12 @@ module _ (l : Language) (k : Alike (l .table) (l .classes)) (q : Pattern) (t : T
   module _ (n : ℕ) where
     -- by the outcome of the resumed search
     shown-next : OneForEach q given → nextCount l q t given ≤ n → (a : Assignment) → Given l q t given a → {r : Result} → After l q t of given r
-        → Followed n (follows (shown (l .table) (r .out) (nextCount l q t given)))
+        → Followed n (follows (matchingOf (l .table) (r .out) (nextCount l q t given)))
     shown-next each fit a g (unmeant u) = absurd (u a g)
     shown-next each fit a g {r} (meant xs b h m f) = go (r .out) m f
       where
-        go : (o : Outcome) → Enumerates l q t (xs ++ (b ∷ values o)) → ((e : Env) → Answers o e → Answers (whole l q t .out) e)
-            → Followed n (follows (shown (l .table) o (nextCount l q t given)))
+        go : (o : Answers) → Enumerates l q t (xs ++ (b ∷ values o)) → ((e : Env) → AnswerIn o e → AnswerIn (whole l q t .out) e)
+            → Followed n (follows (matchingOf (l .table) o (nextCount l q t given)))
         go (found e k o) m f =
             let x = next-of l q t xs b (e .value) (values o) m in
             subst (λ (ps : List Part). Followed n (follows (bound ps (nextCount l q t given))))
@@ -407,13 +407,13 @@ module _ (l : Language) (k : Alike (l .table) (l .classes)) (q : Pattern) (t : T
     no-count u (unmeant h) = refl
     no-count u (meant xs a g fit f) = absurd (u a g)
 
-    known-next : OneForEach q given → checkCount l q t given ≤ n → (o : Outcome) → check l q t given .out ≡ o
-        → Followed n (known o (λ u. spentOr (ltb n (nextCount l q t given)) n
-        (λ u. follows (shown (l .table) (resumedAfter l q t given .out) (nextCount l q t given)))))
+    known-next : OneForEach q given → checkCount l q t given ≤ n → (o : Answers) → checkGiven l q t given .out ≡ o
+        → Followed n (unknownOr o (λ u. spentOr (ltb n (nextCount l q t given)) n
+        (λ u. follows (matchingOf (l .table) (resumedAfter l q t given .out) (nextCount l q t given)))))
     known-next each fit (found e k o) h = go (split (nextCount l q t given) n)
       where
         go : Split (nextCount l q t given) n → Followed n (spentOr (ltb n (nextCount l q t given)) n
-            (λ u. follows (shown (l .table) (resumedAfter l q t given .out) (nextCount l q t given))))
+            (λ u. follows (matchingOf (l .table) (resumedAfter l q t given .out) (nextCount l q t given))))
         go (over k) = rw (leb-true (suc n) (nextCount l q t given) k) (is-spent each k)
         go (enough k) =
             rw (leb-false (suc n) (nextCount l q t given) (omega arith))
@@ -428,15 +428,15 @@ module _ (l : Language) (k : Alike (l .table) (l .classes)) (q : Pattern) (t : T
       where
         within : OneForEach q given → Split (checkCount l q t given) n
             → Followed n (spentOr (ltb n (checkCount l q t given)) n
-            (λ u. known (check l q t given .out) (λ u. spentOr (ltb n (nextCount l q t given)) n
-            (λ u. follows (shown (l .table) (resumedAfter l q t given .out) (nextCount l q t given))))))
+            (λ u. unknownOr (checkGiven l q t given .out) (λ u. spentOr (ltb n (nextCount l q t given)) n
+            (λ u. follows (matchingOf (l .table) (resumedAfter l q t given .out) (nextCount l q t given))))))
         within each (over k) = rw (leb-true (suc n) (checkCount l q t given) k) (is-spent each (omega arith))
-        within each (enough k) = rw (leb-false (suc n) (checkCount l q t given) (omega arith)) (known-next each k (check l q t given .out) refl)
+        within each (enough k) = rw (leb-false (suc n) (checkCount l q t given) (omega arith)) (known-next each k (checkGiven l q t given .out) refl)
 
         go : (m : Bool) → eqb (length given) (length (freeRuns q)) ≡ m
             → Followed n (oneForEach m (λ u. spentOr (ltb n (checkCount l q t given)) n
-            (λ u. known (check l q t given .out) (λ u. spentOr (ltb n (nextCount l q t given)) n
-            (λ u. follows (shown (l .table) (resumedAfter l q t given .out) (nextCount l q t given)))))))
+            (λ u. unknownOr (checkGiven l q t given .out) (λ u. spentOr (ltb n (nextCount l q t given)) n
+            (λ u. follows (matchingOf (l .table) (resumedAfter l q t given .out) (nextCount l q t given)))))))
         go true e = within (eqb-true (length given) (length (freeRuns q)) e) (split (checkCount l q t given) n)
         go false e = is-uneven (λ h. false≢true (sym e ∙ eq-eqb (length given) (length (freeRuns q)) h))
 
@@ -525,8 +525,8 @@ module _ (l : Language) (k : Alike (l .table) (l .classes)) (q : Pattern) (t : T
       → getD (partsAt (l .table) q t a) v (part 0 0 0) .elements ≡ lengthOf (a v)
   element-shown a s v m =
       let p = free-placed l q t a s v (within-runs q [] [] (λ i k. k) v (within-firsts (runs q []) v m)) in
-      ap (λ (x : Part). x .elements) (each-at (partAt (l .table) q t a) 0 variables v (few v m) ∙ ap (partAt (l .table) q t a) (omega arith))
-      ∙ ap₂ (λ (x : Option ℕ) (y : Option Terms). orAbsent x (partOf (l .table) y) .elements) (p .2) (p .3) ∙ sym (ap lengthOf (p .3))
+      ap (λ (x : Part). x .elements) (each-at (variablePart (l .table) q t a) 0 variables v (few v m) ∙ ap (variablePart (l .table) q t a) (omega arith))
+      ∙ ap₂ (λ (x : Option ℕ) (y : Option Terms). orAbsent x (assignedPart (l .table) y) .elements) (p .2) (p .3) ∙ sym (ap lengthOf (p .3))
 
   lengths-shown : (a : Assignment) → Satisfies l q t a → lengthsShown q (partsAt (l .table) q t a) ≡ runLengths q a
   lengths-shown a s = map-among (λ v. getD (partsAt (l .table) q t a) v (part 0 0 0) .elements) (λ v. lengthOf (a v)) (freeRuns q) (element-shown a s)

@@ -3,7 +3,7 @@ use Prim.Native.Nat.{ℕ}
 use mathlib.Core.List.{List, [], _∷_, map}
 use Rattle.term.specs.Term.{Term, Terms}
 use Rattle.term.specs.Pattern.{Pattern, Children}
-use Rattle.anti_pattern.specs.Search.{Env, Result, Deferred, Next, finish, Tries, searches, level}
+use Rattle.anti_pattern.specs.Search.{Env, Result, Deferred, Continuation, finish, Tries, searches, level}
 
 -- the child patterns left, the elements left, and the offset of the first of these
 pub record Frame : Type 0 where
@@ -28,7 +28,7 @@ module _ (table classes : List ℕ) where
   deferred p = λ e. level table classes (p .inside) (p .term) (p .at) e
 
   module _ (how : ℕ → Tries) where
-    abbrev pub resume : List Frame → Next
+    abbrev pub resume : List Frame → Continuation
     resume [] = finish
     resume (f ∷ fs) = λ e put. searches table classes how (f .patterns) (f .elements) (f .at) e put (resume fs)
 

@@ -3,8 +3,8 @@ use Prim.Native.Nat.{ℕ, _-_}
 use mathlib.Core.List.{List}
 use mathlib.Core.Bool.{Bool, true, false}
 use lib.Dec.{leb}
-use Rattle.anti_pattern.specs.Search.{Env, Outcome, found, failed, Result}
-use Rattle.anti_pattern.specs.Answer.{Answer, bound, nothing, spent, parts}
+use Rattle.anti_pattern.specs.Search.{Env, Answers, found, failed, Result}
+use Rattle.anti_pattern.specs.Answer.{Matching, bound, nothing, spent, parts}
 
 -- found or failed, with what is left of the allowance; or used up
 pub data Metered : Type 0 where
@@ -12,7 +12,7 @@ pub data Metered : Type 0 where
   missed : ℕ → Metered
   usedUp : Metered
 
-abbrev pub metered : Bool → Outcome → ℕ → Metered
+abbrev pub metered : Bool → Answers → ℕ → Metered
 metered true (found e m o) left = met e left
 metered true failed left = missed left
 metered false o left = usedUp
@@ -21,7 +21,7 @@ unfoldable pub meter : ℕ → Result → Metered
 meter n r = metered (leb (r .cost) n) (r .out) (n - r .cost)
 
 -- the answer under the allowance n, from what the search under it comes to
-abbrev pub answered : List ℕ → ℕ → Metered → Answer
+abbrev pub answered : List ℕ → ℕ → Metered → Matching
 answered table n (met e left) = bound (parts table e) (n - left)
 answered table n (missed left) = nothing (n - left)
 answered table n usedUp = spent n

@@ -6,7 +6,7 @@ use mathlib.Core.Option.{some}
 use native.Mathlib.Omega.{arith}
 use lib.Dec.{leb, T, leb→le, le→leb, nleb→lt}
 use Rattle.anti_pattern.proofs.Meter.{Metered, met, missed, usedUp, metered, meter, thenMeter, refuteMeter}
-use Rattle.anti_pattern.specs.Search.{Env, Outcome, found, failed, firstAnswer, Result, plus, counted, fail, after, refuted}
+use Rattle.anti_pattern.specs.Search.{Env, Answers, found, failed, firstAnswer, Result, plus, counted, fail, after, refuted}
 
 pub leb-true : (a b : ℕ) → a ≤ b → leb a b ≡ true
 leb-true a b h = go (leb a b) (le→leb a b h)
@@ -61,7 +61,7 @@ pub meter-one : (n : ℕ) (r : Result) → 0 < n → meter n (counted r) ≡ met
 meter-one n r h = meter-plus n 1 r h
 
 -- what goes on from an outcome: k, which needs a part of the count that is within the allowance
-meter-through : (n c : ℕ) (o : Outcome) (r : Result) (k : Metered → Metered) → k usedUp ≡ usedUp → c ≤ r .cost
+meter-through : (n c : ℕ) (o : Answers) (r : Result) (k : Metered → Metered) → k usedUp ≡ usedUp → c ≤ r .cost
     → (c ≤ n → meter n r ≡ k (metered true o (n - c))) → meter n r ≡ k (meter n (record { out = o; cost = c }))
 meter-through n c o r k u b h = go (split c n)
   where
@@ -69,19 +69,19 @@ meter-through n c o r k u b h = go (split c n)
     go (enough l) = h l ∙ sym (ap k (meter-within n (record { out = o; cost = c }) l))
     go (over l) = meter-spent n r (omega arith) ∙ sym u ∙ sym (ap k (meter-spent n (record { out = o; cost = c }) l))
 
-pub meter-after : (n : ℕ) (o : Outcome) (c : ℕ) (f : Unit {0} → Result)
+pub meter-after : (n : ℕ) (o : Answers) (c : ℕ) (f : Unit {0} → Result)
     → meter n (after o c f) ≡ thenMeter (meter n (record { out = o; cost = c })) f
 meter-after n (found e m o) c f =
     meter-through n c (found e m o) (after (found e m o) c f) (λ x. thenMeter x f) refl (omega arith) (meter-within n (after (found e m o) c f))
 meter-after n failed c f = meter-through n c failed (after failed c f) (λ m. thenMeter m f) refl (omega arith) (meter-plus n c (f tt))
 
-pub meter-refuted : (n : ℕ) (o : Outcome) (c : ℕ) (f : Unit {0} → Result)
+pub meter-refuted : (n : ℕ) (o : Answers) (c : ℕ) (f : Unit {0} → Result)
     → meter n (refuted o c f) ≡ refuteMeter (meter n (record { out = o; cost = c })) f
 meter-refuted n (found e m o) c f =
     meter-through n c (found e m o) (refuted (found e m o) c f) (λ x. refuteMeter x f) refl (omega arith) (meter-within n (refuted (found e m o) c f))
 meter-refuted n failed c f = meter-through n c failed (refuted failed c f) (λ m. refuteMeter m f) refl (omega arith) (meter-plus n c (f tt))
 
 -- what is found first, and nothing of what the search resumed after it comes to
-pub metered-first : (o : Outcome) (e : Env) (n : ℕ) → firstAnswer o ≡ some e → metered true o n ≡ met e n
+pub metered-first : (o : Answers) (e : Env) (n : ℕ) → firstAnswer o ≡ some e → metered true o n ≡ met e n
 metered-first (found f m o) e n h = ap (λ (g : Env). met g n) cc
 metered-first failed e n h = let z : _≡_ {A = ℕ} 0 1 = cc in absurd (omega arith)

@@ -19,8 +19,8 @@ use Rattle.anti_pattern.specs.Answer.{parts}
 use Rattle.anti_pattern.specs.Language.{Language, TermOf, TermsOf, _⊢_≋_}
 use Rattle.anti_pattern.specs.Meaning.{Assignment, ExtendsAt, Extends, Holds, HoldAll, Satisfies, OneAt, CountAsOne}
 use Rattle.anti_pattern.specs.Order.{Member}
-use Rattle.anti_pattern.specs.Place.{past, assigned, place, placeAll, partOf, orAbsent, partAt, eachFrom, partsAt}
-use Rattle.anti_pattern.specs.Search.{Env, bind, start, Outcome, found, failed, firstAnswer, answers, Result, ifTrue, ifSome, after, Deferred, Next, refuted, finish, sameOr, lengths, exactly, Tries, every, only, freely, tryFresh, behind, tryRun, search, searches, whole}
+use Rattle.anti_pattern.specs.Place.{past, assigned, place, placeAll, assignedPart, orAbsent, variablePart, eachFrom, partsAt}
+use Rattle.anti_pattern.specs.Search.{Env, bind, start, Answers, found, failed, firstAnswer, answers, Result, ifTrue, ifSome, after, Deferred, Continuation, refuted, finish, sameOr, lengths, exactly, Tries, every, only, freely, tryFresh, behind, tryRun, search, searches, whole}
 use Rattle.anti_pattern.specs.Variables.{vars, varsAll, free, among}
 use borrow.Author.Tests.{eqb-true}
 use Rattle.term.proofs.SameParts.{same-terms, same-counts, same-sizes}
@@ -29,18 +29,18 @@ use Rattle.anti_pattern.proofs.Facts.{eqb-same, join-nil, join-one, non
 use Rattle.anti_pattern.proofs.First.{some-is, none-is, answer-satisfies}
 
 -- an answer of an outcome
-abbrev pub Answers : Outcome → Env → Type 0
-Answers o f = Member f (answers o)
+abbrev pub AnswerIn : Answers → Env → Type 0
+AnswerIn o f = Member f (answers o)
 
-pub first-answers : (o : Outcome) (e : Env) → firstAnswer o ≡ some e → Answers o e
+pub first-answers : (o : Answers) (e : Env) → firstAnswer o ≡ some e → AnswerIn o e
 first-answers (found f m o) e h = inl (some-is h)
 first-answers failed e h = absurd (none-is h)
 
-pub answers-after : (o : Outcome) (n : ℕ) (g : Unit {0} → Result) (f : Env) → Answers (after o n g .out) f → Answers o f ⊎ Answers (g tt .out) f
+pub answers-after : (o : Answers) (n : ℕ) (g : Unit {0} → Result) (f : Env) → AnswerIn (after o n g .out) f → AnswerIn o f ⊎ AnswerIn (g tt .out) f
 answers-after (found e m o) n g f (inl h) = inl (inl h)
 answers-after (found e m o) n g f (inr h) = go (answers-after o m g f h)
   where
-    go : Answers o f ⊎ Answers (g tt .out) f → Answers (found e m o) f ⊎ Answers (g tt .out) f
+    go : AnswerIn o f ⊎ AnswerIn (g tt .out) f → AnswerIn (found e m o) f ⊎ AnswerIn (g tt .out) f
     go (inl k) = inl (inr k)
     go (inr k) = inr k
 answers-after failed n g f h = inr h
@@ -53,17 +53,17 @@ Placed none o p x y = (n : ℕ) → p ≡ some n → y ≡ n
 abbrev pub PlacedAt : Env → Env → ℕ → Option ℕ → Type 0
 PlacedAt e f v p = Placed (e .value v) (e .offset v) p (f .value v) (f .offset v)
 
-abbrev pub Places : Next → (Assignment → ℕ → Option ℕ) → Type 0
-Places k P = (e : Env) (put : List Deferred) (f : Env) → Answers (k e put .out) f → (v : ℕ) → PlacedAt e f v (P (f .value) v)
+abbrev pub Places : Continuation → (Assignment → ℕ → Option ℕ) → Type 0
+Places k P = (e : Env) (put : List Deferred) (f : Env) → AnswerIn (k e put .out) f → (v : ℕ) → PlacedAt e f v (P (f .value) v)
 
 -- at the end of a level nothing changes
-finish-found : (e f : Env) (ds : List Deferred) → Answers (finish e ds .out) f → e ≡ f
+finish-found : (e f : Env) (ds : List Deferred) → AnswerIn (finish e ds .out) f → e ≡ f
 unfolding finish
 finish-found e f [] (inl h) = h
 finish-found e f [] (inr h) = absurd h
 finish-found e f (d ∷ ds) h = go (d e .out) (d e .cost) h (finish-found e f ds)
   where
-    go : (o : Outcome) (n : ℕ) → Answers (refuted o n (λ u. finish e ds) .out) f → (Answers (finish e ds .out) f → e ≡ f) → e ≡ f
+    go : (o : Answers) (n : ℕ) → AnswerIn (refuted o n (λ u. finish e ds) .out) f → (AnswerIn (finish e ds .out) f → e ≡ f) → e ≡ f
     go (found g m o) n h r = absurd h
     go failed n h r = r h
 
@@ -103,35 +103,35 @@ module _ (e f : Env) (u at : ℕ) (w : Terms) (P : ℕ → Option ℕ) where
 
 -- a run name's length at which something is found
 abbrev pub TakenAt : Terms → Terms → (Terms → Terms → Result) → Env → Type 0
-TakenAt w ts g f = (x : Terms) × (us : Terms) × (ts ≡ x ⧺ us) × Answers (g (w ⧺ x) us .out) f
+TakenAt w ts g f = (x : Terms) × (us : Terms) × (ts ≡ x ⧺ us) × AnswerIn (g (w ⧺ x) us .out) f
 
-pub taken-now : (w ts : Terms) (g : Terms → Terms → Result) (f : Env) → Answers (g w ts .out) f → TakenAt w ts g f
-taken-now w ts g f h = (nil, ts, refl, subst (λ (y : Terms). Answers (g y ts .out) f) (sym (join-nil w)) h)
+pub taken-now : (w ts : Terms) (g : Terms → Terms → Result) (f : Env) → AnswerIn (g w ts .out) f → TakenAt w ts g f
+taken-now w ts g f h = (nil, ts, refl, subst (λ (y : Terms). AnswerIn (g y ts .out) f) (sym (join-nil w)) h)
 
 pub taken-later : (w : Terms) (t : Term) (ts : Terms) (g : Terms → Terms → Result) (f : Env) → TakenAt (w ⧺ single t) ts g f → TakenAt w (t :: ts) g f
 taken-later w t ts g f s =
-    (t :: s .0, s .1, ap (t ::_) (s .2), subst (λ (y : Terms). Answers (g y (s .1) .out) f) (join-one w t (s .0)) (s .3))
+    (t :: s .0, s .1, ap (t ::_) (s .2), subst (λ (y : Terms). AnswerIn (g y (s .1) .out) f) (join-one w t (s .0)) (s .3))
 
-pub lengths-found : (ts w : Terms) (g : Terms → Terms → Result) (f : Env) → Answers (lengths w ts g .out) f → TakenAt w ts g f
+pub lengths-found : (ts w : Terms) (g : Terms → Terms → Result) (f : Env) → AnswerIn (lengths w ts g .out) f → TakenAt w ts g f
 lengths-found nil w g f h = taken-now w nil g f h
 lengths-found (t :: ts) w g f h =
     go (answers-after (g w (t :: ts) .out) (1 + g w (t :: ts) .cost) (λ u. lengths (w ⧺ single t) ts g) f h) (lengths-found ts (w ⧺ single t) g f)
   where
-    go : Answers (g w (t :: ts) .out) f ⊎ Answers (lengths (w ⧺ single t) ts g .out) f
-        → (Answers (lengths (w ⧺ single t) ts g .out) f → TakenAt (w ⧺ single t) ts g f) → TakenAt w (t :: ts) g f
+    go : AnswerIn (g w (t :: ts) .out) f ⊎ AnswerIn (lengths (w ⧺ single t) ts g .out) f
+        → (AnswerIn (lengths (w ⧺ single t) ts g .out) f → TakenAt (w ⧺ single t) ts g f) → TakenAt w (t :: ts) g f
     go (inl k) r = taken-now w (t :: ts) g f k
     go (inr k) r = taken-later w t ts g f (r k)
 
-exactly-found : (n : ℕ) (ts w : Terms) (g : Terms → Terms → Result) (f : Env) → Answers (exactly n w ts g .out) f → TakenAt w ts g f
+exactly-found : (n : ℕ) (ts w : Terms) (g : Terms → Terms → Result) (f : Env) → AnswerIn (exactly n w ts g .out) f → TakenAt w ts g f
 exactly-found zero ts w g f h = taken-now w ts g f h
 exactly-found (suc n) nil w g f h = absurd h
 exactly-found (suc n) (t :: ts) w g f h = taken-later w t ts g f (exactly-found n ts (w ⧺ single t) g f h)
 
-pub fresh-found : (m : Tries) (ts : Terms) (g : Terms → Terms → Result) (f : Env) → Answers (tryFresh m ts g .out) f → TakenAt nil ts g f
+pub fresh-found : (m : Tries) (ts : Terms) (g : Terms → Terms → Result) (f : Env) → AnswerIn (tryFresh m ts g .out) f → TakenAt nil ts g f
 fresh-found every ts g f h = lengths-found ts nil g f h
 fresh-found (only n) ts g f h = exactly-found n ts nil g f h
 
-pub ifTrue-found : (m : Bool) (g : Unit {0} → Result) (f : Env) → Answers (ifTrue m g .out) f → Answers (g tt .out) f
+pub ifTrue-found : (m : Bool) (g : Unit {0} → Result) (f : Env) → AnswerIn (ifTrue m g .out) f → AnswerIn (g tt .out) f
 ifTrue-found true g f h = h
 ifTrue-found false g f h = absurd h
 
@@ -149,13 +149,13 @@ each-same f g e v zero = refl
 each-same f g e v (suc n) = ap₂ _∷_ (e v) (each-same f g e (suc v) n)
 
 module _ (l : Language) where
-  name-places : (e : Env) (u at : ℕ) (w : Terms) (k : Next) (P : Assignment → ℕ → Option ℕ) → Places k P → (put : List Deferred) (f : Env)
-      (o : Option Terms) → e .value u ≡ o → Answers (ifSome (sameOr (l .classes) o w e (bind e u at w)) (λ g. k g put) .out) f
+  name-places : (e : Env) (u at : ℕ) (w : Terms) (k : Continuation) (P : Assignment → ℕ → Option ℕ) → Places k P → (put : List Deferred) (f : Env)
+      (o : Option Terms) → e .value u ≡ o → AnswerIn (ifSome (sameOr (l .classes) o w e (bind e u at w)) (λ g. k g put) .out) f
       → (v : ℕ) → PlacedAt e f v (cond (eqb u v) (some at) (P (f .value) v))
   name-places e u at w k P j put f none q h = placed-fresh e f u at w (P (f .value)) q (j (bind e u at w) put f h)
   name-places e u at w k P j put f (some x) q h = go (sameTerms (l .classes) x w) h
     where
-      go : (m : Bool) → Answers (ifSome (cond m (some e) none) (λ g. k g put) .out) f
+      go : (m : Bool) → AnswerIn (ifSome (cond m (some e) none) (λ g. k g put) .out) f
           → (v : ℕ) → PlacedAt e f v (cond (eqb u v) (some at) (P (f .value) v))
       go true h = placed-kept e f u at w (P (f .value)) x q (j e put f h)
       go false h = absurd h
@@ -167,8 +167,8 @@ module _ (l : Language) where
   past-same (t :: w) nil us h = absurd (false≢true h)
   past-same (t :: w) (y :: x) us h = past-same w x us (cons-open l t y w x h .1)
 
-  rest-found : (w ts : Terms) (g : Terms → Result) (f : Env) (o : Option Terms) → behind (l .classes) w ts ≡ o → Answers (ifSome o g .out) f
-      → (x : Terms) × (us : Terms) × (l ⊢ w ≋ x) × (ts ≡ x ⧺ us) × Answers (g us .out) f
+  rest-found : (w ts : Terms) (g : Terms → Result) (f : Env) (o : Option Terms) → behind (l .classes) w ts ≡ o → AnswerIn (ifSome o g .out) f
+      → (x : Terms) × (us : Terms) × (l ⊢ w ≋ x) × (ts ≡ x ⧺ us) × AnswerIn (g us .out) f
   rest-found w ts g f none r h = absurd h
   rest-found w ts g f (some us) r h = let i = behind-alike (l .classes) w ts us r in (i .0, us, i .2, i .1, h)
 
@@ -180,13 +180,13 @@ module _ (l : Language) where
   rest-place P o w x us ts h i r = ap₂ P (sym (ap assigned h)) (rest-is o w x us ts h i r)
 
   module _ (e : Env) (u at : ℕ) (ts : Terms) (g h : Terms → Terms → Result) (f : Env) (P : Terms → Terms → ℕ → Option ℕ)
-      (fresh : (w us : Terms) → Answers (g w us .out) f
+      (fresh : (w us : Terms) → AnswerIn (g w us .out) f
       → (v : ℕ) → PlacedAt (bind e u at w) f v (P w us v))
-      (kept : (w us : Terms) → Answers (h w us .out) f → (v : ℕ) → PlacedAt e f v (P w us v)) where
+      (kept : (w us : Terms) → AnswerIn (h w us .out) f → (v : ℕ) → PlacedAt e f v (P w us v)) where
     abbrev Goal : (ℕ → Option ℕ) → Type 0
     Goal p = (v : ℕ) → PlacedAt e f v (cond (eqb u v) (some at) (p v))
 
-    run-places : (m : Tries) (o : Option Terms) → e .value u ≡ o → Answers (tryRun (l .classes) o m ts g h .out) f
+    run-places : (m : Tries) (o : Option Terms) → e .value u ≡ o → AnswerIn (tryRun (l .classes) o m ts g h .out) f
         → Goal (P (assigned (f .value u)) (past (assigned (f .value u)) ts))
     run-places m none q r =
         let s = fresh-found m ts g f r in
@@ -205,14 +205,14 @@ module _ (l : Language) where
   mutual
     unfolding search
 
-    pub search-places : (how : ℕ → Tries) (q : Pattern) (t : Term) (at : ℕ) (k : Next) (P : Assignment → ℕ → Option ℕ) → Places k P
+    pub search-places : (how : ℕ → Tries) (q : Pattern) (t : Term) (at : ℕ) (k : Continuation) (P : Assignment → ℕ → Option ℕ) → Places k P
         → Places (λ e put. search (l .table) (l .classes) how q t at e put k) (λ b v. place (l .table) q t at b v (P b v))
     search-places how (name u) t at k P j e put f h = name-places e u at (single t) k P j put f (e .value u) refl h
     search-places how (symbol s qs) (node r ts) at k P j e put f h =
         searches-places how qs ts (at + width (l .table) r) k P j e put f (ifTrue-found (eqb (classOf (l .classes) s) (classOf (l .classes) r)) (λ u. searches (l .table) (l .classes) how qs ts (at + width (l .table) r) e put k) f h)
     search-places how (complement q) t at k P j e put f h = j e (put ++ ((λ g. search (l .table) (l .classes) freely q t at g [] finish) ∷ [])) f h
 
-    pub searches-places : (how : ℕ → Tries) (qs : Children) (ts : Terms) (at : ℕ) (k : Next) (P : Assignment → ℕ → Option ℕ) → Places k P
+    pub searches-places : (how : ℕ → Tries) (qs : Children) (ts : Terms) (at : ℕ) (k : Continuation) (P : Assignment → ℕ → Option ℕ) → Places k P
         → Places (λ e put. searches (l .table) (l .classes) how qs ts at e put k) (λ b v. placeAll (l .table) qs ts at b v (P b v))
     searches-places how end nil at k P j e put f h = j e put f h
     searches-places how end (t :: ts) at k P j e put f h = absurd h
@@ -229,7 +229,7 @@ module _ (l : Language) where
         (how u) (e .value u) refl h
 
   -- the offset of each variable that has a place is that of its first place
-  search-placed : (how : ℕ → Tries) (q : Pattern) (t : Term) (f : Env) → Answers (search (l .table) (l .classes) how q t zero start [] finish .out) f
+  search-placed : (how : ℕ → Tries) (q : Pattern) (t : Term) (f : Env) → AnswerIn (search (l .table) (l .classes) how q t zero start [] finish .out) f
       → (v n : ℕ) → place (l .table) q t zero (f .value) v none ≡ some n → f .offset v ≡ n
   search-placed how q t f h v n p = search-places how q t zero finish (λ b v. none) finish-places start [] f h v n p
 
@@ -257,12 +257,12 @@ module _ (l : Language) where
 
   -- the part that is shown for a variable, at the offset found and at its first place
   shows : (n : ℕ) (p : Option ℕ) (m : Bool) (o : Option Terms) → ExtendsAt (TermsOf l) none m o
-      → (m ≡ true → (k : ℕ) × (p ≡ some k)) → ((k : ℕ) → p ≡ some k → n ≡ k) → partOf (l .table) o n ≡ orAbsent p (partOf (l .table) o)
+      → (m ≡ true → (k : ℕ) × (p ≡ some k)) → ((k : ℕ) → p ≡ some k → n ≡ k) → assignedPart (l .table) o n ≡ orAbsent p (assignedPart (l .table) o)
   shows n p true none x g i = absurd (none-some (x .2))
   shows n p true (some w) x g i = let k = g refl in rw (k .1, i (k .0) (k .1))
   shows n p false none x g i = absent-there p
     where
-      absent-there : (p : Option ℕ) → absent ≡ orAbsent p (partOf (l .table) none)
+      absent-there : (p : Option ℕ) → absent ≡ orAbsent p (assignedPart (l .table) none)
       absent-there none = refl
       absent-there (some k) = refl
   shows n p false (some w) x g i = absurd (none-some (sym x))
@@ -277,36 +277,36 @@ module _ (l : Language) where
         let w = subst (λ (c : Bool). ExtendsAt (TermsOf l) none c (a v)) m (s .exact v) in (p .0, w .0, p .1, w .2)
 
     -- and no other variable has
-    pub others-absent : (a : Assignment) → Satisfies l q t a → (v : ℕ) → among v (free q) ≡ false → partAt (l .table) q t a v ≡ absent
+    pub others-absent : (a : Assignment) → Satisfies l q t a → (v : ℕ) → among v (free q) ≡ false → variablePart (l .table) q t a v ≡ absent
     unfolding Extends
     others-absent a s v m =
         let w : a v ≡ none = subst (λ (c : Bool). ExtendsAt (TermsOf l) none c (a v)) m (s .exact v) in
-        ap (λ (o : Option Terms). orAbsent (place (l .table) q t zero a v none) (partOf (l .table) o)) w ∙ go (place (l .table) q t zero a v none)
+        ap (λ (o : Option Terms). orAbsent (place (l .table) q t zero a v none) (assignedPart (l .table) o)) w ∙ go (place (l .table) q t zero a v none)
       where
-        go : (p : Option ℕ) → orAbsent p (partOf (l .table) none) ≡ absent
+        go : (p : Option ℕ) → orAbsent p (assignedPart (l .table) none) ≡ absent
         go none = refl
         go (some k) = refl
 
     -- every answer that satisfies is shown at the first places
-    pub shown-at-first-places : (how : ℕ → Tries) (e : Env) → Answers (search (l .table) (l .classes) how q t zero start [] finish .out) e
+    pub shown-at-first-places : (how : ℕ → Tries) (e : Env) → AnswerIn (search (l .table) (l .classes) how q t zero start [] finish .out) e
         → Satisfies l q t (e .value) → parts (l .table) e ≡ partsAt (l .table) q t (e .value)
     unfolding Extends
     shown-at-first-places how e h s =
-        each-same (λ v. partOf (l .table) (e .value v) (e .offset v)) (partAt (l .table) q t (e .value)) each 0 variables
+        each-same (λ v. assignedPart (l .table) (e .value v) (e .offset v)) (variablePart (l .table) q t (e .value)) each 0 variables
       where
-        each : (v : ℕ) → partOf (l .table) (e .value v) (e .offset v) ≡ partAt (l .table) q t (e .value) v
+        each : (v : ℕ) → assignedPart (l .table) (e .value v) (e .offset v) ≡ variablePart (l .table) q t (e .value) v
         each v =
             shows (e .offset v) (place (l .table) q t zero (e .value) v none) (among v (free q)) (e .value v) (s .exact v)
             (has-place q t zero (e .value) v [] none (s .holds) (λ m. absurd (false≢true m)))
             (search-placed how q t e h v)
 
-    pub shown-at-first-place : TermOf l t → (e : Env) → Answers (whole l q t .out) e → parts (l .table) e ≡ partsAt (l .table) q t (e .value)
+    pub shown-at-first-place : TermOf l t → (e : Env) → AnswerIn (whole l q t .out) e → parts (l .table) e ≡ partsAt (l .table) q t (e .value)
     shown-at-first-place g e h = shown-at-first-places freely e h (answer-satisfies l q t g e h)
 
   -- assignments that count as one show the same parts, where the table bytes within a class are alike
 
   module _ (k : Alike (l .table) (l .classes)) where
-    part-one : (o p : Option Terms) (at : ℕ) → OneAt l o p → partOf (l .table) o at ≡ partOf (l .table) p at
+    part-one : (o p : Option Terms) (at : ℕ) → OneAt l o p → assignedPart (l .table) o at ≡ assignedPart (l .table) p at
     part-one none none at h = refl
     part-one none (some x) at h = absurd h
     part-one (some w) none at h = absurd h
@@ -348,13 +348,13 @@ module _ (l : Language) where
             (same-sizes (l .table) (l .classes) k (assigned (a u)) (assigned (b u)) h))
 
     pub parts-one : (q : Pattern) (t : Term) (a b : Assignment) → CountAsOne l a b → partsAt (l .table) q t a ≡ partsAt (l .table) q t b
-    parts-one q t a b e = each-same (partAt (l .table) q t a) (partAt (l .table) q t b) each 0 variables
+    parts-one q t a b e = each-same (variablePart (l .table) q t a) (variablePart (l .table) q t b) each 0 variables
       where
-        go : (p : Option ℕ) (o r : Option Terms) → OneAt l o r → orAbsent p (partOf (l .table) o) ≡ orAbsent p (partOf (l .table) r)
+        go : (p : Option ℕ) (o r : Option Terms) → OneAt l o r → orAbsent p (assignedPart (l .table) o) ≡ orAbsent p (assignedPart (l .table) r)
         go none o r h = refl
         go (some at) o r h = part-one o r at h
 
-        each : (v : ℕ) → partAt (l .table) q t a v ≡ partAt (l .table) q t b v
+        each : (v : ℕ) → variablePart (l .table) q t a v ≡ variablePart (l .table) q t b v
         each v =
-            ap (λ (p : Option ℕ). orAbsent p (partOf (l .table) (a v))) (place-one a b e v q t zero none none refl)
+            ap (λ (p : Option ℕ). orAbsent p (assignedPart (l .table) (a v))) (place-one a b e v q t zero none none refl)
             ∙ go (place (l .table) q t zero b v none) (a v) (b v) (e v)

@@ -13,7 +13,7 @@ use Rattle.anti_pattern.specs.AntiTerm.{Anti, var, neg, app, Antis, ε, 
 use Rattle.anti_pattern.specs.Ground.{Outermost, OutermostIn, within, withinAll, put, putAll, Way, bare, take, Semantics}
 use Rattle.anti_pattern.specs.Language.{Language, TermOf, _⊢_≈_}
 use Rattle.anti_pattern.specs.Published.{_⊢_∈⟦_⟧}
-use Rattle.anti_pattern.specs.Scope.{Position, Owner, belongs, enter, Scoped, rename, renameAll, apart, Apart, ApartAll}
+use Rattle.anti_pattern.specs.Scope.{Position, Owner, belongs, ownersWithin, Scoped, rename, renameAll, apart, Apart, ApartAll}
 use Rattle.term.proofs.SameParts.{same-term}
 use Rattle.anti_pattern.proofs.Alike.{term-sym, term-trans, term-eq}
 use Rattle.anti_pattern.proofs.Taken.{Fits, FitAll, Some, outermost?, taken}
@@ -45,8 +45,8 @@ under-one (m ∷ p) i j (l ∷ ω) h k = under-one p i j ω (h .1) (k .1)
 
 -- the names of a level
 
-enter-kept : (o : Owner) (p : Position) (q : Anti ℕ) (x : ℕ) (ω : Position) → o x ≡ some ω → enter o p q x ≡ some ω
-enter-kept o p q x ω e = rw e
+owners-kept : (o : Owner) (p : Position) (q : Anti ℕ) (x : ℕ) (ω : Position) → o x ≡ some ω → ownersWithin o p q x ≡ some ω
+owners-kept o p q x ω e = rw e
 
 -- what is free belongs to a level: an outer one, or this
 belongs-free : {P : Type 0} (m : Option Position) (d : Dec P) (p : Position) → P → (ω : Position) × (belongs m (ite d (some p) none) ≡ some ω)
@@ -54,12 +54,12 @@ belongs-free (some ω) d p f = (ω, refl)
 belongs-free none (yes y) p f = (p, refl)
 belongs-free none (no n) p f = absurd (n f)
 
-enter-free : (o : Owner) (p : Position) (q : Anti ℕ) (x : ℕ) → Free x q → (ω : Position) × (enter o p q x ≡ some ω)
-enter-free o p q x f = belongs-free (o x) (free? x q) _ f
+owners-free : (o : Owner) (p : Position) (q : Anti ℕ) (x : ℕ) → Free x q → (ω : Position) × (ownersWithin o p q x ≡ some ω)
+owners-free o p q x f = belongs-free (o x) (free? x q) _ f
 
-enter-inv : (o : Owner) (p : Position) (q : Anti ℕ) (x : ℕ) (ω : Position) → enter o p q x ≡ some ω
+owners-inv : (o : Owner) (p : Position) (q : Anti ℕ) (x : ℕ) (ω : Position) → ownersWithin o p q x ≡ some ω
     → (o x ≡ some ω) ⊎ ((o x ≡ none) × Free x q × (p ≡ ω))
-enter-inv o p q x ω = go (o x) (free? x q)
+owners-inv o p q x ω = go (o x) (free? x q)
   where
     go : (m : Option Position) (d : Dec (Free x q)) → belongs m (ite d (some p) none) ≡ some ω → (m ≡ some ω) ⊎ ((m ≡ none) × Free x q × (p ≡ ω))
     go (some θ) d e = inl e
@@ -83,11 +83,11 @@ Inner p y = (ω : Position) × (y .1 ≡ some ω) × Under p ω
 mutual
   occurs-rename : (q : Anti ℕ) (o : Owner) (p : Position) → Covers o q → (y : Scoped) → Occurs y (rename o p q) → Owned o y ⊎ Inner p y
   occurs-rename (var x) o p c y e = let r = c x refl in inl (r .0, ap (λ (z : Scoped). o (z .0)) e ∙ r .1, ap (λ (z : Scoped). z .1) e ∙ r .1)
-  occurs-rename (neg q) o p c y e = go (occurs-rename q (enter o (p ++ (0 ∷ [])) q) (p ++ (0 ∷ [])) (enter-free o (p ++ (0 ∷ [])) q) y e)
+  occurs-rename (neg q) o p c y e = go (occurs-rename q (ownersWithin o (p ++ (0 ∷ [])) q) (p ++ (0 ∷ [])) (owners-free o (p ++ (0 ∷ [])) q) y e)
     where
-      go : Owned (enter o (p ++ (0 ∷ [])) q) y ⊎ Inner (p ++ (0 ∷ [])) y → Owned o y ⊎ Inner p y
+      go : Owned (ownersWithin o (p ++ (0 ∷ [])) q) y ⊎ Inner (p ++ (0 ∷ [])) y → Owned o y ⊎ Inner p y
       go (inl r) =
-          elim (enter-inv o (p ++ (0 ∷ [])) q (y .0) (r .0) (r .1)) [
+          elim (owners-inv o (p ++ (0 ∷ [])) q (y .0) (r .0) (r .1)) [
             | inl e ↦ inl (r .0, e, r .2)
             | inr e ↦ inr (r .0, r .2, under-up p 0 (r .0) (subst (Under (p ++ (0 ∷ []))) (e .2) (under-self (p ++ (0 ∷ [])))))
           ]
@@ -132,21 +132,21 @@ mutual
 abbrev Knows : (Scoped → Type 0) → Owner → Type 0
 Knows F o = (x : ℕ) (ω : Position) → o x ≡ some ω → F (x, some ω)
 
-knows-enter : (F : Scoped → Type 0) (o : Owner) (p : Position) (q : Anti ℕ) → Knows F o
-    → Knows (λ y. F y ⊎ Free y (rename (enter o p q) p q)) (enter o p q)
-knows-enter F o p q k x ω e =
-    elim (enter-inv o p q x ω e) [
+knows-within : (F : Scoped → Type 0) (o : Owner) (p : Position) (q : Anti ℕ) → Knows F o
+    → Knows (λ y. F y ⊎ Free y (rename (ownersWithin o p q) p q)) (ownersWithin o p q)
+knows-within F o p q k x ω e =
+    elim (owners-inv o p q x ω e) [
       | inl i ↦ inl (k x ω i)
-      | inr i ↦ inr (subst (λ (m : Option Position). Free (x, m) (rename (enter o p q) p q)) e (free-rename q (enter o p q) p x (i .1)))
+      | inr i ↦ inr (subst (λ (m : Option Position). Free (x, m) (rename (ownersWithin o p q) p q)) e (free-rename q (ownersWithin o p q) p x (i .1)))
     ]
 
 mutual
   apart-rename : (q : Anti ℕ) (o : Owner) (p : Position) (F : Scoped → Type 0) → Covers o q → Knows F o → Apart F (rename o p q)
   apart-rename (var x) o p F c k = tt
   apart-rename (neg q) o p F c k =
-      apart-rename q (enter o (p ++ (0 ∷ [])) q) (p ++ (0 ∷ []))
-      (λ y. F y ⊎ Free y (rename (enter o (p ++ (0 ∷ [])) q) (p ++ (0 ∷ [])) q))
-      (enter-free o (p ++ (0 ∷ [])) q) (knows-enter F o (p ++ (0 ∷ [])) q k)
+      apart-rename q (ownersWithin o (p ++ (0 ∷ [])) q) (p ++ (0 ∷ []))
+      (λ y. F y ⊎ Free y (rename (ownersWithin o (p ++ (0 ∷ [])) q) (p ++ (0 ∷ [])) q))
+      (owners-free o (p ++ (0 ∷ [])) q) (knows-within F o (p ++ (0 ∷ [])) q k)
   apart-rename (app f qs) o p F c k = apart-rename-all qs o p 0 F c k
 
   apart-rename-all : (qs : Antis ℕ) (o : Owner) (p : Position) (i : ℕ) (F : Scoped → Type 0) → CoversAll o qs → Knows F o
@@ -175,7 +175,7 @@ mutual
 mutual
   rename-occurs : (q : Anti ℕ) (o : Owner) (p : Position) (y : Scoped) → Occurs y (rename o p q) → Occurs (y .0) q
   rename-occurs (var x) o p y h = ap (λ (z : Scoped). z .0) h
-  rename-occurs (neg q) o p y h = rename-occurs q (enter o (p ++ (0 ∷ [])) q) (p ++ (0 ∷ [])) y h
+  rename-occurs (neg q) o p y h = rename-occurs q (ownersWithin o (p ++ (0 ∷ [])) q) (p ++ (0 ∷ [])) y h
   rename-occurs (app f qs) o p y h = rename-occurs-all qs o p 0 y h
 
   rename-occurs-all : (qs : Antis ℕ) (o : Owner) (p : Position) (i : ℕ) (y : Scoped) → OccursIn y (renameAll o p i qs) → OccursIn (y .0) qs
@@ -187,7 +187,7 @@ module _ (x : ℕ) (ω : Position) where
   mutual
     occurs-kept : (q : Anti ℕ) (o : Owner) (p : Position) → o x ≡ some ω → Occurs x q → Occurs (x, some ω) (rename o p q)
     occurs-kept (var y) o p k h = let i : some ω ≡ o y = sym k ∙ ap o h in cc
-    occurs-kept (neg q) o p k h = occurs-kept q (enter o (p ++ (0 ∷ [])) q) (p ++ (0 ∷ [])) (enter-kept o (p ++ (0 ∷ [])) q x ω k) h
+    occurs-kept (neg q) o p k h = occurs-kept q (ownersWithin o (p ++ (0 ∷ [])) q) (p ++ (0 ∷ [])) (owners-kept o (p ++ (0 ∷ [])) q x ω k) h
     occurs-kept (app f qs) o p k h = occurs-kept-all qs o p 0 k h
 
     occurs-kept-all : (qs : Antis ℕ) (o : Owner) (p : Position) (i : ℕ) → o x ≡ some ω → OccursIn x qs → OccursIn (x, some ω) (renameAll o p i qs)
@@ -202,18 +202,18 @@ record Matched (F : ℕ → Type 0) (G : Scoped → Type 0) (o : Owner) : Type 0
   knows : Knows G o
   owned : (y : Scoped) → G y → Owned o y
 
-owned-free : (o : Owner) (p : Position) (q : Anti ℕ) (y : Scoped) → Free y (rename (enter o p q) p q) → Owned (enter o p q) y
+owned-free : (o : Owner) (p : Position) (q : Anti ℕ) (y : Scoped) → Free y (rename (ownersWithin o p q) p q) → Owned (ownersWithin o p q) y
 owned-free o p q y f =
-    let r = rename-free q (enter o p q) p y f in let s = enter-free o p q (y .0) (r .0) in (s .0, s .1, r .1 ∙ s .1)
+    let r = rename-free q (ownersWithin o p q) p y f in let s = owners-free o p q (y .0) (r .0) in (s .0, s .1, r .1 ∙ s .1)
 
-matched-enter : (F : ℕ → Type 0) (G : Scoped → Type 0) (o : Owner) (p : Position) (q : Anti ℕ) → Matched F G o
-    → Matched (λ x. F x ⊎ Free x q) (λ y. G y ⊎ Free y (rename (enter o p q) p q)) (enter o p q)
-matched-enter F G o p q m = record {
-  has = λ x. elim [ inl f ↦ (m .has x f .0, enter-kept o p q x (m .has x f .0) (m .has x f .1)) | inr f ↦ enter-free o p q x f ];
-  only = λ x ω e. elim (enter-inv o p q x ω e) [ inl i ↦ inl (m .only x ω i) | inr i ↦ inr (i .1) ];
-  knows = knows-enter G o p q (m .knows);
+matched-within : (F : ℕ → Type 0) (G : Scoped → Type 0) (o : Owner) (p : Position) (q : Anti ℕ) → Matched F G o
+    → Matched (λ x. F x ⊎ Free x q) (λ y. G y ⊎ Free y (rename (ownersWithin o p q) p q)) (ownersWithin o p q)
+matched-within F G o p q m = record {
+  has = λ x. elim [ inl f ↦ (m .has x f .0, owners-kept o p q x (m .has x f .0) (m .has x f .1)) | inr f ↦ owners-free o p q x f ];
+  only = λ x ω e. elim (owners-inv o p q x ω e) [ inl i ↦ inl (m .only x ω i) | inr i ↦ inr (i .1) ];
+  knows = knows-within G o p q (m .knows);
   owned = λ y. elim
-      [ inl f ↦ (m .owned y f .0, enter-kept o p q (y .0) (m .owned y f .0) (m .owned y f .1), m .owned y f .2) | inr f ↦ owned-free o p q y f ];
+      [ inl f ↦ (m .owned y f .0, owners-kept o p q (y .0) (m .owned y f .0) (m .owned y f .1), m .owned y f .2) | inr f ↦ owned-free o p q y f ];
 }
 
 module _ (l : Language) where
@@ -225,15 +225,15 @@ module _ (l : Language) where
         (term-trans l (c (x, o x)) (a x) t (term-sym l (a x) (c (x, o x)) e), term-trans l (a x) (c (x, o x)) t e)
     renamed (neg q) o p F G a c t s m link =
         let p′ : Position = p ++ (0 ∷ []) in
-        let o′ : Owner = enter o p′ q in
+        let o′ : Owner = ownersWithin o p′ q in
         let F′ : ℕ → Type 0 = λ x. F x ⊎ Free x q in
         let G′ : Scoped → Type 0 = λ y. G y ⊎ Free y (rename o′ p′ q) in
-        let m′ : Matched F′ G′ o′ = matched-enter F G o p′ q m in (
+        let m′ : Matched F′ G′ o′ = matched-within F G o p′ q m in (
           λ n d v g h. n (λ x. d (x, o′ x)) (λ x. v (x, o′ x))
               (λ x u f. let k = m .has x f in
-              let w = g (x, some (k .0)) (occurs-kept x (k .0) q o′ p′ (enter-kept o p′ q x (k .0) (k .1)) u) (m .knows x (k .0) (k .1)) in
+              let w = g (x, some (k .0)) (occurs-kept x (k .0) q o′ p′ (owners-kept o p′ q x (k .0) (k .1)) u) (m .knows x (k .0) (k .1)) in
               term-trans l (d (x, o′ x)) (c (x, o x)) (a x)
-              (subst (λ (z : Option Position). l ⊢ d (x, z) ≈ c (x, o x)) (sym (enter-kept o p′ q x (k .0) (k .1)))
+              (subst (λ (z : Option Position). l ⊢ d (x, z) ≈ c (x, o x)) (sym (owners-kept o p′ q x (k .0) (k .1)))
               (subst (λ (z : Option Position). l ⊢ d (x, some (k .0)) ≈ c (x, z)) (sym (k .1)) w))
               (term-sym l (a x) (c (x, o x)) (link x u f)))
               (renamed q o′ p′ F′ G′ (λ x. d (x, o′ x)) d t (λ x. inr) m′ (λ x u f. same-term (l .classes) (d (x, o′ x))) .1 h),
@@ -260,15 +260,15 @@ module _ (l : Language) where
 
 module _ (q : Anti ℕ) where
   abbrev own : Owner
-  own = enter (λ x. none) [] q
+  own = ownersWithin (λ x. none) [] q
 
   own-free : (x : ℕ) (ω : Position) → own x ≡ some ω → Free x q
   own-free x ω e =
-      elim (enter-inv (λ x. none) [] q x ω e) [ inl i ↦ absurd (let z : _≡_ {A = ℕ} 0 1 = cc in omega arith) | inr i ↦ i .1 ]
+      elim (owners-inv (λ x. none) [] q x ω e) [ inl i ↦ absurd (let z : _≡_ {A = ℕ} 0 1 = cc in omega arith) | inr i ↦ i .1 ]
 
   matched-apart : Matched (λ x. Free x q) (λ y. Free y (apart q)) own
   matched-apart = record {
-    has = enter-free (λ x. none) [] q;
+    has = owners-free (λ x. none) [] q;
     only = own-free;
     knows = λ x ω e. subst (λ (z : Option Position). Free (x, z) (apart q)) e (free-rename q own [] x (own-free x ω e));
     owned = owned-free (λ x. none) [] q;

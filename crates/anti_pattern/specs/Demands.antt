@@ -10,7 +10,7 @@ use Rattle.term.specs.Part.{part, absent}
 use Rattle.term.specs.Pattern.{Pattern}
 use Rattle.term.specs.Term.{Term, Terms}
 use Rattle.term.specs.declared.Part.{Part}
-use Rattle.anti_pattern.specs.Answer.{Answer, bound, nothing, spent, parts, countOf, answer}
+use Rattle.anti_pattern.specs.Answer.{Matching, bound, nothing, spent, parts, countOf, answer}
 use Rattle.anti_pattern.specs.AntiTerm.{Anti, Free, Substitution}
 use Rattle.anti_pattern.specs.Cost.{nodes}
 use Rattle.anti_pattern.specs.Ground.{Way, Semantics}
@@ -18,7 +18,7 @@ use Rattle.anti_pattern.specs.Language.{Language, language, _⊢_≈_}
 use Rattle.anti_pattern.specs.Meaning.{Assignment, SatisfiesOver, Satisfies, CountAsOne}
 use Rattle.anti_pattern.specs.Next.{Following, follows, unknown, checkCount, nextCount, next}
 use Rattle.anti_pattern.specs.Order.{All, Member, Ascending, runLengths, Smaller}
-use Rattle.anti_pattern.specs.Place.{place, partAt, partsAt}
+use Rattle.anti_pattern.specs.Place.{place, variablePart, partsAt}
 use Rattle.anti_pattern.specs.Published.{_⊢_∈⟦_⟧, Solution, NoRuns, anti, assignment}
 use Rattle.anti_pattern.specs.Scope.{apart, Apart}
 use Rattle.anti_pattern.specs.Search.{Env, firstAnswer, answers, whole}
@@ -33,7 +33,7 @@ abbrev pub lengthsShown : Pattern → List Part → List ℕ
 lengthsShown q ps = map (λ v. getD ps v (part 0 0 0) .elements) (freeRuns q)
 
 -- an answer that is not spent; and a next answer that is neither spent nor bound
-abbrev pub BoundOrNone : Answer → Type 0
+abbrev pub BoundOrNone : Matching → Type 0
 BoundOrNone (bound ps n) = Unit {0}
 BoundOrNone (nothing n) = Unit {0}
 BoundOrNone (spent n) = ⊥
@@ -77,7 +77,7 @@ module _ (l : Language) where
       pub shown-at-first-place : (e : Env) → Member e (answers (whole l q t .out)) → parts (l .table) e ≡ partsAt (l .table) q t (e .value)
       pub free-placed : (a : Assignment) → Satisfies l q t a → (v : ℕ) → among v (free q) ≡ true
           → (at : ℕ) × (w : Terms) × (place (l .table) q t zero a v none ≡ some at) × (a v ≡ some w)
-      pub others-absent : (a : Assignment) → Satisfies l q t a → (v : ℕ) → among v (free q) ≡ false → partAt (l .table) q t a v ≡ absent
+      pub others-absent : (a : Assignment) → Satisfies l q t a → (v : ℕ) → among v (free q) ≡ false → variablePart (l .table) q t a v ≡ absent
 
     -- 3. Spent exactly when the count is over the allowance; otherwise bound or none, by the meaning alone, with the count.
     pub record AnswerExact (allowance : ℕ) : Type 0 where

@@ -38,16 +38,16 @@ abbrev mutual
       cond (eqb u v) (some at) (placeAll table qs (past (assigned (a u)) ts) (at + sizes table (assigned (a u))) a v other)
 
 -- what is assigned, as a part that stands at the offset; "A name that is not free shows the absent mark"
-abbrev pub partOf : List ℕ → Option Terms → ℕ → Part
-partOf table none at = absent
-partOf table (some w) at = part at (sizes table w) (count w)
+abbrev pub assignedPart : List ℕ → Option Terms → ℕ → Part
+assignedPart table none at = absent
+assignedPart table (some w) at = part at (sizes table w) (count w)
 
 abbrev pub orAbsent : Option ℕ → (ℕ → Part) → Part
 orAbsent none f = absent
 orAbsent (some at) f = f at
 
-abbrev pub partAt : List ℕ → Pattern → Term → Assignment → ℕ → Part
-partAt table q t a v = orAbsent (place table q t zero a v none) (partOf table (a v))
+abbrev pub variablePart : List ℕ → Pattern → Term → Assignment → ℕ → Part
+variablePart table q t a v = orAbsent (place table q t zero a v none) (assignedPart table (a v))
 
 -- for n variables from v on
 abbrev pub eachFrom : (ℕ → Part) → ℕ → ℕ → List Part
@@ -59,4 +59,4 @@ abbrev pub eachVariable : (ℕ → Part) → List Part
 eachVariable f = eachFrom f 0 variables
 
 abbrev pub partsAt : List ℕ → Pattern → Term → Assignment → List Part
-partsAt table q t a = eachVariable (partAt table q t a)
+partsAt table q t a = eachVariable (variablePart table q t a)

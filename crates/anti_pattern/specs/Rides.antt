@@ -9,7 +9,7 @@ use Rattle.term.specs.Part.{part, absent}
 use Rattle.term.specs.Pattern.{Pattern, name, symbol, complement, Children, end, plain, run}
 use Rattle.term.specs.Term.{Term, node, Terms, nil, _::_, single}
 use Rattle.term.specs.declared.Part.{Part}
-use Rattle.anti_pattern.specs.Answer.{Answer, bound, nothing, spent, answer}
+use Rattle.anti_pattern.specs.Answer.{Matching, bound, nothing, spent, answer}
 use Rattle.anti_pattern.specs.Language.{Language, language}
 use Rattle.anti_pattern.specs.Next.{Following, follows, unknown, next}
 use Rattle.anti_pattern.specs.Place.{eachVariable}
@@ -74,7 +74,7 @@ abbrev lookup : List (ℕ × Part) → ℕ → Part
 lookup [] v = absent
 lookup (x ∷ xs) v = cond (eqb (x .0) v) (x .1) (lookup xs v)
 
-abbrev showing : List (ℕ × Part) → ℕ → Answer
+abbrev showing : List (ℕ × Part) → ℕ → Matching
 showing xs n = bound (eachVariable (lookup xs)) n
 
 pub record Ride : Type 0 where
@@ -82,20 +82,20 @@ pub record Ride : Type 0 where
   pub pattern : Pattern
   pub term : Term
   pub allowance : ℕ
-  pub expected : Answer
+  pub expected : Matching
 
 -- the report's allowance
 abbrev ample : ℕ
 ample = 100000
 
-abbrev under : ℕ → Language → Pattern → Term → Answer → Ride
+abbrev under : ℕ → Language → Pattern → Term → Matching → Ride
 under n l q t a = record { language = l; pattern = q; term = t; allowance = n; expected = a }
 
-abbrev ride : Pattern → Term → Answer → Ride
+abbrev ride : Pattern → Term → Matching → Ride
 ride = under ample (language table [])
 
 -- by the class list
-abbrev classed : Pattern → Term → Answer → Ride
+abbrev classed : Pattern → Term → Matching → Ride
 classed = under ample (language wider classes)
 
 -- ?0 is the variable 0, @0 the variable 32
@@ -138,7 +138,7 @@ abbrev pub RidesHold : Type 0
 RidesHold = map (λ r. answer (r .language) (r .pattern) (r .term) (r .allowance)) rides ≡ map (λ r. r .expected) rides
 
 -- a call for the next answer after one that is told by its run lengths
-pub record Step : Type 0 where
+pub record NextRide : Type 0 where
   pub language : Language
   pub pattern : Pattern
   pub term : Term
@@ -146,15 +146,15 @@ pub record Step : Type 0 where
   pub allowance : ℕ
   pub expected : Following
 
-abbrev step : ℕ → Language → Pattern → Term → List ℕ → Following → Step
-step n l q t given f = record { language = l; pattern = q; term = t; given = given; allowance = n; expected = f }
+abbrev nextRide : ℕ → Language → Pattern → Term → List ℕ → Following → NextRide
+nextRide n l q t given f = record { language = l; pattern = q; term = t; given = given; allowance = n; expected = f }
 
 -- gates(@0, @1) on gates(open, shut), under an allowance
-abbrev pair : ℕ → List ℕ → Following → Step
-pair n = step n (language table []) (gatesᵖ (run 32 (run 33 end))) (gates (opened :: shut :: nil))
+abbrev pair : ℕ → List ℕ → Following → NextRide
+pair n = nextRide n (language table []) (gatesᵖ (run 32 (run 33 end))) (gates (opened :: shut :: nil))
 
-abbrev pub steps : List Step
-steps =
+abbrev pub nextRides : List NextRide
+nextRides =
     -- its three answers, and none after the last
     pair ample (0 ∷ 2 ∷ []) (follows (showing ((32, part 2 1 1) ∷ (33, part 3 1 1) ∷ []) 6))
     ∷ pair ample (1 ∷ 1 ∷ []) (follows (showing ((32, part 2 2 2) ∷ (33, part 4 0 0) ∷ []) 5))
@@ -170,12 +170,12 @@ steps =
     ∷ pair 5 (0 ∷ 2 ∷ []) (follows (spent 5))
     ∷ pair 6 (0 ∷ 2 ∷ []) (follows (showing ((32, part 2 1 1) ∷ (33, part 3 1 1) ∷ []) 6))
     -- G: its answer is the last
-    ∷ step ample (language table []) (gatesᵖ (run 32 (plain (! openedᵖ) (run 33 end)))) (gates (opened :: shut :: nil)) (1 ∷ 0 ∷ []) (follows (nothing 6))
+    ∷ nextRide ample (language table []) (gatesᵖ (run 32 (plain (! openedᵖ) (run 33 end)))) (gates (opened :: shut :: nil)) (1 ∷ 0 ∷ []) (follows (nothing 6))
     -- no free run names: the one answer is followed by none
-    ∷ step ample (language table []) (gateᵖ (name 0)) (gate opened) [] (follows (nothing 2))
+    ∷ nextRide ample (language table []) (gateᵖ (name 0)) (gate opened) [] (follows (nothing 2))
     -- up to class: gates(@0, @0) on gates(held, stopped)
-    ∷ step ample (language wider classes) (gatesᵖ (run 32 (run 32 end))) (gates (held :: stopped :: nil)) (1 ∷ []) (follows (nothing 5))
+    ∷ nextRide ample (language wider classes) (gatesᵖ (run 32 (run 32 end))) (gates (held :: stopped :: nil)) (1 ∷ []) (follows (nothing 5))
     ∷ []
 
-abbrev pub StepsHold : Type 0
-StepsHold = map (λ s. next (s .language) (s .pattern) (s .term) (s .given) (s .allowance)) steps ≡ map (λ s. s .expected) steps
+abbrev pub NextRidesHold : Type 0
+NextRidesHold = map (λ s. next (s .language) (s .pattern) (s .term) (s .given) (s .allowance)) nextRides ≡ map (λ s. s .expected) nextRides

@@ -20,8 +20,8 @@ abbrev pub belongs : Option Position → Option Position → Option Position
 belongs (some outer) here = some outer
 belongs none here = here
 
-abbrev pub enter : Owner → Position → Anti ℕ → Owner
-enter o p q x = belongs (o x) (ite (free? x q) (some p) none)
+abbrev pub ownersWithin : Owner → Position → Anti ℕ → Owner
+ownersWithin o p q x = belongs (o x) (ite (free? x q) (some p) none)
 
 -- a name, and the level that it belongs to
 abbrev pub Scoped : Type 0
@@ -30,7 +30,7 @@ Scoped = ℕ × Option Position
 abbrev mutual
   pub rename : Owner → Position → Anti ℕ → Anti Scoped
   rename o p (var x) = var (x, o x)
-  rename o p (neg q) = neg (rename (enter o (p ++ (0 ∷ [])) q) (p ++ (0 ∷ [])) q)
+  rename o p (neg q) = neg (rename (ownersWithin o (p ++ (0 ∷ [])) q) (p ++ (0 ∷ [])) q)
   rename o p (app f qs) = app f (renameAll o p 0 qs)
 
   -- the children from the i-th on
@@ -40,7 +40,7 @@ abbrev mutual
 
 -- the names renamed apart
 abbrev pub apart : Anti ℕ → Anti Scoped
-apart q = rename (enter (λ x. none) [] q) [] q
+apart q = rename (ownersWithin (λ x. none) [] q) [] q
 
 -- the names of q are apart, where the variables F are free in q or further out: what stands in two children is one of F
 abbrev mutual

@@ -29,22 +29,22 @@ abbrev pub start : Env
 start = record { value = unassigned; offset = λ v. zero }
 
 -- an answer and, for the search resumed after it, what is counted then and what that comes to; or no answer
-pub data Outcome : Type 0 where
-  found : Env → ℕ → Outcome → Outcome
-  failed : Outcome
+pub data Answers : Type 0 where
+  found : Env → ℕ → Answers → Answers
+  failed : Answers
 
-abbrev pub firstAnswer : Outcome → Option Env
+abbrev pub firstAnswer : Answers → Option Env
 firstAnswer (found e n o) = some e
 firstAnswer failed = none
 
 -- the answers, each by the search resumed after the one before it
-abbrev pub answers : Outcome → List Env
+abbrev pub answers : Answers → List Env
 answers (found e n o) = e ∷ answers o
 answers failed = []
 
 -- an outcome, and what was counted on the way to it: "to its first answer or its end"
 pub record Result : Type 0 where
-  pub out : Outcome
+  pub out : Answers
   pub cost : ℕ
 
 abbrev pub plus : ℕ → Result → Result
@@ -71,7 +71,7 @@ ifSome none f = fail
 ifSome (some x) f = f x
 
 -- the answers of the first result, and where these end those of the second
-abbrev pub after : Outcome → ℕ → (Unit {0} → Result) → Result
+abbrev pub after : Answers → ℕ → (Unit {0} → Result) → Result
 after (found e m o) n f = answering e n (after o m f)
 after failed n f = plus n (f tt)
 
@@ -82,11 +82,11 @@ orElse r f = after (r .out) (r .cost) f
 abbrev pub Deferred : Type 0
 Deferred = Env → Result
 
-abbrev pub Next : Type 0
-Next = Env → List Deferred → Result
+abbrev pub Continuation : Type 0
+Continuation = Env → List Deferred → Result
 
 -- "one that succeeds is a failure of the level around it, and the later ones are not begun"
-abbrev pub refuted : Outcome → ℕ → (Unit {0} → Result) → Result
+abbrev pub refuted : Answers → ℕ → (Unit {0} → Result) → Result
 refuted (found e m o) n f = record { out = failed; cost = n }
 refuted failed n f = plus n (f tt)
 
@@ -142,7 +142,7 @@ module _ (classes : List ℕ) where
 module _ (table classes : List ℕ) where
   unfoldable mutual
     -- a pattern node set against the term that stands at the offset; "A complement is put by.", and in it every length is tried
-    pub search : (ℕ → Tries) → Pattern → Term → ℕ → Env → List Deferred → Next → Result
+    pub search : (ℕ → Tries) → Pattern → Term → ℕ → Env → List Deferred → Continuation → Result
     search how (name v) t at e put k = counted (ifSome (assign classes e v at (single t)) (λ f. k f put))
     search how (symbol s qs) (node r ts) at e put k =
         counted (ifTrue (eqb (classOf classes s) (classOf classes r)) (λ u. searches how qs ts (at + width table r) e put k))
@@ -150,7 +150,7 @@ module _ (table classes : List ℕ) where
 
     -- the child patterns left, and the elements left, of which the first stands at the offset: "A plain child pattern with no element
     -- left fails uncounted; so do elements left over once the pairs of the last child pattern are done"
-    pub searches : (ℕ → Tries) → Children → Terms → ℕ → Env → List Deferred → Next → Result
+    pub searches : (ℕ → Tries) → Children → Terms → ℕ → Env → List Deferred → Continuation → Result
     searches how end nil at e put k = k e put
     searches how end (t :: ts) at e put k = fail
     searches how (plain q qs) nil at e put k = fail

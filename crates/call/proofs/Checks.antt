@@ -8,11 +8,11 @@ use mathlib.Core.Option.{Option}
 use mathlib.Core.Bool.{Bool, true, false}
 use lib.Dec.{leb}
 use borrow.Author.Tests.{leb-true, le-leb, lt-leb}
-use Rattle.reader.specs.Reading.{Answer as Reading, refused, read}
+use Rattle.reader.specs.Reading.{Parsed, refused, read}
 use Rattle.term.specs.Table.{tableAccepted}
 use Rattle.term.specs.declared.Refusal.{Refusal}
 use Rattle.term.specs.declared.Refusal.the-variants.{Table, Narrow, Class}
-use Rattle.search.specs.Shown.{answerWidth}
+use Rattle.parts.specs.Shown.{answerWidth}
 use Rattle.call.specs.Brought.{broughtAccepted}
 use Rattle.call.specs.Verdict.{Verdict, passed, fault, check, reading, both}
 use Rattle.call.specs.Call.{checks}
@@ -22,7 +22,10 @@ use Rattle.call.specs.Call.{checks}
 pub fault-passed : {X : Type 0} {r : Refusal} {i : ℕ} {x : X} → _≡_ {A = Verdict X} (fault r i) (passed x) → ⊥
 fault-passed e = let z : _≡_ {A = ℕ} 0 1 = cc in omega arith
 
-pub reading-passed : {X : Type 0} (y : Reading X) (x : X) → reading y ≡ passed x → (n : ℕ) × (y ≡ read x n)
+faults-same : {X Y : Type 0} {r s : Refusal} {i j : ℕ} → _≡_ {A = Verdict X} (fault r i) (fault s j) → _≡_ {A = Verdict Y} (fault r i) (fault s j)
+faults-same e = cc
+
+pub reading-passed : {X : Type 0} (y : Parsed X) (x : X) → reading y ≡ passed x → (n : ℕ) × (y ≡ read x n)
 reading-passed (read y n) x e = (n, cc)
 reading-passed (refused r) x e = absurd (fault-passed e)
 
@@ -55,7 +58,7 @@ module _ {X : Type 0} (table : List ℕ) (brought : Option (List ℕ)) (width : 
   unfolding checks
   then-own wide tabled h = rw (le-leb answerWidth width wide, tabled, h)
 
-  passed-checks : (x : X) → checks table brought width own ≡ passed x
+  pub passed-checks : (x : X) → checks table brought width own ≡ passed x
       → (answerWidth ≤ width) × (broughtAccepted table brought ≡ true) × (tableAccepted table ≡ true) × (own ≡ passed x)
   unfolding checks
   passed-checks x e = go (leb answerWidth width) refl (tableAccepted table) refl (broughtAccepted table brought) refl e
@@ -67,6 +70,18 @@ module _ {X : Type 0} (table : List ℕ) (brought : Option (List ℕ)) (width : 
       go true f true g false h e = absurd (fault-passed e)
       go true f false g c h e = absurd (fault-passed e)
       go false f b g c h e = absurd (fault-passed e)
+
+  -- a fault of the first of a call's own checks is a fault of all of them
+  pub fault-first : {Y : Type 0} (f : Verdict X → Verdict Y) → ((r : Refusal) (i : ℕ) → f (fault r i) ≡ fault r i) → (r : Refusal) (i : ℕ)
+      → checks table brought width own ≡ fault r i → checks table brought width (f own) ≡ fault r i
+  unfolding checks
+  fault-first f strict r i e = go (leb answerWidth width) (tableAccepted table) (broughtAccepted table brought) e
+    where
+      go : (a b c : Bool) → check a Narrow (check b Table (check c Class own)) ≡ fault r i → check a Narrow (check b Table (check c Class (f own))) ≡ fault r i
+      go true true true e = ap f e ∙ strict r i
+      go true true false e = faults-same e
+      go true false c e = faults-same e
+      go false b c e = faults-same e
 
   -- Accepted input is a table that is accepted and an own reading that passes
   module _ (Accepted : X → Type 0) (reads : (x : X) → Accepted x ↔ ((tableAccepted table ≡ true) × (own ≡ passed x))) (x : X) where

@@ -13,7 +13,7 @@ use Rattle.term.specs.Table.{tableAccepted}
 use Rattle.term.specs.declared.Part.{Part}
 use Rattle.term.specs.declared.Refusal.{Refusal}
 use Rattle.anti_pattern.proofs.Metering.{Split, enough, over, split}
-use Rattle.search.specs.Shown.{numbers, answerWidth}
+use Rattle.parts.specs.Shown.{numbers, answerWidth}
 use Rattle.call.specs.Brought.{broughtAccepted}
 use Rattle.call.specs.Verdict.{Verdict, passed, fault}
 use Rattle.call.specs.Call.{checks, answerBy, written, bufferBy}

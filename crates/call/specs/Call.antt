@@ -9,7 +9,7 @@ use Rattle.term.specs.Table.{tableAccepted}
 use Rattle.term.specs.declared.Part.{Part}
 use Rattle.term.specs.declared.Refusal.{Refusal}
 use Rattle.term.specs.declared.Refusal.the-variants.{Table, Narrow, Class}
-pub use Rattle.search.specs.Shown.{numbers, answerWidth}
+pub use Rattle.parts.specs.Shown.{numbers, answerWidth}
 use Rattle.call.specs.Brought.{broughtAccepted}
 use Rattle.call.specs.Verdict.{Verdict, passed, fault, check}
 

@@ -8,7 +8,7 @@ use mathlib.Core.Option.{Option}
 use lib.ListN.{length, drop}
 use Rattle.term.specs.Refusal.{numberOf}
 use Rattle.term.specs.declared.Refusal.{Refusal}
-use Rattle.search.specs.Shown.{answerWidth}
+use Rattle.parts.specs.Shown.{answerWidth}
 use Rattle.call.specs.Brought.{broughtAccepted}
 
 -- Any input gets an answer or a numbered refusal; the order of the checks is that of `checks` (Call). The call shows this number and count, and

@@ -1,7 +1,7 @@
 -- What checks come to, one after the other.
 use Prim.Native.Nat.{ℕ}
 use mathlib.Core.Bool.{Bool, true, false}
-use Rattle.reader.specs.Reading.{Answer as Reading, refused, read}
+use Rattle.reader.specs.Reading.{Parsed, refused, read}
 use Rattle.term.specs.declared.Refusal.{Refusal}
 
 -- passed, with what was read; or the refusal with the index of its entry: "where no entry is meant, as for 9, the index is 0"
@@ -15,7 +15,7 @@ check true r others = others
 check false r others = fault r 0
 
 -- a reading; no entry is meant
-abbrev pub reading : {X : Type 0} → Reading X → Verdict X
+abbrev pub reading : {X : Type 0} → Parsed X → Verdict X
 reading (read x n) = passed x
 reading (refused r) = fault r 0
 

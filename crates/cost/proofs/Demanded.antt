@@ -9,7 +9,7 @@ use lib.Dec.{leb}
 use borrow.Author.Tests.{leb-true}
 use Rattle.term.specs.Limits.{Octets, nesting, longestPattern, PatternAccepted}
 use Rattle.term.specs.Pattern.{Pattern}
-use Rattle.reader.specs.Reading.{Answer as Reading, refused, read, shown, readPattern}
+use Rattle.reader.specs.Reading.{Parsed, refused, read, shown, readPattern}
 use Rattle.term.specs.Refusal.{numberOf}
 use Rattle.term.specs.Table.{entriesAccepted, tableAccepted, largestTable}
 use Rattle.reader.specs.declared.Read.{Read}
@@ -103,7 +103,7 @@ module _ (table pattern : List ℕ) where
         no-refusal true n r e = word-or-refusal 10 refl r e
         no-refusal false n r e = word-or-refusal 0 refl r e
 
-        refused-by : (b : Bool) → tableAccepted table ≡ b → (x : Reading Pattern) → readPattern table pattern ≡ x
+        refused-by : (b : Bool) → tableAccepted table ≡ b → (x : Parsed Pattern) → readPattern table pattern ≡ x
             → ((q : Pattern) → Input table pattern q → ⊥) → (r : Refusal) × (costNumber (costOf table pattern) ≡ numberOf r)
         refused-by false t x e h = (Table, ap costNumber (sym (table-refused t)))
         refused-by true t (refused r) e h = (r, ap costNumber (sym (pattern-refused r t e)))

@@ -3,7 +3,7 @@ use Prim.Native.Nat.{ℕ}
 use mathlib.Core.List.{List}
 use mathlib.Core.Bool.{cond}
 use Rattle.term.specs.Pattern.{Pattern}
-use Rattle.reader.specs.Reading.{Answer as Reading, refused, read, readPattern}
+use Rattle.reader.specs.Reading.{Parsed, refused, read, readPattern}
 use Rattle.term.specs.Refusal.{numberOf}
 use Rattle.term.specs.Table.{tableAccepted}
 use Rattle.term.specs.declared.Refusal.the-variants.{Table}
@@ -23,7 +23,7 @@ costCount NoBound = 0
 costCount (Cost.Refused r) = 0
 
 -- the pattern's nodes, unless it has run names
-abbrev pub costBy : Reading Pattern → Cost
+abbrev pub costBy : Parsed Pattern → Cost
 costBy (refused r) = Cost.Refused r
 costBy (read q n) = cond (hasRuns q) NoBound (AtMost (nodes q))
 

@@ -19,7 +19,7 @@ use Rattle.term.specs.Part.{part, absent}
 use Rattle.term.specs.declared.Part.{Part}
 use Rattle.anti_pattern.specs.Language.{language}
 use Rattle.anti_pattern.specs.Search.{Env, start, whole, fail, freely}
-use Rattle.anti_pattern.specs.Place.{partOf}
+use Rattle.anti_pattern.specs.Place.{assignedPart}
 use Rattle.anti_pattern.specs.Answer.{bound, parts, answer}
 use Rattle.anti_pattern.proofs.Meter.{Metered, meter, answered}
 use Rattle.anti_pattern.proofs.Machine.{machine}
@@ -80,8 +80,8 @@ shown-parts table bytes ps e h =
     ext-getD (part 0 0 0) (parts table e) ps (sym (h .room))
     (λ i k.
     let z : 0 + i ≡ i = omega arith in
-    each-at (λ v. partOf table (e .value v) (e .offset v)) 0 variables i k
-    ∙ ap (λ (v : ℕ). partOf table (e .value v) (e .offset v)) z ∙ sym (h .shown i k))
+    each-at (λ v. assignedPart table (e .value v) (e .offset v)) 0 variables i k
+    ∙ ap (λ (v : ℕ). assignedPart table (e .value v) (e .offset v)) z ∙ sym (h .shown i k))
 
 pub answers : (table bytes : List ℕ) (allowance : ℕ) {m : Metered} {r : Reply} → Agrees table bytes m r → answered table allowance m ≡ replied allowance r
 answers table bytes allowance (is-found {e} {left} {parts} h) = ap (λ (ps : List Part). bound ps (allowance - left)) (shown-parts table bytes parts e h)

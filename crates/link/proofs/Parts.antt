@@ -19,9 +19,9 @@ use Rattle.term.specs.declared.Part.{Part}
 use Rattle.term.proofs.Sizes.{terms-length, take-terms}
 use Rattle.term.proofs.SameParts.{same-counts, same-sizes, same-part, part-same, and-true}
 use Rattle.anti_pattern.specs.Search.{Env, bind, start, behind}
-use Rattle.anti_pattern.specs.Place.{partOf}
+use Rattle.anti_pattern.specs.Place.{assignedPart}
 use Rattle.anti_pattern.proofs.Facts.{count-join, cut, none-some, some-same, behind-alike, alike-behind}
-use Rattle.search.specs.State.{standsOf}
+use Rattle.steps.specs.Turn.{standsOf}
 use Rattle.term.proofs.Joins.{bytes-join, fit-split}
 use Rattle.link.proofs.Represents.{Stands, Shown}
 use Rattle.link.proofs.Places.{within-terms}
@@ -99,7 +99,7 @@ module _ (table bytes : List ℕ) where
     }
       where
         is : (i : ℕ) → i < variables → (m : Bool) → eqb v i ≡ m
-            → getD (set ps v (boundPart at (sizes table w) (count w))) i (part 0 0 0) ≡ partOf table (cond m (some w) (e .value i))
+            → getD (set ps v (boundPart at (sizes table w) (count w))) i (part 0 0 0) ≡ assignedPart table (cond m (some w) (e .value i))
             (cond m at (e .offset i))
         is i k true z =
             ap (λ (j : ℕ). getD (set ps v (boundPart at (sizes table w) (count w))) j (part 0 0 0)) (sym (eqb-true v i z))

@@ -7,6 +7,7 @@ use mathlib.Core.Bool.{Bool, true, false, cond, _&&_, false≢true}
 use lib.ListN.{length, getD, drop, length-drop}
 use lib.Dec.{eqb}
 use borrow.Author.Tests.{eqb-true}
+use Rattle.term.proofs.Lists.{front, past-front}
 use Rattle.term.specs.Table.{isList, width}
 use Rattle.term.specs.Tree.{Tree, Trees, branch, empty, more, number, listCode, encode, encodes}
 use Rattle.term.specs.Term.{Terms, node, nil, _::_, _⧺_, count, size, sizes, termTrees, termsBytes}
@@ -15,12 +16,12 @@ use Rattle.term.specs.Limits.{Shape, belowOf, Fits}
 use Rattle.term.specs.declared.Code.{Code}
 use Rattle.term.specs.declared.Code.the-variants.{Symbol}
 use Rattle.term.specs.declared.Part.{Part}
-use Rattle.term.proofs.Sizes.{arity, childrenBytes, front, past-front, past-tree, past-terms, terms-length, number-children, node-bytes, symbol-bytes}
+use Rattle.term.proofs.Sizes.{arity, childrenBytes, past-tree, past-terms, terms-length, number-children, node-bytes, symbol-bytes}
 use Rattle.anti_pattern.specs.Search.{Env}
 use Rattle.anti_pattern.proofs.Machine.{Frame, Pending, frame}
 use Rattle.anti_pattern.proofs.Facts.{count-join}
-use Rattle.search.specs.State.{Frame as Counts, frame as counts, State, state, passed, entered, reopened, alone}
-use Rattle.search.specs.declared.Place.{Place}
+use Rattle.search.specs.State.{Frame as Counts, frame as counts, State, state, placePast, entered, reopened, alone}
+use Rattle.search.specs.declared.place.Place.{Place}
 use Rattle.term.proofs.Joins.{bytes-join, sizes-join, fit-split, leaf-length}
 use Rattle.link.proofs.Represents.{Limited, codesLeft, bytesLeft, Stacked, Here, Stands, Shown, Represents}
 
@@ -87,7 +88,7 @@ module _ (table pattern bytes : List ℕ) (p : Place) (frames : List Counts) whe
   -- past a child that holds of the elements w
   pub here-past : (cs qs : Children) (c : Tree) (w us : Terms) (fs : List Frame) (codes : ℕ) → childTrees cs ≡ more c (childTrees qs)
       → length (encode table c []) ≡ codes → Here table pattern bytes p frames cs (w ⧺ us) fs
-      → Here table pattern bytes (passed p (count w) codes (sizes table w)) frames qs us fs
+      → Here table pattern bytes (placePast p (count w) codes (sizes table w)) frames qs us fs
   unfolding encode number
   here-past cs qs c w us fs codes z k h =
       let j : drop (p .node) bytes ≡ termsBytes table w (termsBytes table us (bytesLeft table fs (h .bytes-after))) =
@@ -184,7 +185,7 @@ pub past-leaf : (table pattern bytes : List ℕ) (s : State) (cs qs : Children) 
     (ds : List Pending)
     (parts : List Part) → childTrees cs ≡ more (branch c empty) (childTrees qs) → listCode table c ≡ false
     → Represents table pattern bytes s cs (w ⧺ us) fs e ds → Shown table bytes parts f
-    → Represents table pattern bytes (state parts (s .frames) (s .waiting) (passed (s .place) (count w) 1 (sizes table w))) qs us fs f ds
+    → Represents table pattern bytes (state parts (s .frames) (s .waiting) (placePast (s .place) (count w) 1 (sizes table w))) qs us fs f ds
 past-leaf table pattern bytes s cs qs c w us fs e f ds parts z l h shown = record {
   here = here-past table pattern bytes (s .place) (s .frames) cs qs (branch c empty) w us fs 1 z (leaf-length table c l) (h .here);
   shown = shown;

@@ -14,12 +14,12 @@ use Rattle.term.specs.Part.{part}
 use Rattle.term.specs.declared.Part.{Part}
 use Rattle.term.proofs.Sizes.{arity, childrenBytes}
 use Rattle.anti_pattern.specs.Search.{Env}
-use Rattle.anti_pattern.specs.Place.{partOf}
+use Rattle.anti_pattern.specs.Place.{assignedPart}
 use Rattle.anti_pattern.proofs.Machine.{Frame, Pending}
 use Rattle.anti_pattern.proofs.Meter.{Metered, met, missed, usedUp}
 use Rattle.search.specs.State.{Frame as Counts, frame as counts, PutBy, State}
 use Rattle.search.specs.Level.{Reply, reply, failedAt, spentAt}
-use Rattle.search.specs.declared.Place.{Place}
+use Rattle.search.specs.declared.place.Place.{Place}
 use Rattle.search.specs.declared.Outcome.the-variants.{Found}
 
 -- trees within the limits
@@ -78,7 +78,7 @@ pub record Stands (table bytes : List ℕ) (at : ℕ) (w : Terms) : Type 0 where
 -- each variable's part shows what is assigned to it; a name's is one term
 pub record Shown (table bytes : List ℕ) (parts : List Part) (e : Env) : Type 0 where
   pub room : length parts ≡ variables
-  pub shown : (v : ℕ) → v < variables → getD parts v (part 0 0 0) ≡ partOf table (e .value v) (e .offset v)
+  pub shown : (v : ℕ) → v < variables → getD parts v (part 0 0 0) ≡ assignedPart table (e .value v) (e .offset v)
   pub stands : (v : ℕ) (w : Terms) → e .value v ≡ some w → Stands table bytes (e .offset v) w
   pub one : (v : ℕ) (w : Terms) → v < 32 → e .value v ≡ some w → count w ≡ 1
 

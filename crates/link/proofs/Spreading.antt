@@ -25,9 +25,9 @@ use Rattle.anti_pattern.specs.Variables.{among, runs, runsAll, without, firsts,
 use Rattle.anti_pattern.specs.Next.{givenTo}
 use Rattle.anti_pattern.specs.Search.{only}
 use Rattle.anti_pattern.proofs.Following.{cond-false, Distinct, distinct-firsts, within-skip}
-use Rattle.search.specs.Inner.Memory.{bit}
+use Rattle.parts.specs.Packed.{bit}
 use Rattle.search.specs.Spread.{pastBy, pastOf, runHere, runsFrom, unseen, freeIn, spreadTo}
-use Rattle.search.proofs.Masks.{bit-new, bit-other}
+use Rattle.parts.proofs.Masks.{bit-new, bit-other}
 use Rattle.search.proofs.Spreads.{runs-past}
 
 -- a node in front of others

@@ -7,7 +7,8 @@ use mathlib.Core.Bool.{Bool, true, false, cond, _&&_}
 use mathlib.Core.Option.{none, some}
 use lib.ListN.{length, getD, drop}
 use lib.Dec.{eqb, leb}
-use borrow.Author.Tests.{le-leb, lt-leb, lt-ltb, ne-eqb, eq-eqb}
+use borrow.Author.Tests.{le-leb, ne-eqb, eq-eqb}
+use Rattle.term.proofs.Lists.{first-left, some-left, front}
 use Rattle.term.specs.Class.{Alike}
 use Rattle.term.specs.Same.{sameByte}
 use Rattle.term.specs.Table.{isList, width}
@@ -21,14 +22,15 @@ use Rattle.term.specs.Part.{part, absent}
 use Rattle.term.specs.declared.Code.{Code}
 use Rattle.term.specs.declared.Code.the-variants.{Complement}
 use Rattle.term.specs.declared.Part.{Part}
-use Rattle.term.proofs.Sizes.{arity, childrenBytes, front, number-children, number-terms, node-bytes, symbol-bytes, term-size}
+use Rattle.term.proofs.Sizes.{arity, childrenBytes, number-children, number-terms, node-bytes, symbol-bytes, term-size}
 use Rattle.term.proofs.Extents.{entry-symbol, extent-tree}
 use Rattle.anti_pattern.proofs.Machine.{Frame}
 use Rattle.anti_pattern.specs.Search.{behind}
-use Rattle.search.specs.State.{Frame as Counts, alone, variableOf, variableAt, standsOf, overStep, symbolStep, assignedStep, nameStep, complementStep, pairStep, plainStep, codeStep, stepOf}
-use Rattle.search.specs.declared.Place.{Place}
-use Rattle.search.specs.declared.Step.the-variants.{Stops, Fails, Closes, Opens, Passes, Binds, PutsBy}
-use Rattle.search.specs.declared.Stop.the-variants.{Failure, NoAllowance, NoPair}
+use Rattle.steps.specs.Turn.{stepOf, variableIn, variableOf, standsOf, overStep, symbolStep, assignedStep, nameStep, complementStep, pairStep, plainStep, codeStep}
+use Rattle.search.specs.State.{Frame as Counts, alone, variableAt, stepAt}
+use Rattle.search.specs.declared.place.Place.{Place}
+use Rattle.steps.specs.declared.Step.the-variants.{Stops, Fails, Closes, Opens, Passes, Binds, PutsBy}
+use Rattle.steps.specs.declared.Stop.the-variants.{Failure, NoAllowance, NoPair}
 use Rattle.term.proofs.Joins.{sizes-single, rootOf, first-code}
 use Rattle.link.proofs.Represents.{Limited, codesLeft, bytesLeft, Here, Stands}
 use Rattle.link.proofs.Places.{behind-last}
@@ -49,37 +51,40 @@ extent-element table small t ts bs h =
 -- by the numbers alone
 
 module _ (table classes pattern bytes : List ℕ) (had : Part) (p : Place) (left : ℕ) (outermost : Bool) where
-  pub turn-over : p .children ≡ 0 → 0 < p .elements → stepOf outermost table classes pattern bytes had p left ≡ Stops Failure
-  unfolding stepOf overStep
+  pub turn-over : p .children ≡ 0 → 0 < p .elements → stepAt outermost table classes pattern bytes had p left ≡ Stops Failure
+  unfolding stepAt stepOf overStep
   turn-over h k = rw (eq-eqb (p .children) 0 h, ne-eqb (p .elements) 0 (λ e. omega arith))
 
-  pub turn-end : p .children ≡ 0 → p .elements ≡ 0 → stepOf outermost table classes pattern bytes had p left ≡ cond outermost (Stops NoPair) Closes
-  unfolding stepOf overStep
+  pub turn-end : p .children ≡ 0 → p .elements ≡ 0 → stepAt outermost table classes pattern bytes had p left ≡ cond outermost (Stops NoPair) Closes
+  unfolding stepAt stepOf overStep
   turn-end h k = rw (eq-eqb (p .children) 0 h, eq-eqb (p .elements) 0 k)
 
   turn-code : (c : Code) → 0 < p .children → p .at < length pattern → decodeOf (getD pattern (p .at) 0) ≡ c
-      → stepOf outermost table classes pattern bytes had p left ≡ codeStep outermost c table classes pattern bytes had p left
-  unfolding stepOf
-  turn-code c h k e = rw (ne-eqb (p .children) 0 (λ z. omega arith), lt-ltb (p .at) (length pattern) k, e)
+      → stepAt outermost table classes pattern bytes had p left
+      ≡ codeStep (outermost && eqb (p .children) 1) c table classes bytes (drop (p .at) pattern) (drop (p .node) bytes) had (p .elements) left
+  unfolding stepAt stepOf
+  turn-code c h k e = rw (ne-eqb (p .children) 0 (λ z. omega arith), some-left pattern (p .at) k, first-left pattern (p .at), e)
 
-  plain-short : (c : Code) → p .elements ≡ 0 → plainStep outermost c table classes pattern bytes had p left ≡ Stops Failure
+  plain-short : (c : Code) → p .elements ≡ 0
+      → plainStep (outermost && eqb (p .children) 1) c table classes bytes (drop (p .at) pattern) (drop (p .node) bytes) had (p .elements) left ≡ Stops Failure
   unfolding plainStep
   plain-short c h = rw (eq-eqb (p .elements) 0 h)
 
-  plain-spent : (c : Code) → 0 < p .elements → p .node < length bytes → left ≡ 0 → plainStep outermost c table classes pattern bytes had p left ≡ Stops NoAllowance
+  plain-spent : (c : Code) → 0 < p .elements → p .node < length bytes → left ≡ 0
+      → plainStep (outermost && eqb (p .children) 1) c table classes bytes (drop (p .at) pattern) (drop (p .node) bytes) had (p .elements) left ≡ Stops NoAllowance
   unfolding plainStep
-  plain-spent c h k z = rw (ne-eqb (p .elements) 0 (λ e. omega arith), lt-leb (length bytes) (p .node) k, eq-eqb left 0 z)
+  plain-spent c h k z = rw (ne-eqb (p .elements) 0 (λ e. omega arith), some-left bytes (p .node) k, eq-eqb left 0 z)
 
   plain-pair : (c : Code) → 0 < p .elements → p .node < length bytes → 0 < left
-      → plainStep outermost c table classes pattern bytes had p left
+      → plainStep (outermost && eqb (p .children) 1) c table classes bytes (drop (p .at) pattern) (drop (p .node) bytes) had (p .elements) left
       ≡ pairStep (outermost && eqb (p .children) 1) c table classes bytes (drop (p .at) pattern) (drop (p .node) bytes) had (p .elements)
   unfolding plainStep
   plain-pair c h k z =
-      rw (ne-eqb (p .elements) 0 (λ e. omega arith), lt-leb (length bytes) (p .node) k, ne-eqb left 0 (λ e. omega arith))
+      rw (ne-eqb (p .elements) 0 (λ e. omega arith), some-left bytes (p .node) k, ne-eqb left 0 (λ e. omega arith))
 
   by-plain : (q : Pattern)
-      → codeStep outermost (rootOf (patternTree q)) table classes pattern bytes had p left
-      ≡ plainStep outermost (rootOf (patternTree q)) table classes pattern bytes had p left
+      → codeStep (outermost && eqb (p .children) 1) (rootOf (patternTree q)) table classes bytes (drop (p .at) pattern) (drop (p .node) bytes) had (p .elements) left
+      ≡ plainStep (outermost && eqb (p .children) 1) (rootOf (patternTree q)) table classes bytes (drop (p .at) pattern) (drop (p .node) bytes) had (p .elements) left
   unfolding codeStep
   by-plain (name v) = refl
   by-plain (symbol s qs) = refl
@@ -109,31 +114,33 @@ module _ (table classes pattern bytes : List ℕ) (p : Place) (frames : List Cou
     child-here = first-child .0
 
     pub variable-here : variableAt pattern (p .at) ≡ variableOf (rootOf c)
-    unfolding variableAt
-    variable-here = rw (lt-ltb (p .at) (length pattern) (first-child .0), first-child .1)
+    unfolding variableAt variableIn
+    variable-here = rw (some-left pattern (p .at) (first-child .0), first-left pattern (p .at), first-child .1)
 
     pub does-code : (had : Part) (left : ℕ)
-        → stepOf (alone frames) table classes pattern bytes had p left ≡ codeStep (alone frames) (rootOf c) table classes pattern bytes had p left
+        → stepAt (alone frames) table classes pattern bytes had p left
+        ≡ codeStep (alone frames && eqb (p .children) 1) (rootOf c) table classes bytes (drop (p .at) pattern) (drop (p .node) bytes) had (p .elements) left
     does-code had left = turn-code table classes pattern bytes had p left (alone frames) (rootOf c) some-children (first-child .0) (first-child .1)
 
   -- a plain child pattern
   module _ (q : Pattern) (qs : Children) (had : Part) (left : ℕ) where
     does-plain : (ts : Terms) → Here table pattern bytes p frames (plain q qs) ts fs
-        → stepOf (alone frames) table classes pattern bytes had p left ≡ plainStep (alone frames) (rootOf (patternTree q)) table classes pattern bytes had p left
+        → stepAt (alone frames) table classes pattern bytes had p left
+        ≡ plainStep (alone frames && eqb (p .children) 1) (rootOf (patternTree q)) table classes bytes (drop (p .at) pattern) (drop (p .node) bytes) had (p .elements) left
     does-plain ts h = does-code (plain q qs) qs (patternTree q) ts refl h had left ∙ by-plain table classes pattern bytes had p left (alone frames) q
 
-    pub does-short : Here table pattern bytes p frames (plain q qs) nil fs → stepOf (alone frames) table classes pattern bytes had p left ≡ Stops Failure
+    pub does-short : Here table pattern bytes p frames (plain q qs) nil fs → stepAt (alone frames) table classes pattern bytes had p left ≡ Stops Failure
     does-short h = does-plain nil h ∙ plain-short table classes pattern bytes had p left (alone frames) (rootOf (patternTree q)) (h .elements)
 
     module _ (t : Term) (ts : Terms) (h : Here table pattern bytes p frames (plain q qs) (t :: ts) fs) where
-      pub does-spent : left ≡ 0 → stepOf (alone frames) table classes pattern bytes had p left ≡ Stops NoAllowance
+      pub does-spent : left ≡ 0 → stepAt (alone frames) table classes pattern bytes had p left ≡ Stops NoAllowance
       does-spent z =
           does-plain (t :: ts) h
           ∙ plain-spent table classes pattern bytes had p left (alone frames) (rootOf (patternTree q)) (omega (arith, h .elements))
           (some-bytes table bytes (p .node) t ts _ (h .stands)) z
 
       pub does-pair : 0 < left
-          → stepOf (alone frames) table classes pattern bytes had p left
+          → stepAt (alone frames) table classes pattern bytes had p left
           ≡ pairStep (alone frames && eqb (p .children) 1) (rootOf (patternTree q)) table classes bytes (drop (p .at) pattern) (drop (p .node) bytes) had
           (p .elements)
       does-pair z =

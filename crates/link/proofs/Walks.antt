@@ -9,6 +9,7 @@ use lib.ListN.{length, getD, take, drop, set}
 use lib.Seq.{take-at}
 use lib.Dec.{eqb}
 use borrow.Author.Tests.{eqb-true, eq-eqb, ne-eqb}
+use Rattle.term.proofs.Lists.{past-front}
 use Rattle.term.specs.Class.{classOf, Alike}
 use Rattle.term.specs.Same.{sameByte}
 use Rattle.term.specs.Table.{isList, width}
@@ -22,22 +23,23 @@ use Rattle.term.specs.declared.Code.{Code}
 use Rattle.term.specs.declared.Code.the-variants.{Symbol, Name, Run}
 use Rattle.term.specs.declared.Part.{Part}
 use Rattle.anti_pattern.specs.Search.{Env, bind, Result, counted, fail, ifTrue, ifSome, sameOr, behind, Tries}
-use Rattle.anti_pattern.specs.Place.{partOf}
+use Rattle.anti_pattern.specs.Place.{assignedPart}
 use Rattle.anti_pattern.specs.Variables.{among, runsAll}
 use Rattle.anti_pattern.proofs.Machine.{Frame, Pending, frame, pending, machine}
 use Rattle.term.proofs.SameParts.{same-counts, same-sizes, entry-alike, branch-some}
-use Rattle.term.proofs.Sizes.{childrenBytes, number-terms, number-children, past-front, encode-append}
+use Rattle.term.proofs.Sizes.{childrenBytes, number-terms, number-children, encode-append}
 use Rattle.anti_pattern.proofs.Facts.{behind-alike, one-behind, none-behind}
 use Rattle.anti_pattern.proofs.Machinery.{machine-end, machine-over, machine-short, machine-name, machine-symbol, machine-run-assigned, machine-complement}
 use Rattle.anti_pattern.proofs.Metering.{Split, enough, over, split}
 use Rattle.anti_pattern.proofs.Steps.{pair-counts}
-use Rattle.search.specs.State.{Frame as Counts, frame as counts, PutBy, putBy, place, State, state, partAt, passed, entered, closedBy, closed, alone, variableOf, variableAt, overStep, assignedStep, symbolStep, nameStep, runStep, pairStep, codeStep, stepOf, nextOf, Walked, walkOf, turns}
+use Rattle.steps.specs.Turn.{stepOf, variableOf, overStep, assignedStep, symbolStep, nameStep, runStep, pairStep, codeStep}
+use Rattle.search.specs.State.{Frame as Counts, frame as counts, PutBy, putBy, place, State, state, partInState, placePast, entered, closedBy, closed, alone, variableAt, stepAt, walkBy, Walked, walkOf, turns}
 use Rattle.search.specs.Level.{levels}
-use Rattle.search.specs.declared.Place.{Place}
-use Rattle.search.specs.declared.Step.{Step}
-use Rattle.search.specs.declared.Step.the-variants.{Stops, Fails, Closes, Opens, Passes, Binds, PutsBy}
-use Rattle.search.specs.declared.Stop.{Stop}
-use Rattle.search.specs.declared.Stop.the-variants.{Failure, NoAllowance, NoPair, RunName}
+use Rattle.search.specs.declared.place.Place.{Place}
+use Rattle.steps.specs.declared.Step.{Step}
+use Rattle.steps.specs.declared.Step.the-variants.{Stops, Fails, Closes, Opens, Passes, Binds, PutsBy}
+use Rattle.steps.specs.declared.Stop.{Stop}
+use Rattle.steps.specs.declared.Stop.the-variants.{Failure, NoAllowance, NoPair, RunName}
 use Rattle.term.proofs.Joins.{sizes-single}
 use Rattle.link.proofs.Represents.{Limited, codesLeft, Here, Shown, Waits, AllWait, Represents}
 use Rattle.link.proofs.Places.{limited-children, childless, some-width, stacked-alone, stacked-open, here-past, here-stands, here-open, here-close, close-at, past-leaf}
@@ -146,49 +148,49 @@ module _ (table : List ℕ) (small : length table ≤ 200) (classes : List ℕ) 
   -- by the step that the turn takes
   module _ (turns : ℕ) (s : State) (left : ℕ) where
     abbrev step : Step
-    step = stepOf (alone (s .frames)) table classes pattern bytes (partAt s (variableAt pattern (s .place .at))) (s .place) left
+    step = stepAt (alone (s .frames)) table classes pattern bytes (partInState s (variableAt pattern (s .place .at))) (s .place) left
 
     stops : (stop : Stop) → step ≡ Stops stop → searched (suc turns) s left ≡ k .ending stop s left
-    unfolding walkOf nextOf
+    unfolding walkOf walkBy
     stops stop h = rw h
 
     fails : step ≡ Fails → searched (suc turns) s left ≡ k .ending Failure s (left - 1)
-    unfolding walkOf nextOf
+    unfolding walkOf walkBy
     fails h = rw h
 
     closes : step ≡ Closes → searched (suc turns) s left ≡ searched turns (closed s) left
-    unfolding walkOf nextOf
+    unfolding walkOf walkBy
     closes h = rw h
 
     opens : (children elements width : ℕ) → step ≡ Opens children elements width
         → searched (suc turns) s left
         ≡ searched turns (state (s .parts) (counts (s .place .children - 1) (s .place .elements - 1) ∷ s .frames) (s .waiting)
         (entered (s .place) children elements width)) (left - 1)
-    unfolding walkOf nextOf
+    unfolding walkOf walkBy
     opens children elements width h = rw h
 
     passes : (elements size : ℕ) → step ≡ Passes elements size
-        → searched (suc turns) s left ≡ searched turns (state (s .parts) (s .frames) (s .waiting) (passed (s .place) elements 1 size)) (left - 1)
-    unfolding walkOf nextOf
+        → searched (suc turns) s left ≡ searched turns (state (s .parts) (s .frames) (s .waiting) (placePast (s .place) elements 1 size)) (left - 1)
+    unfolding walkOf walkBy
     passes elements size h = rw h
 
     binds : (v size : ℕ) → step ≡ Binds v size
         → searched (suc turns) s left
-        ≡ searched turns (state (set (s .parts) v (boundPart (s .place .node) size 1)) (s .frames) (s .waiting) (passed (s .place) 1 1 size)) (left - 1)
-    unfolding walkOf nextOf
+        ≡ searched turns (state (set (s .parts) v (boundPart (s .place .node) size 1)) (s .frames) (s .waiting) (placePast (s .place) 1 1 size)) (left - 1)
+    unfolding walkOf walkBy
     binds v size h = rw h
 
     puts-by : (codes size : ℕ) → step ≡ PutsBy codes size
         → searched (suc turns) s left
         ≡ searched turns (state (s .parts) (s .frames) (s .waiting ++ (putBy (s .place .at) (codes - 1) (s .place .node) ∷ []))
-        (passed (s .place) 1 codes size)) (left - 1)
-    unfolding walkOf nextOf
+        (placePast (s .place) 1 codes size)) (left - 1)
+    unfolding walkOf walkBy
     puts-by codes size h = rw h
 
   -- a level with no child pattern left ends alike wherever in the record it stands
   ends-anywhere : (turns : ℕ) (parts : List Part) (waiting : List PutBy) (elements at here there left : ℕ)
       → searched turns (state parts [] waiting (place 0 elements at here)) left ≡ searched turns (state parts [] waiting (place 0 elements at there)) left
-  unfolding walkOf stepOf overStep nextOf
+  unfolding walkOf stepAt stepOf overStep walkBy
   ends-anywhere zero parts waiting elements at here there left = k .failure-anywhere _ _ left
   ends-anywhere (suc turns) parts waiting zero at here there left = k .end-anywhere parts waiting _ _ left
   ends-anywhere (suc turns) parts waiting (suc elements) at here there left =
@@ -196,14 +198,14 @@ module _ (table : List ℕ) (small : length table ≤ 200) (classes : List ℕ) 
 
   -- so past a complement that was its last
   past-last : (turns : ℕ) (parts : List Part) (frames : List Counts) (waiting : List PutBy) (p : Place) (codes size left : ℕ)
-      → searched turns (state parts frames waiting (passed p 1 codes (cond (alone frames && eqb (p .children) 1) 0 size))) left
-      ≡ searched turns (state parts frames waiting (passed p 1 codes size)) left
+      → searched turns (state parts frames waiting (placePast p 1 codes (cond (alone frames && eqb (p .children) 1) 0 size))) left
+      ≡ searched turns (state parts frames waiting (placePast p 1 codes size)) left
   past-last turns parts (f ∷ frames) waiting p codes size left = refl
   past-last turns parts [] waiting p codes size left = by (eqb (p .children) 1) refl
     where
       by : (last : Bool) → eqb (p .children) 1 ≡ last
-          → searched turns (state parts [] waiting (passed p 1 codes (cond last 0 size))) left
-          ≡ searched turns (state parts [] waiting (passed p 1 codes size)) left
+          → searched turns (state parts [] waiting (placePast p 1 codes (cond last 0 size))) left
+          ≡ searched turns (state parts [] waiting (placePast p 1 codes size)) left
       by true e =
           let z : p .children - 1 ≡ 0 = omega (arith, eqb-true (p .children) 1 e) in
           rw z (ends-anywhere turns parts waiting (p .elements - 1) (p .at + codes) (p .node + 0) (p .node + size) left)
@@ -243,7 +245,7 @@ module _ (table : List ℕ) (small : length table ≤ 200) (classes : List ℕ) 
       goes-past : (w us : Terms) → ts ≡ w ⧺ us → (parts : List Part) (f : Env) → Shown table bytes parts f
           → k .Known (frame qs us (s .place .node + sizes table w) ∷ fs) f ds
           → k .Fit (k .comes (frame qs us (s .place .node + sizes table w) ∷ fs) f ds (left - 1))
-          (searched turns (state parts (s .frames) (s .waiting) (passed (s .place) (count w) 1 (sizes table w))) (left - 1))
+          (searched turns (state parts (s .frames) (s .waiting) (placePast (s .place) (count w) 1 (sizes table w))) (left - 1))
       goes-past w us x parts f shown known =
           goes _ qs us fs f ds (left - 1)
           (record {
@@ -256,10 +258,10 @@ module _ (table : List ℕ) (small : length table ≤ 200) (classes : List ℕ) 
 
       -- a name or a run name
       module _ (v : ℕ) (y : variableOf c ≡ v) (low : v < variables) where
-        part-here : (o : Option Terms) → e .value v ≡ o → partAt s (variableAt pattern (s .place .at)) ≡ partOf table o (e .offset v)
+        part-here : (o : Option Terms) → e .value v ≡ o → partInState s (variableAt pattern (s .place .at)) ≡ assignedPart table o (e .offset v)
         part-here o x =
-            ap (partAt s) (variable-here table classes pattern bytes (s .place) (s .frames) fs cs qs (branch c empty) ts z (h .is .here) ∙ y)
-            ∙ h .is .shown .shown v low ∙ ap (λ (p : Option Terms). partOf table p (e .offset v)) x
+            ap (partInState s) (variable-here table classes pattern bytes (s .place) (s .frames) fs cs qs (branch c empty) ts z (h .is .here) ∙ y)
+            ∙ h .is .shown .shown v low ∙ ap (λ (p : Option Terms). assignedPart table p (e .offset v)) x
 
         on-assigned : (w : Terms) → e .value v ≡ some w
             → step turns s left
@@ -282,7 +284,7 @@ module _ (table : List ℕ) (small : length table ≤ 200) (classes : List ℕ) 
                 carry (k .step (frame cs ts (s .place .node) ∷ fs) (frame qs us (s .place .node + sizes table (a .0)) ∷ fs) e e ds ds past left i)
                 (passes turns s left _ _ (does ∙ assigned-passes table classes pattern bytes (s .place) (s .frames) fs cs ts (h .is .here) (e .offset v) w
                 (h .is .shown .stands v w x) alike us b)
-                ∙ ap₂ (λ (i j : ℕ). searched turns (state (s .parts) (s .frames) (s .waiting) (passed (s .place) i 1 j)) (left - 1))
+                ∙ ap₂ (λ (i j : ℕ). searched turns (state (s .parts) (s .frames) (s .waiting) (placePast (s .place) i 1 j)) (left - 1))
                 (same-counts classes w (a .0) (a .2)) m)
                 (goes-past (a .0) us (a .1) (s .parts) e (h .is .shown)
                 (k .known-step (frame cs ts (s .place .node) ∷ fs) (frame qs us (s .place .node + sizes table (a .0)) ∷ fs) e e ds ds past (fewer us) (h .known)))
@@ -298,7 +300,7 @@ module _ (table : List ℕ) (small : length table ≤ 200) (classes : List ℕ) 
       name-low = omega (arith, name-below (h .is .here .patterns-limited))
 
       name-step : (o : Option Terms) → e .value v ≡ o
-          → step turns s left ≡ nameStep table classes bytes (drop (s .place .node) bytes) v (partOf table o (e .offset v)) (s .place .elements)
+          → step turns s left ≡ nameStep table classes bytes (drop (s .place .node) bytes) v (assignedPart table o (e .offset v)) (s .place .elements)
       unfolding pairStep listCode
       name-step o x =
           does-pair table classes pattern bytes (s .place) (s .frames) fs (name v) qs _ left t ts (h .is .here) i
@@ -352,7 +354,7 @@ module _ (table : List ℕ) (small : length table ≤ 200) (classes : List ℕ) 
     -- a run name
     module _ (v : ℕ) (qs : Children) (ts : Terms) (h : Ready (suc turns) s (run v qs) ts fs e ds) where
       run-step : (o : Option Terms) → e .value v ≡ o
-          → step turns s left ≡ runStep table classes bytes v (partOf table o (e .offset v)) (drop (s .place .node) bytes) (s .place .elements) left
+          → step turns s left ≡ runStep table classes bytes v (assignedPart table o (e .offset v)) (drop (s .place .node) bytes) (s .place .elements) left
       unfolding codeStep listCode
       run-step o x =
           does-code table classes pattern bytes (s .place) (s .frames) fs (run v qs) qs (branch (Run v) empty) ts refl (h .is .here) _ left

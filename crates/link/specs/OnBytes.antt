@@ -2,7 +2,7 @@
 use Prim.Native.Nat.{ℕ, _-_}
 use mathlib.Core.List.{List}
 use Rattle.term.specs.declared.Part.{Part}
-use Rattle.anti_pattern.specs.Answer.{Answer, bound, nothing, spent}
+use Rattle.anti_pattern.specs.Answer.{Matching, bound, nothing, spent}
 use Rattle.anti_pattern.specs.Next.{Following, follows, unknown}
 use Rattle.search.specs.Level.{Reply, searchOf}
 use Rattle.search.specs.Given.{Pass, ends}
@@ -10,15 +10,15 @@ use Rattle.search.specs.Following.{nextPass}
 use Rattle.search.specs.declared.Outcome.{Outcome}
 use Rattle.search.specs.declared.Outcome.the-variants.{Found, Failed, Spent}
 
-abbrev pub repliedBy : Outcome → ℕ → ℕ → List Part → Answer
+abbrev pub repliedBy : Outcome → ℕ → ℕ → List Part → Matching
 repliedBy Found allowance left parts = bound parts (allowance - left)
 repliedBy Failed allowance left parts = nothing (allowance - left)
 repliedBy Spent allowance left parts = spent allowance
 
-abbrev pub replied : ℕ → Reply → Answer
+abbrev pub replied : ℕ → Reply → Matching
 replied allowance r = repliedBy (r .outcome) allowance (r .left) (r .parts)
 
-unfoldable pub outcomeOnBytes : List ℕ → List ℕ → List ℕ → List ℕ → ℕ → Answer
+unfoldable pub outcomeOnBytes : List ℕ → List ℕ → List ℕ → List ℕ → ℕ → Matching
 outcomeOnBytes table classes pattern bytes allowance = replied allowance (searchOf table classes pattern bytes allowance)
 
 -- after the given answer

@@ -18,14 +18,14 @@ use Rattle.term.specs.Tree.{listCode}
 use Rattle.term.specs.declared.Code.the-variants.{Symbol}
 use Rattle.term.specs.declared.Part.{Part}
 use Rattle.term.proofs.Sizes.{terms-sizes, take-terms}
-use Rattle.anti_pattern.specs.Answer.{Answer as Outcome, bound, nothing, spent, parts, countOf, shown, answer}
+use Rattle.anti_pattern.specs.Answer.{Matching, bound, nothing, spent, parts, countOf, matchingOf, answer}
 use Rattle.anti_pattern.specs.Demands.{First, PartsShown, AnswerExact, PublishedAgrees}
 use Rattle.anti_pattern.specs.Language.{TermOf}
 use Rattle.anti_pattern.specs.Meaning.{Assignment, Satisfies}
 use Rattle.anti_pattern.proofs.Meter.{Metered, met}
-use Rattle.anti_pattern.specs.Place.{partOf, orAbsent, partAt, partsAt, eachVariable}
+use Rattle.anti_pattern.specs.Place.{assignedPart, orAbsent, variablePart, partsAt, eachVariable}
 use Rattle.anti_pattern.specs.Published.{NoRuns, assignment}
-use Rattle.anti_pattern.specs.Search.{Env, Outcome as Ended, found, failed, firstAnswer, whole}
+use Rattle.anti_pattern.specs.Search.{Env, Answers, found, failed, firstAnswer, whole}
 use Rattle.anti_pattern.specs.Order.{lengthOf}
 use Rattle.anti_pattern.specs.Variables.{vars, varsAll, free, among, freeRuns}
 use Rattle.anti_pattern.proofs.Allowance.{answer-over, answer-within, bound-found}
@@ -34,7 +34,7 @@ use Rattle.anti_pattern.proofs.Within.{accepted-of}
 use Rattle.anti_pattern.proofs.First.{answer-satisfies}
 use Rattle.anti_pattern.proofs.Following.{map-among}
 use Rattle.anti_pattern.proofs.Metering.{meter-within, metered-first}
-use Rattle.anti_pattern.proofs.Placed.{Answers, first-answers}
+use Rattle.anti_pattern.proofs.Placed.{AnswerIn, first-answers}
 use Rattle.search.specs.Level.{Reply, searchOf}
 use Rattle.call.specs.Brought.{classesOf, languageOf, broughtAccepted}
 use Rattle.call.specs.Call.{written}
@@ -45,8 +45,8 @@ use Rattle.matcher.proofs.Checks.{checked-exactly}
 use Rattle.link.proofs.Followed.{free-runs-are}
 use Rattle.anti_pattern.proofs.Each.{each-at}
 use Rattle.link.proofs.Linked.{whole-agrees}
-use Rattle.search.specs.Shown.{entry, numbers, entryWidth, answerWidth}
-use Rattle.search.proofs.Shown.{numbers-length, numbers-at}
+use Rattle.parts.specs.Shown.{entry, numbers, entryWidth, answerWidth}
+use Rattle.parts.proofs.Shown.{numbers-length, numbers-at}
 
 -- the free variables of an accepted pattern are among the 48
 
@@ -82,7 +82,7 @@ shown-at ps rest v low k h = List·getD-append (numbers ps) rest 0 (entryWidth *
 -- each answer of the search is shown
 
 module _ (table : List ℕ) (brought : Option (List ℕ)) (pattern bytes : List ℕ) (k : Alike table (classesOf brought)) (q : Pattern) (t : Term)
-    (i : Input table pattern bytes q t) (e : Env) (o : Answers (whole (languageOf table brought) q t .out) e)
+    (i : Input table pattern bytes q t) (e : Env) (o : AnswerIn (whole (languageOf table brought) q t .out) e)
     (ps : List Part) (h : Shown table bytes ps e) (rest : List ℕ) where
   satisfies : Satisfies (languageOf table brought) q t (e .value)
   satisfies = answer-satisfies (languageOf table brought) q t (accepted-of (languageOf table brought) t (i .record-accepted)) e o
@@ -114,19 +114,19 @@ module _ (table : List ℕ) (brought : Option (List ℕ)) (pattern bytes : List 
       let k : 0 + v ≡ v = omega arith in
       ap (λ (l : List Part). getD l v (part 0 0 0)) z ∙ each-at f 0 variables v low ∙ ap f k
 
-  part-entry : (v : ℕ) → v < variables → Entry v (partOf table (e .value v) (e .offset v))
-  part-entry v low = entry-is v low (partOf table (e .value v) (e .offset v)) (each-is (λ u. partOf table (e .value u) (e .offset u)) v low refl)
+  part-entry : (v : ℕ) → v < variables → Entry v (assignedPart table (e .value v) (e .offset v))
+  part-entry v low = entry-is v low (assignedPart table (e .value v) (e .offset v)) (each-is (λ u. assignedPart table (e .value u) (e .offset u)) v low refl)
 
   value-entry : (v : ℕ) (w : Terms) → v < variables → e .value v ≡ some w → Entry v (part (e .offset v) (sizes table w) (count w))
-  value-entry v w low z = subst (λ (x : Option Terms). Entry v (partOf table x (e .offset v))) z (part-entry v low)
+  value-entry v w low z = subst (λ (x : Option Terms). Entry v (assignedPart table x (e .offset v))) z (part-entry v low)
 
-  place-entry : (v : ℕ) → v < variables → (p : Part) → partAt table q t (e .value) v ≡ p → Entry v p
-  place-entry v low p z = entry-is v low p (each-is (partAt table q t (e .value)) v low (placed .shown-at-first-place e o) ∙ z)
+  place-entry : (v : ℕ) → v < variables → (p : Part) → variablePart table q t (e .value) v ≡ p → Entry v p
+  place-entry v low p z = entry-is v low p (each-is (variablePart table q t (e .value)) v low (placed .shown-at-first-place e o) ∙ z)
 
   length-shown : (v : ℕ) → v < variables → termsIn (numbers (parts table e) ++ rest) v ≡ lengthOf (e .value v)
   length-shown v low = part-entry v low .2 ∙ go (e .value v)
     where
-      go : (x : Option Terms) → partOf table x (e .offset v) .elements ≡ lengthOf x
+      go : (x : Option Terms) → assignedPart table x (e .offset v) .elements ≡ lengthOf x
       go none = refl
       go (some w) = refl
 
@@ -135,7 +135,7 @@ module _ (table : List ℕ) (brought : Option (List ℕ)) (pattern bytes : List 
     first-place = λ v m.
         let f = placed .free-placed (e .value) satisfies v m in
         f .2 ∙ ap some (sym (place-entry v (below v m) (part (f .0) (sizes table (f .1)) (count (f .1)))
-        (ap₂ (λ (x : Option ℕ) (y : Option Terms). orAbsent x (partOf table y)) (f .2) (f .3)) .0));
+        (ap₂ (λ (x : Option ℕ) (y : Option Terms). orAbsent x (assignedPart table y)) (f .2) (f .3)) .0));
     value-length = λ v w m z. value-entry v w (below v m) z .1 ∙ sym (terms-sizes table w);
     value-bytes = λ v w m z.
         let p = value-entry v w (below v m) z in
@@ -152,17 +152,17 @@ module _ (table : List ℕ) (brought : Option (List ℕ)) (pattern bytes : List 
 
 -- the number of what is told says which it is
 
-pub spent-told : (o : Outcome) → answerNumber (told o) ≡ 11 → (n : ℕ) × (o ≡ spent n)
+pub spent-told : (o : Matching) → answerNumber (told o) ≡ 11 → (n : ℕ) × (o ≡ spent n)
 spent-told (bound ps n) h = absurd (omega arith)
 spent-told (nothing n) h = absurd (omega arith)
 spent-told (spent n) h = (n, refl)
 
-pub none-told : (o : Outcome) → answerNumber (told o) ≡ 10 → (n : ℕ) × (o ≡ nothing n)
+pub none-told : (o : Matching) → answerNumber (told o) ≡ 10 → (n : ℕ) × (o ≡ nothing n)
 none-told (bound ps n) h = absurd (omega arith)
 none-told (nothing n) h = (n, refl)
 none-told (spent n) h = absurd (omega arith)
 
-pub bound-told : (o : Outcome) → answerNumber (told o) ≡ 0 → (ps : List Part) × (n : ℕ) × (o ≡ bound ps n)
+pub bound-told : (o : Matching) → answerNumber (told o) ≡ 0 → (ps : List Part) × (n : ℕ) × (o ≡ bound ps n)
 bound-told (bound ps n) h = (ps, n, refl)
 bound-told (nothing n) h = absurd (omega arith)
 bound-told (spent n) h = absurd (omega arith)
@@ -191,11 +191,11 @@ module _ (table : List ℕ) (brought : Option (List ℕ)) (pattern bytes : List 
       let z : answer (languageOf table brought) q t allowance ≡ bound (parts table e) (b .1) = b .2 ∙ ap (λ (ps : List Part). bound ps (b .1)) (f .1 .2) in (
         e .value,
         search-decides (languageOf table brought) k q t of .found-first e (f .1 .1),
-        subst (Shows table bytes q t (e .value)) (ap (λ (o : Outcome). written (boundParts o) before) (sym z))
+        subst (Shows table bytes q t (e .value)) (ap (λ (o : Matching). written (boundParts o) before) (sym z))
             (env-shown table brought pattern bytes k q t i e (first-answers (whole (languageOf table brought) q t .out) e (f .1 .1)) _ (found-shown e (f .0) (f .1 .1)) (drop answerWidth before)),
       )
 
-  count-told : (o : Ended) (n : ℕ) → answerCount (told (shown table o n)) ≡ n
+  count-told : (o : Answers) (n : ℕ) → answerCount (told (matchingOf table o n)) ≡ n
   count-told (found e m o) n = refl
   count-told failed n = refl
 
@@ -207,30 +207,30 @@ module _ (table : List ℕ) (brought : Option (List ℕ)) (pattern bytes : List 
     unfolding answerOf bufferOf
     same-call more z =
         rw (checked-exactly table pattern bytes pattern-octets record-octets brought (length before) q t .1 (wide, accepted, i))
-        (ap told z, ap (λ (o : Outcome). written (boundParts o) before) z)
+        (ap told z, ap (λ (o : Matching). written (boundParts o) before) z)
 
     pub answered : Answered table brought pattern bytes before allowance q t (told (answer (languageOf table brought) q t allowance)) (written (boundParts (answer (languageOf table brought) q t allowance)) before)
     answered = record {
       spent-exactly = (
         λ h. let s = spent-told (answer (languageOf table brought) q t allowance) h in exact .spent-exactly (s .0) .0 (s .1) .1,
-        λ h. ap (λ (o : Outcome). answerNumber (told o)) (exact .spent-exactly allowance .1 (refl, h)),
+        λ h. ap (λ (o : Matching). answerNumber (told o)) (exact .spent-exactly allowance .1 (refl, h)),
       );
-      spent-shows = λ h. ap (λ (o : Outcome). answerCount (told o)) (answer-over (languageOf table brought) q t allowance h);
-      shows-count = λ h. ap (λ (o : Outcome). answerCount (told o)) (answer-within (languageOf table brought) q t allowance h)
+      spent-shows = λ h. ap (λ (o : Matching). answerCount (told o)) (answer-over (languageOf table brought) q t allowance h);
+      shows-count = λ h. ap (λ (o : Matching). answerCount (told o)) (answer-within (languageOf table brought) q t allowance h)
           ∙ count-told (whole (languageOf table brought) q t .out) (countOf (languageOf table brought) q t);
       none-exactly = (
         λ h.
             let s = none-told (answer (languageOf table brought) q t allowance) h in
             let b = exact .none-exactly (s .0) .0 (s .1) in
             (b .1, b .2),
-        λ h. ap (λ (o : Outcome). answerNumber (told o)) (exact .none-exactly (countOf (languageOf table brought) q t) .1 (refl, h .0, h .1)),
+        λ h. ap (λ (o : Matching). answerNumber (told o)) (exact .none-exactly (countOf (languageOf table brought) q t) .1 (refl, h .0, h .1)),
       );
       bound-exactly = (
         λ h.
             let s = bound-told (answer (languageOf table brought) q t allowance) h in
             let b = exact .bound-exactly (s .0) (s .1) .0 (s .2) in
             (b .1, (b .2 .0, b .2 .1)),
-        λ h. ap (λ (o : Outcome). answerNumber (told o))
+        λ h. ap (λ (o : Matching). answerNumber (told o))
             (exact .bound-exactly (partsAt table q t (h .1 .0)) (countOf (languageOf table brought) q t) .1 (refl, h .0, (h .1 .0, h .1 .1, refl))),
       );
       bound-shows = bound-shows before;
@@ -246,13 +246,13 @@ module _ (table : List ℕ) (brought : Option (List ℕ)) (pattern bytes : List 
         λ h. let s = none-told (answer (languageOf table brought) q t allowance) h in
             let b = agrees .none-exactly (s .0) .0 (s .1) in
             (b .1, b .2),
-        λ h. ap (λ (o : Outcome). answerNumber (told o)) (agrees .none-exactly (countOf (languageOf table brought) q t) .1 (refl, h .0, h .1)),
+        λ h. ap (λ (o : Matching). answerNumber (told o)) (agrees .none-exactly (countOf (languageOf table brought) q t) .1 (refl, h .0, h .1)),
       );
       bound-exactly = (
         λ h. let s = bound-told (answer (languageOf table brought) q t allowance) h in
             let b = agrees .bound-exactly (s .0) (s .1) .0 (s .2) in
             (b .1, (b .2 .0, b .2 .1)),
-        λ h. ap (λ (o : Outcome). answerNumber (told o))
+        λ h. ap (λ (o : Matching). answerNumber (told o))
             (agrees .bound-exactly (partsAt table q t (assignment (h .1 .0))) (countOf (languageOf table brought) q t) .1
             (refl, h .0, (h .1 .0, h .1 .1, refl))),
       );

@@ -13,7 +13,7 @@ use Rattle.term.specs.Part.{part}
 use Rattle.term.specs.Pattern.{Pattern}
 use Rattle.term.specs.Term.{Term}
 use Rattle.term.specs.declared.Part.{Part}
-use Rattle.anti_pattern.specs.Answer.{Answer as Outcome, bound, answer}
+use Rattle.anti_pattern.specs.Answer.{Matching, bound, answer}
 use Rattle.anti_pattern.specs.Demands.{assignments, lengthsShown, Asked, no-more, one-more, Calls, none-at-all, from-first}
 use Rattle.anti_pattern.specs.Language.{Language, TermOf}
 use Rattle.anti_pattern.specs.Next.{Following, follows, next}
@@ -22,8 +22,8 @@ use Rattle.anti_pattern.specs.Variables.{freeRuns}
 use Rattle.anti_pattern.proofs.Demands.{answer-exact}
 use Rattle.anti_pattern.proofs.Following.{map-among}
 use Rattle.anti_pattern.proofs.Within.{accepted-of}
-use Rattle.search.specs.Shown.{numbers, answerWidth}
-use Rattle.search.proofs.Shown.{numbers-length}
+use Rattle.parts.specs.Shown.{numbers, answerWidth}
+use Rattle.parts.proofs.Shown.{numbers-length}
 use Rattle.call.specs.Brought.{classesOf, languageOf, broughtAccepted}
 use Rattle.call.specs.Call.{written}
 use Rattle.call.proofs.Brought.{brought-alike}
@@ -85,7 +85,7 @@ module _ (table : List ℕ) (brought : Option (List ℕ)) (pattern bytes : List 
       first-all = ap length (answer-exact l (brought-alike table brought accepted) q t of allowance .bound-exactly ps n .0 e .2 .2)
 
       first-buffer : bufferOf table brought pattern bytes allowance before ≡ numbers ps ++ drop answerWidth before
-      first-buffer = first-told .1 ∙ ap (λ (o : Outcome). written (boundParts o) before) e
+      first-buffer = first-told .1 ∙ ap (λ (o : Matching). written (boundParts o) before) e
 
       first-numbers : take answerWidth (bufferOf table brought pattern bytes allowance before) ≡ numbers ps
       first-numbers = ap (take answerWidth) first-buffer ∙ numbers-shown ps first-all (drop answerWidth before)

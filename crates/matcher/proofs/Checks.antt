@@ -10,17 +10,18 @@ use Rattle.term.specs.Table.{tableAccepted}
 use Rattle.term.specs.Term.{Term}
 use Rattle.term.specs.Pattern.{Pattern}
 use Rattle.term.specs.Limits.{Octets}
-use Rattle.reader.specs.Reading.{shown, readRecord, readPattern}
+use Rattle.reader.specs.Reading.{read, shown, readRecord, readPattern}
 use Rattle.term.specs.declared.Refusal.{Refusal}
 use Rattle.reader.specs.declared.Read.{Read}
 use Rattle.reader.specs.declared.Read.the-variants.{Ends}
 use Rattle.reader.proofs.Answers.{refused-shown, ends-shown}
 use Rattle.reader.proofs.Typed.{record-iff, pattern-iff, record-read, pattern-read}
-use Rattle.search.specs.Shown.{answerWidth}
+use Rattle.parts.specs.Shown.{answerWidth}
 use Rattle.call.specs.Brought.{broughtAccepted}
-use Rattle.call.specs.Verdict.{Verdict, passed, fault, reading}
+use Rattle.call.specs.Call.{checks}
+use Rattle.call.specs.Verdict.{Verdict, passed, fault, reading, both}
 use Rattle.call.proofs.Checks as every
-use Rattle.matcher.specs.Call.{Input, AcceptedTrees, trees, checked, checkOf}
+use Rattle.matcher.specs.Call.{Input, AcceptedTrees, trees, ruleChecked, checked, checkOf}
 use Rattle.matcher.specs.declared.Check.the-variants.{Passed, Failed}
 
 module _ (table pattern bytes : List ℕ) (pattern-octets : Octets pattern) (record-octets : Octets bytes) where
@@ -55,27 +56,58 @@ module _ (table pattern bytes : List ℕ) (pattern-octets : Octets pattern) (rec
 
 -- what the code's checks tell
 
-pub check-failed : (v : Verdict (Pattern × Term)) (r : Refusal) → Failed r ≡ checkOf v → (i : ℕ) × (v ≡ fault r i)
+pub check-failed : {X : Type 0} (v : Verdict X) (r : Refusal) → Failed r ≡ checkOf v → (i : ℕ) × (v ≡ fault r i)
 check-failed (fault x i) r e = (i, cc)
 check-failed (passed x) r e = let z : _≡_ {A = ℕ} 0 1 = cc in absurd (omega arith)
 
-pub check-passed : (v : Verdict (Pattern × Term)) → Passed ≡ checkOf v → (q : Pattern) × (t : Term) × (v ≡ passed (q, t))
+pub check-passed : {X : Type 0} (v : Verdict X) → Passed ≡ checkOf v → (x : X) × (v ≡ passed x)
 check-passed (fault x i) e = let z : _≡_ {A = ℕ} 0 1 = cc in absurd (omega arith)
-check-passed (passed x) e = (x .0, x .1, refl)
+check-passed (passed x) e = (x, refl)
 
--- the own checks, each by what is told of the ones before it
-
-module _ (table : List ℕ) (brought : Option (List ℕ)) (pattern bytes : List ℕ) (width : ℕ) (wide : answerWidth ≤ width) (tabled : tableAccepted table ≡ true)
+-- the pattern's own checks, by what is told of the ones before them
+module _ (table : List ℕ) (brought : Option (List ℕ)) (pattern : List ℕ) (width : ℕ) (wide : answerWidth ≤ width) (tabled : tableAccepted table ≡ true)
     (classed : broughtAccepted table brought ≡ true) where
-  own-checked : checked table brought pattern bytes width ≡ trees table pattern bytes
-  own-checked = every.then-own table brought width (trees table pattern bytes) wide tabled classed
+  own-rule : ruleChecked table brought pattern width ≡ reading (readPattern table pattern)
+  own-rule = every.then-own table brought width (reading (readPattern table pattern)) wide tabled classed
 
-  pub pattern-fails : (r : Refusal) → shown (readPattern table pattern) ≡ Read.Refused r → Failed r ≡ checkOf (checked table brought pattern bytes width)
-  pattern-fails r e = rw (own-checked, refused-shown (readPattern table pattern) r e)
+  pub pattern-fails : (r : Refusal) → shown (readPattern table pattern) ≡ Read.Refused r → Failed r ≡ checkOf (ruleChecked table brought pattern width)
+  pattern-fails r e = rw (own-rule, refused-shown (readPattern table pattern) r e)
 
-  module _ (n : ℕ) (ends : shown (readPattern table pattern) ≡ Ends n) where
+  pub pattern-passes : (n : ℕ) → shown (readPattern table pattern) ≡ Ends n → Passed ≡ checkOf (ruleChecked table brought pattern width)
+  pattern-passes n e = rw (own-rule, ends-shown (readPattern table pattern) n e .1)
+
+-- those of a call that go on after the pattern's
+module _ (table : List ℕ) (brought : Option (List ℕ)) (pattern : List ℕ) (width : ℕ) where
+  pub rule-fails : {Y : Type 0} (f : Verdict Pattern → Verdict Y) → ((r : Refusal) (i : ℕ) → f (fault r i) ≡ fault r i) → (r : Refusal)
+      → Failed r ≡ checkOf (ruleChecked table brought pattern width) → Failed r ≡ checkOf (checks table brought width (f (reading (readPattern table pattern))))
+  rule-fails f strict r e =
+      let c = check-failed (ruleChecked table brought pattern width) r e in
+      rw (every.fault-first table brought width (reading (readPattern table pattern)) f strict r (c .0) (c .1))
+
+  -- what was read, where they pass
+  pub rule-passed : Passed ≡ checkOf (ruleChecked table brought pattern width)
+      → (answerWidth ≤ width) × (broughtAccepted table brought ≡ true) × (tableAccepted table ≡ true) × ((q : Pattern) × (n : ℕ) × (readPattern table pattern ≡ read q n))
+  rule-passed e =
+      let c = check-passed (ruleChecked table brought pattern width) e in
+      let p = every.passed-checks table brought width (reading (readPattern table pattern)) (c .0) (c .1) in
+      let r = every.reading-passed (readPattern table pattern) (c .0) (p .3) in (p .0, p .1, p .2, (c .0, r .0, r .1))
+
+  pub first-fails : (bytes : List ℕ) (r : Refusal) → Failed r ≡ checkOf (ruleChecked table brought pattern width) → Failed r ≡ checkOf (checked table brought pattern bytes width)
+  first-fails bytes = rule-fails (λ v. both v (reading (readRecord table bytes))) (λ r i. refl)
+
+  -- the record's
+  module _ (bytes : List ℕ) (rule : Passed ≡ checkOf (ruleChecked table brought pattern width)) where
+    by-record : checkOf (checked table brought pattern bytes width) ≡ checkOf (reading (readRecord table bytes))
+    by-record =
+        let p = rule-passed rule in
+        rw (every.then-own table brought width (trees table pattern bytes) (p .0) (p .2) (p .1), p .3 .2) (go (p .3 .0) (reading (readRecord table bytes)))
+      where
+        go : (q : Pattern) (v : Verdict Term) → checkOf (both (passed q) v) ≡ checkOf v
+        go q (fault r i) = refl
+        go q (passed t) = refl
+
     pub record-fails : (r : Refusal) → shown (readRecord table bytes) ≡ Read.Refused r → Failed r ≡ checkOf (checked table brought pattern bytes width)
-    record-fails r e = rw (own-checked, ends-shown (readPattern table pattern) n ends .1, refused-shown (readRecord table bytes) r e)
+    record-fails r e = rw (by-record, refused-shown (readRecord table bytes) r e)
 
     pub all-pass : (m : ℕ) → shown (readRecord table bytes) ≡ Ends m → Passed ≡ checkOf (checked table brought pattern bytes width)
-    all-pass m e = rw (own-checked, ends-shown (readPattern table pattern) n ends .1, ends-shown (readRecord table bytes) m e .1)
+    all-pass m e = rw (by-record, ends-shown (readRecord table bytes) m e .1)

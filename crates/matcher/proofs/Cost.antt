@@ -9,7 +9,7 @@ use Rattle.term.specs.Pattern.{Pattern}
 use Rattle.term.specs.Refusal.{numberOf}
 use Rattle.term.specs.Term.{Term}
 use Rattle.term.specs.declared.Refusal.the-variants.{Unknown}
-use Rattle.anti_pattern.specs.Answer.{Answer as Outcome, bound, nothing, spent, answer}
+use Rattle.anti_pattern.specs.Answer.{Matching, bound, nothing, spent, answer}
 use Rattle.anti_pattern.specs.Cost.{nodes}
 use Rattle.anti_pattern.specs.Demands.{BoundOrNone, NoneOrUnknown, CostBound, AnswerExact, NextExact}
 use Rattle.anti_pattern.specs.Language.{Language}
@@ -21,7 +21,7 @@ use Rattle.matcher.specs.Call.{answerNumber, answerCount, told}
 use Rattle.matcher.specs.Cost.{Bounded, NextBounded}
 use Rattle.matcher.specs.Next.{toldNext}
 
-bound-or-none-told : (o : Outcome) → BoundOrNone o → (answerNumber (told o) ≡ 0) ⊎ (answerNumber (told o) ≡ 10)
+bound-or-none-told : (o : Matching) → BoundOrNone o → (answerNumber (told o) ≡ 0) ⊎ (answerNumber (told o) ≡ 10)
 bound-or-none-told (bound ps n) h = inl refl
 bound-or-none-told (nothing n) h = inr refl
 bound-or-none-told (spent n) h = absurd h
@@ -36,7 +36,7 @@ module _ (l : Language) (table : List ℕ) (q : Pattern) (accepted : PatternAcce
   cost : CostBound l q t
   cost = cost-bound l q n t
 
-  count-told : AnswerExact l q t allowance → (o : Outcome) → answer l q t allowance ≡ o → answerCount (told o) ≤ nodes q
+  count-told : AnswerExact l q t allowance → (o : Matching) → answer l q t allowance ≡ o → answerCount (told o) ≤ nodes q
   count-told x (bound ps m) e = omega (arith, x .bound-exactly ps m .0 e .0, cost .count-at-most)
   count-told x (nothing m) e = omega (arith, x .none-exactly m .0 e .0, cost .count-at-most)
   count-told x (spent m) e = let s = x .spent-exactly m .0 e in omega (arith, s .0, s .1, cost .count-at-most)

@@ -11,7 +11,7 @@ use Rattle.term.specs.Refusal.{numberOf}
 use Rattle.term.specs.declared.Part.{Part}
 use Rattle.term.specs.declared.Refusal.{Refusal}
 use Rattle.term.proofs.Numbers.{word-or-refusal}
-use Rattle.anti_pattern.specs.Answer.{Answer as Outcome, bound, nothing, spent, answer}
+use Rattle.anti_pattern.specs.Answer.{Matching, bound, nothing, spent, answer}
 use Rattle.anti_pattern.proofs.Demands.{answer-exact}
 use Rattle.anti_pattern.proofs.Within.{accepted-of}
 use Rattle.call.specs.Brought.{classesOf, languageOf}
@@ -29,19 +29,19 @@ use Rattle.matcher.proofs.Cost.{bounded}
 use Rattle.matcher.proofs.Matched.{bytes-answered}
 
 -- what is told is no refusal
-pub told-refused : (o : Outcome) (r : Refusal) → answerNumber (told o) ≡ numberOf r → ⊥
+pub told-refused : (o : Matching) (r : Refusal) → answerNumber (told o) ≡ numberOf r → ⊥
 told-refused (bound ps n) r e = word-or-refusal 0 refl r e
 told-refused (nothing n) r e = word-or-refusal 10 refl r e
 told-refused (spent n) r e = word-or-refusal 11 refl r e
 
-pub told-unbound : (o : Outcome) → (answerNumber (told o) ≡ 0 → ⊥) → boundParts o ≡ none
+pub told-unbound : (o : Matching) → (answerNumber (told o) ≡ 0 → ⊥) → boundParts o ≡ none
 told-unbound (bound ps n) h = absurd (h refl)
 told-unbound (nothing n) h = refl
 told-unbound (spent n) h = refl
 
 module _ (table : List ℕ) (brought : Option (List ℕ)) (pattern bytes before : List ℕ) (allowance : ℕ) (pattern-octets : Octets pattern) (record-octets : Octets bytes) where
   -- the work on trees
-  abbrev work : Pattern × Term → Outcome
+  abbrev work : Pattern × Term → Matching
   work x = answer (languageOf table brought) (x .0) (x .1) allowance
 
   abbrev tells : Pattern × Term → Answer
@@ -98,8 +98,8 @@ module _ (table : List ℕ) (brought : Option (List ℕ)) (pattern bytes before 
   unfolding answerOf bufferOf
   passes-called e f classes same a after m =
       let c = check-passed (checked table brought pattern bytes (length before)) (sym f ∙ e) in
-      let i = checked-exactly table pattern bytes pattern-octets record-octets brought (length before) (c .0) (c .1) .0 (c .2) in
-      let g = bytes-answered table (classesOf brought) pattern bytes before allowance (i .0) (brought-alike table brought (i .1)) (c .0) (c .1) (i .2) in
+      let i = checked-exactly table pattern bytes pattern-octets record-octets brought (length before) (c .0 .0) (c .0 .1) .0 (c .1) in
+      let g = bytes-answered table (classesOf brought) pattern bytes before allowance (i .0) (brought-alike table brought (i .1)) (c .0 .0) (c .0 .1) (i .2) in
       let n = rw same at m in
       passes refusal tells binds before (checked table brought pattern bytes (length before)) (Demanded table brought pattern bytes before allowance) demanded-of
-      (c .0, c .1) (c .2) a after (n .0 ∙ g .0) (n .1 ∙ g .1)
+      (c .0) (c .1) a after (n .0 ∙ g .0) (n .1 ∙ g .1)

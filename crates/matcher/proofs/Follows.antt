@@ -14,7 +14,7 @@ use Rattle.term.specs.declared.Part.{Part}
 use Rattle.term.specs.declared.Refusal.the-variants.{Unknown}
 use Rattle.anti_pattern.specs.Answer.{bound, nothing, spent}
 use Rattle.anti_pattern.specs.Next.{Following, follows, unknown, next}
-use Rattle.search.specs.Shown.{answerWidth}
+use Rattle.parts.specs.Shown.{answerWidth}
 use Rattle.call.specs.Brought.{languageOf, broughtAccepted}
 use Rattle.call.specs.Call.{written}
 use Rattle.matcher.specs.Call.{answerNumber, Input}

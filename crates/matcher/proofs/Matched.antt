@@ -9,10 +9,11 @@ use Rattle.term.specs.Pattern.{Pattern}
 use Rattle.term.specs.Term.{Term}
 use Rattle.term.specs.declared.Part.{Part}
 use Rattle.term.specs.declared.Refusal.the-variants.{Narrow}
-use Rattle.anti_pattern.specs.Answer.{Answer as Matching, answer}
+use Rattle.anti_pattern.specs.Answer.{Matching, answer}
 use Rattle.anti_pattern.specs.Language.{language}
 use Rattle.search.specs.Level.{Reply, endOf, searchOf}
-use Rattle.search.specs.Shown.{shownBy, shownIn, answerWidth}
+use Rattle.parts.specs.Shown.{answerWidth, shownParts}
+use Rattle.search.specs.Shown.{shownBy, shownIn}
 use Rattle.search.specs.declared.Ended.{Ended}
 use Rattle.search.specs.declared.Outcome.{Outcome}
 use Rattle.search.specs.declared.Outcome.the-variants.{Found, Failed, Spent}
@@ -46,7 +47,7 @@ module _ (table classes pattern bytes before : List ℕ) (allowance : ℕ) where
   module _ (wide : answerWidth ≤ length before) where
     -- what the search shows is what its answer writes
     pub shown-by : (o : Outcome) (left : ℕ) (parts : List Part) → shownBy o parts before ≡ written (boundParts (repliedBy o allowance left parts)) before
-    unfolding shownBy
+    unfolding shownBy shownParts
     shown-by Found left parts = rw (le-ltb (length before) answerWidth wide)
     shown-by Failed left parts = refl
     shown-by Spent left parts = refl

@@ -25,7 +25,7 @@ use Rattle.anti_pattern.proofs.Following.{one-for-each, resumed-next}
 use Rattle.anti_pattern.proofs.Within.{accepted-of}
 use Rattle.search.specs.Following.{nextPass, followedOf, shownPass}
 use Rattle.search.specs.Given.{Pass, ends}
-use Rattle.search.specs.Shown.{answerWidth}
+use Rattle.parts.specs.Shown.{answerWidth}
 use Rattle.search.specs.declared.Followed.{Followed}
 use Rattle.search.specs.declared.Known.the-variants.{Ended as KnownEnds, Unknown as Strange}
 use Rattle.search.specs.declared.Outcome.{Outcome}
@@ -234,8 +234,8 @@ module _ (table : List ℕ) (brought : Option (List ℕ)) (pattern bytes given b
   unfolding nextOf nextBufferOf
   next-passes e f classes same a after m =
       let c = check-passed (checked table brought pattern bytes (length before)) (sym f ∙ e) in
-      let i = checked-exactly table pattern bytes pattern-octets record-octets brought (length before) (c .0) (c .1) .0 (c .2) in
-      let g = bytes-followed table (classesOf brought) pattern bytes given before allowance (i .0) (brought-alike table brought (i .1)) (c .0) (c .1) (i .2) in
+      let i = checked-exactly table pattern bytes pattern-octets record-octets brought (length before) (c .0 .0) (c .0 .1) .0 (c .1) in
+      let g = bytes-followed table (classesOf brought) pattern bytes given before allowance (i .0) (brought-alike table brought (i .1)) (c .0 .0) (c .0 .1) (i .2) in
       let n = rw same at m in
       passes refusal tells binds before (checked table brought pattern bytes (length before)) (NextDemanded table brought pattern bytes given before allowance) demanded-of
-      (c .0, c .1) (c .2) a after (n .0 ∙ g .0) (n .1 ∙ g .1)
+      (c .0) (c .1) a after (n .0 ∙ g .0) (n .1 ∙ g .1)

@@ -12,8 +12,8 @@ use Rattle.reader.specs.Reading.{readPattern, readRecord}
 use Rattle.term.specs.declared.Part.{Part}
 use Rattle.term.specs.declared.Refusal.{Refusal}
 use Rattle.term.specs.declared.Refusal.the-variants.{Narrow}
-use Rattle.anti_pattern.specs.Answer.{Answer as Outcome, bound, nothing, spent, answer}
-use Rattle.search.specs.Shown.{answerWidth}
+use Rattle.anti_pattern.specs.Answer.{Matching, bound, nothing, spent, answer}
+use Rattle.parts.specs.Shown.{answerWidth}
 pub use Rattle.link.specs.Input.{Input}
 use Rattle.link.specs.OnBytes.{outcomeOnBytes}
 use Rattle.call.specs.Brought.{languageOf}
@@ -43,6 +43,9 @@ AcceptedTrees table pattern bytes x = Input table pattern bytes (x .0) (x .1)
 
 -- The checks, in order: those of every call, the pattern's, the record's; they read both trees
 
+abbrev pub ruleChecked : List ℕ → Option (List ℕ) → List ℕ → ℕ → Verdict Pattern
+ruleChecked table brought pattern width = checks table brought width (reading (readPattern table pattern))
+
 abbrev pub trees : List ℕ → List ℕ → List ℕ → Verdict (Pattern × Term)
 trees table pattern bytes = both (reading (readPattern table pattern)) (reading (readRecord table bytes))
 
@@ -50,7 +53,7 @@ abbrev pub checked : List ℕ → Option (List ℕ) → List ℕ → List ℕ �
 checked table brought pattern bytes width = checks table brought width (trees table pattern bytes)
 
 -- passed, or the refusal
-abbrev pub checkOf : Verdict (Pattern × Term) → Check
+abbrev pub checkOf : {X : Type 0} → Verdict X → Check
 checkOf (fault r i) = Failed r
 checkOf (passed x) = Passed
 
@@ -60,7 +63,7 @@ checkOf (passed x) = Passed
 abbrev pub refusal : Refusal → ℕ → Answer
 refusal r i = Refused r
 
-abbrev pub told : Outcome → Answer
+abbrev pub told : Matching → Answer
 told (bound parts count) = Bound count
 told (nothing count) = None count
 told (spent allowance) = Spent allowance
@@ -71,7 +74,7 @@ answerOf table brought pattern bytes allowance width =
 
 -- The answer buffer, by the part of each variable where the answer is bound
 
-abbrev pub boundParts : Outcome → Option (List Part)
+abbrev pub boundParts : Matching → Option (List Part)
 boundParts (bound parts count) = some parts
 boundParts (nothing count) = none
 boundParts (spent allowance) = none

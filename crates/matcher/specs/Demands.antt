@@ -27,7 +27,7 @@ use Rattle.matcher.specs.Call.{answerNumber, answerCount, Input, Accepte
 use Rattle.matcher.specs.Cost.{Bounded, NextBounded}
 use Rattle.matcher.specs.Next.{nextOf, nextBufferOf}
 use Rattle.matcher.specs.declared.Answer.{Answer}
-use Rattle.search.specs.Shown.{numbers, entryWidth, answerWidth}
+use Rattle.parts.specs.Shown.{numbers, entryWidth, answerWidth}
 
 -- the numbers that a buffer has for a variable
 abbrev pub offsetIn : List ℕ → ℕ → ℕ

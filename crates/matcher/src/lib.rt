@@ -11,13 +11,13 @@ ghost use lib.ListN.{length};
 ghost use Rattle.term.specs.Moment.{old, new};
 ghost use Rattle.call.specs.Brought.{broughtBy, classesOf, broughtAccepted};
 ghost use Rattle.link.specs.OnBytes.{repliedBy, followingOnBytes};
-ghost use Rattle.matcher.specs.Call.{answerNumber, answerCount, checked, checkOf, answerOf, bufferOf, answerOnBytes, bufferOnBytes, told};
+ghost use Rattle.matcher.specs.Call.{answerNumber, answerCount, ruleChecked, checked, checkOf, answerOf, bufferOf, answerOnBytes, bufferOnBytes, told};
 ghost use Rattle.matcher.specs.Next.{toldNext, nextOf, nextBufferOf};
 ghost use Rattle.search.specs.Following.{nextPass, shownPass};
 ghost use Rattle.matcher.specs.Demands.{Demanded, NextDemanded, NextCalled};
 
 // How many numbers an answer has.
-pub const ANSWER_WIDTH: usize = search::ANSWER_WIDTH;
+pub const ANSWER_WIDTH: usize = parts::ANSWER_WIDTH;
 
 // Bound, none or spent, with the count; or why the input is refused.
 pub enum Answer {
@@ -69,16 +69,9 @@ fn accepts_classes(table: &[u8], brings: bool, classes: &[u8]) -> bool
     true
 }
 
-// The checks in order, for a buffer of so many numbers.
-fn check_input(
-    table: &[u8],
-    brings: bool,
-    classes: &[u8],
-    pattern: &[u8],
-    record: &[u8],
-    width: usize,
-) -> Check
-    ensures { λ r. ⌜ r ≡ checkOf (checked (old table) (broughtBy brings (old classes)) (old pattern) (old «record») width) ⌝ }
+// The checks up to the pattern's, in order, for a buffer of so many numbers; `classes` counts if the call brings a class list.
+pub fn check_rule(table: &[u8], brings: bool, classes: &[u8], pattern: &[u8], width: usize) -> Check
+    ensures { λ r. ⌜ r ≡ checkOf (ruleChecked (old table) (broughtBy brings (old classes)) (old pattern) width) ⌝ }
 {
     if width < ANSWER_WIDTH {
         return Check::Failed(Refusal::Narrow);
@@ -91,6 +84,24 @@ fn check_input(
     }
     let p = reader::read_pattern(table, pattern);
     if let Read::Refused(r) = p {
+        return Check::Failed(r);
+    }
+    Check::Passed
+}
+
+// All checks in order.
+fn check_input(
+    table: &[u8],
+    brings: bool,
+    classes: &[u8],
+    pattern: &[u8],
+    record: &[u8],
+    width: usize,
+) -> Check
+    ensures { λ r. ⌜ r ≡ checkOf (checked (old table) (broughtBy brings (old classes)) (old pattern) (old «record») width) ⌝ }
+{
+    let rule = check_rule(table, brings, classes, pattern, width);
+    if let Check::Failed(r) = rule {
         return Check::Failed(r);
     }
     let s = reader::read_record(table, record);

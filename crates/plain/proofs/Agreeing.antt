@@ -1,6 +1,6 @@
 -- The tier finds what the full search finds.
 use Prim.Native.Nat.{ℕ, zero, suc, _+_, _<_, _≤_}
-use mathlib.Core.Path.{_≡_, refl, sym, _∙_, ap, subst}
+use mathlib.Core.Path.{_≡_, refl, sym, subst}
 use mathlib.Core.List.{List, [], _∷_}
 use mathlib.Core.Bool.{Bool, true, false, cond, _&&_, false≢true}
 use mathlib.Core.Option.{Option, none, some}
@@ -9,14 +9,14 @@ use lib.Dec.{eqb, leb}
 use borrow.Author.Tests.{eqb-true, eqb-false, leb-true, leb-false}
 use Rattle.term.specs.Pattern.{Pattern, name, symbol, complement, Children, end, plain, run}
 use Rattle.term.specs.Table.{width}
-use Rattle.term.specs.Term.{Term, node, Terms, nil, _::_, _⧺_, count, single, size, sizes}
+use Rattle.term.specs.Term.{Term, node, Terms, nil, _::_, count, single, size, sizes}
 use Rattle.term.specs.Class.{classOf}
 use Rattle.anti_pattern.specs.Language.{Language}
-use Rattle.anti_pattern.specs.Search.{Env, bind, start, Outcome, failed, firstAnswer, Result, ifTrue, ifSome, sameOr, Deferred, Next, finish, freely, every, tryRun, search, searches, whole}
+use Rattle.anti_pattern.specs.Search.{Env, bind, start, Answers, firstAnswer, Result, ifTrue, ifSome, sameOr, Deferred, Continuation, finish, freely, every, tryRun, search, searches, whole}
 use Rattle.anti_pattern.specs.Variables.{vars, varsAll, free, among}
 use Rattle.plain.specs.Plain.{NoComplement, NoComplements, Once, runNames, plainChildren, OneRun, OneRuns, Plain}
 use Rattle.plain.specs.Tier.{Tiered, ifTrue as tierTrue, comesOut, taken, left, runLength, andThen, tier, tiers, wholeTier}
-use Rattle.plain.proofs.Failing.{true-fails, Wrong, right-length, unequal-fails, fewer-fails}
+use Rattle.plain.proofs.Failing.{right-length, unequal-fails, fewer-fails}
 
 -- none of the variables is assigned
 abbrev Unassigned : Env → List ℕ → Type 0
@@ -46,11 +46,11 @@ unassigned-start [] = tt
 unassigned-start (v ∷ vs) = (refl, unassigned-start vs)
 
 -- the full search comes to what the rest of it does with what the tier finds, or both fail
-data Agree (k : Next) (put : List Deferred) (vs : List ℕ) : Option Env → Option Env → Type 0 where
+data Agree (k : Continuation) (put : List Deferred) (vs : List ℕ) : Option Env → Option Env → Type 0 where
   goes-on : {f : Env} → Fresh f vs → Agree k put vs (firstAnswer (k f put .out)) (some f)
   fails : Agree k put vs none none
 
-agree-then : {k l : Next} {put : List Deferred} {us vs : List ℕ} {o p : Option Env} (n : ℕ) (g : Env → Tiered) → Agree l put us o p
+agree-then : {k l : Continuation} {put : List Deferred} {us vs : List ℕ} {o p : Option Env} (n : ℕ) (g : Env → Tiered) → Agree l put us o p
     → ((f : Env) → Fresh f us → Agree k put vs (firstAnswer (l f put .out)) (g f .out)) → Agree k put vs o (andThen p n g .out)
 agree-then n g (goes-on {f} h) next = next f h
 agree-then n g fails next = fails
@@ -83,7 +83,7 @@ module _ (table classes : List ℕ) where
   mutual
     unfolding search tier
 
-    tier-agrees : (q : Pattern) (t : Term) (at : ℕ) (e : Env) (put : List Deferred) (k : Next) (vs : List ℕ) → NoComplement q → OneRun q
+    tier-agrees : (q : Pattern) (t : Term) (at : ℕ) (e : Env) (put : List Deferred) (k : Continuation) (vs : List ℕ) → NoComplement q → OneRun q
         → Fresh e (vars q vs) → Agree k put vs (firstAnswer (search table classes freely q t at e put k .out)) (tier table classes q t at e .out)
     tier-agrees (name v) t at e put k vs c o h =
         subst (λ (x : Option Terms). Agree k put vs (firstAnswer (ifSome (sameOr classes x (single t) e (bind e v at (single t))) (λ f. k f put) .out)) (some (bind e v at (single t))))
@@ -96,12 +96,12 @@ module _ (table classes : List ℕ) where
             → Agree k put vs (firstAnswer (ifTrue m (λ u. searches table classes freely qs ts (at + width table r) e put k) .out)) (tierTrue (m && b) (λ u. tiers table classes qs ts (at + width table r) e) .out)
         go true true (comes n) next = next n
         go true false (unequal i n) next =
-            subst (λ (x : Outcome). Agree k put vs (firstAnswer x) none) (sym (unequal-fails table classes qs ts (at + width table r) e put k i n)) fails
-        go true false (fewer n) next = subst (λ (x : Outcome). Agree k put vs (firstAnswer x) none) (sym (fewer-fails table classes qs ts (at + width table r) e put k n)) fails
+            subst (λ (x : Answers). Agree k put vs (firstAnswer x) none) (sym (unequal-fails table classes qs ts (at + width table r) e put k i n)) fails
+        go true false (fewer n) next = subst (λ (x : Answers). Agree k put vs (firstAnswer x) none) (sym (fewer-fails table classes qs ts (at + width table r) e put k n)) fails
         go false b n next = fails
     tier-agrees (complement q) t at e put k vs c o h = absurd c
 
-    tiers-agree : (qs : Children) (ts : Terms) (at : ℕ) (e : Env) (put : List Deferred) (k : Next) (vs : List ℕ) → NoComplements qs → OneRuns qs
+    tiers-agree : (qs : Children) (ts : Terms) (at : ℕ) (e : Env) (put : List Deferred) (k : Continuation) (vs : List ℕ) → NoComplements qs → OneRuns qs
         → runNames qs ≤ 1 → ComesOut qs ts → Fresh e (varsAll qs vs) → Agree k put vs (firstAnswer (searches table classes freely qs ts at e put k .out)) (tiers table classes qs ts at e .out)
     tiers-agree end nil at e put k vs c o r n h = goes-on h
     tiers-agree end (t :: ts) at e put k vs c o r n h = absurd (omega (arith, n .1 refl))

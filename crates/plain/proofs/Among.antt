@@ -1,5 +1,6 @@
 -- The run names among the children of a node, byte by byte and of trees.
-use Prim.Native.Nat.{ℕ, zero, suc, _+_, _-_, _<_, _≤_}
+use Prim.Native.Nat.{ℕ, zero, suc, _+_, _-_, _*_, _<_, _≤_}
+use native.Mathlib.Nat.{mul-add, mul-one}
 use native.Mathlib.Omega.{arith}
 use mathlib.Core.Path.{_≡_, refl, sym, _∙_, ap}
 use mathlib.Core.List.{List, [], _∷_}
@@ -7,6 +8,7 @@ use mathlib.Core.Bool.{true, false, cond}
 use lib.ListN.{length, getD, take, drop, drop-of-length-le}
 use lib.Seq.{drop-cons, drop-drop}
 use lib.Dec.{eqb}
+use Rattle.term.proofs.Lists.{rest-part}
 use Rattle.term.specs.Table.{list}
 use Rattle.term.specs.Code.{variables, decodeOf, VariableBelow}
 use Rattle.term.specs.Extent.{entryOf, spanOf, extentOf}
@@ -14,8 +16,7 @@ use Rattle.term.specs.declared.Code.{Code}
 use Rattle.term.specs.declared.Code.the-variants.{Symbol, Name, Run, Complement}
 use Rattle.term.proofs.Codes.{decode-below}
 use Rattle.term.proofs.Extents.{span-none, span-fixed}
-use Rattle.reader.proofs.Steps.{rest-part}
-use Rattle.plain.specs.Bytes.{runs, alsoRun, runsAmong, noRuns, runHere, runBytes}
+use Rattle.plain.specs.Bytes.{sumOf, runs, alsoRun, runsAmong, noRuns, runCode, runBytes}
 use Rattle.plain.specs.declared.Runs.{Runs}
 
 -- one code more
@@ -88,7 +89,7 @@ module _ (table s : List ℕ) (n : ℕ) where
 
 -- no list has more run names than there are codes of run names
 
-also-number : (c : Code) (found : Runs) → alsoRun c found .number ≡ found .number + runHere c
+also-number : (c : Code) (found : Runs) → alsoRun c found .number ≡ found .number + runCode c
 also-number (Symbol b) found = omega arith
 also-number (Name v) found = omega arith
 also-number (Run v) found = refl
@@ -96,13 +97,13 @@ also-number Complement found = omega arith
 also-number Code.Refused found = omega arith
 
 pub bytes-behind : (k : ℕ) (s : List ℕ) → runBytes (drop k s) ≤ runBytes s
-unfolding runBytes
+unfolding sumOf
 bytes-behind zero s = omega arith
 bytes-behind (suc k) [] = omega arith
 bytes-behind (suc k) (b ∷ s) = omega (arith, bytes-behind k s)
 
 pub among-bytes : (table s : List ℕ) (n : ℕ) (found : Runs) → runsAmong table s n found .number ≤ found .number + runBytes s
-unfolding runsAmong runBytes extentOf spanOf
+unfolding runsAmong sumOf extentOf spanOf
 among-bytes table s zero found = omega arith
 among-bytes table [] (suc n) found = omega arith
 among-bytes table (b ∷ s) (suc n) found =
@@ -114,7 +115,7 @@ part-bytes at s most e =
     let i : runBytes (take (length s - at) (drop at s)) ≡ runBytes (drop at s) = ap runBytes (rest-part at s) in
     omega (arith, bytes-behind at s)
 
-pub here-once : (c : Code) → runHere c ≤ 1
+pub here-once : (c : Code) → runCode c ≤ 1
 here-once (Symbol b) = omega arith
 here-once (Name v) = omega arith
 here-once (Run v) = omega arith
@@ -122,37 +123,38 @@ here-once Complement = omega arith
 here-once Code.Refused = omega arith
 
 pub bytes-length : (s : List ℕ) → runBytes s ≤ length s
-unfolding runBytes
+unfolding sumOf
 bytes-length [] = omega arith
 bytes-length (b ∷ s) = omega (arith, here-once (decodeOf b), bytes-length s)
 
-module _ (s : List ℕ) where
-  -- the codes of run names before a place, and those from it on
-  pub record Tallied (found at : ℕ) : Type 0 where
-    pub few : found ≤ at
+-- a sum over the codes of s, each of which comes to so much at most
+module _ (f : Code → ℕ) (most : ℕ) (each : (c : Code) → f c ≤ most) (s : List ℕ) where
+  -- what is summed before a place, and what comes from it on
+  pub record Summed (found at : ℕ) : Type 0 where
+    pub few : found ≤ most * at
     pub within : at ≤ length s
-    pub same : runBytes s ≡ found + runBytes (drop at s)
+    pub same : sumOf f s ≡ found + sumOf f (drop at s)
 
-  pub tallied-first : Tallied 0 0
-  tallied-first = record { few = omega arith; within = omega arith; same = omega arith }
+  pub summed-first : Summed 0 0
+  summed-first = record { few = omega arith; within = omega arith; same = omega arith }
 
-  module _ (found at : ℕ) (t : Tallied found at) where
-    pub tallied-next : at < length s → (c : Code) → c ≡ decodeOf (getD s at 0) → (k : ℕ) → k ≡ runHere c → Tallied (found + k) (at + 1)
-    unfolding runBytes
-    tallied-next h c d k e =
+  module _ (found at : ℕ) (t : Summed found at) where
+    pub summed-next : at < length s → (c : Code) → c ≡ decodeOf (getD s at 0) → (k : ℕ) → k ≡ f c → Summed (found + k) (at + 1)
+    unfolding sumOf
+    summed-next h c d k e =
         let z : suc at ≡ at + 1 = omega arith in
-        let i : runBytes (drop at s) ≡ runHere (decodeOf (getD s at 0)) + runBytes (drop (suc at) s) = ap runBytes (drop-cons s at 0 h) in
-        let j : k ≡ runHere (decodeOf (getD s at 0)) = e ∙ ap runHere d in
-        let l : runBytes (drop (suc at) s) ≡ runBytes (drop (at + 1) s) = ap (λ (x : ℕ). runBytes (drop x s)) z in record {
-          few = omega (arith, t .few, here-once (decodeOf (getD s at 0)));
+        let i : sumOf f (drop at s) ≡ f (decodeOf (getD s at 0)) + sumOf f (drop (suc at) s) = ap (sumOf f) (drop-cons s at 0 h) in
+        let j : k ≡ f (decodeOf (getD s at 0)) = e ∙ ap f d in
+        let l : sumOf f (drop (suc at) s) ≡ sumOf f (drop (at + 1) s) = ap (λ (x : ℕ). sumOf f (drop x s)) z in record {
+          few = omega (arith, t .few, each (decodeOf (getD s at 0)), mul-add most at 1, mul-one most);
           within = omega arith;
           same = omega (arith, t .same);
         }
 
-    pub tallied-end : length s ≤ at → runBytes s ≤ found
-    unfolding runBytes
-    tallied-end h =
-        let i : runBytes (drop at s) ≡ 0 = ap runBytes (drop-of-length-le s h) in
+    pub summed-end : length s ≤ at → found ≡ sumOf f s
+    unfolding sumOf
+    summed-end h =
+        let i : sumOf f (drop at s) ≡ 0 = ap (sumOf f) (drop-of-length-le s h) in
         omega (arith, t .same)
 
 -- a tree of one byte

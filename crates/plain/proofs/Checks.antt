@@ -1,12 +1,14 @@
 -- The checks pass exactly on accepted input that is plain.
 use Prim.Native.Nat.{ℕ, _≤_}
+use native.Mathlib.Omega.{arith}
 use mathlib.Core.Path.{_≡_, refl, sym, _∙_, ap}
 use mathlib.Core.Logic.{_↔_}
-use mathlib.Core.List.{List}
+use mathlib.Core.List.{List, []}
 use mathlib.Core.Option.{Option}
 use mathlib.Core.Bool.{Bool, true, false, true≢false}
-use Rattle.term.specs.Limits.{Octets}
-use Rattle.term.specs.Pattern.{Pattern}
+use lib.ListN.{length}
+use Rattle.term.specs.Limits.{Octets, PatternAccepted, longestPattern}
+use Rattle.term.specs.Pattern.{Pattern, patternBytes}
 use Rattle.term.specs.Table.{tableAccepted}
 use Rattle.term.specs.Term.{Term}
 use Rattle.term.specs.declared.Refusal.{Refusal}
@@ -16,13 +18,13 @@ use Rattle.reader.specs.declared.Read.{Read}
 use Rattle.reader.specs.declared.Read.the-variants.{Ends}
 use Rattle.reader.proofs.Answers.{refused-shown, ends-shown}
 use Rattle.reader.proofs.Typed.{pattern-read}
-use Rattle.search.specs.Shown.{answerWidth}
+use Rattle.parts.specs.Shown.{answerWidth}
 use Rattle.link.specs.Input.{Input}
 use Rattle.link.proofs.Linked.{table-short}
 use Rattle.call.specs.Brought.{broughtAccepted}
 use Rattle.call.specs.Verdict.{Verdict, passed, fault, check, reading, both}
 use Rattle.call.proofs.Checks as every
-use Rattle.matcher.specs.Call.{checkOf}
+use Rattle.matcher.specs.Call.{ruleChecked, checkOf}
 use Rattle.matcher.specs.declared.Check.the-variants.{Passed, Failed}
 use Rattle.matcher.proofs.Checks as matched
 use Rattle.plain.specs.Bytes.{plainFrom}
@@ -70,29 +72,37 @@ module _ (table pattern bytes : List ℕ) (pattern-octets : Octets pattern) (rec
         ↔ ((answerWidth ≤ width) × (broughtAccepted table brought ≡ true) × (Input table pattern bytes q t × Plain q))
     checked-exactly = every.passed-exactly table brought width (plainTrees table pattern bytes) (AcceptedPlain table pattern bytes) reads (q, t)
 
--- the own checks, each by what is told of the ones before it
+-- the own checks
 
-module _ (table : List ℕ) (brought : Option (List ℕ)) (pattern bytes : List ℕ) (width : ℕ) (wide : answerWidth ≤ width) (tabled : tableAccepted table ≡ true)
-    (classed : broughtAccepted table brought ≡ true) where
-  pub own-checked : plainChecked table brought pattern bytes width ≡ plainTrees table pattern bytes
-  own-checked = every.then-own table brought width (plainTrees table pattern bytes) wide tabled classed
+module _ (table : List ℕ) (brought : Option (List ℕ)) (pattern bytes : List ℕ) (width : ℕ) where
+  pub own-checked : answerWidth ≤ width → tableAccepted table ≡ true → broughtAccepted table brought ≡ true
+      → plainChecked table brought pattern bytes width ≡ plainTrees table pattern bytes
+  own-checked = every.then-own table brought width (plainTrees table pattern bytes)
 
-  pub pattern-fails : (r : Refusal) → shown (readPattern table pattern) ≡ Read.Refused r → Failed r ≡ checkOf (plainChecked table brought pattern bytes width)
-  pattern-fails r e = rw (own-checked, refused-shown (readPattern table pattern) r e)
+  pub first-fails : (r : Refusal) → Failed r ≡ checkOf (ruleChecked table brought pattern width) → Failed r ≡ checkOf (plainChecked table brought pattern bytes width)
+  first-fails = matched.rule-fails table brought pattern width (λ v. both (plainly v) (reading (readRecord table bytes))) (λ r i. refl)
 
-  module _ (octets : Octets pattern) (n : ℕ) (ends : shown (readPattern table pattern) ≡ Ends n) where
+  -- each by what is told of the ones before it
+  module _ (octets : Octets pattern) (rule : Passed ≡ checkOf (ruleChecked table brought pattern width)) where
     abbrev tree : Pattern
-    tree = ends-shown (readPattern table pattern) n ends .0
+    tree = matched.rule-passed table brought pattern width rule .3 .0
+
+    accepted : (patternBytes table tree [] ≡ pattern) × PatternAccepted table tree
+    accepted = let p = matched.rule-passed table brought pattern width rule in pattern-read table pattern octets (p .3 .1) tree (p .3 .2)
+
+    pub rule-short : length pattern ≤ longestPattern
+    rule-short = omega (arith, ap length (accepted .0), accepted .1 .short)
 
     plain-is : plainFrom table pattern false 0 ≡ isPlain tree
     plain-is =
-        let r = pattern-read table pattern octets n tree (ends-shown (readPattern table pattern) n ends .1) in
-        ap (λ (l : List ℕ). plainFrom table l false 0) (sym (r .0)) ∙ looked table (table-short table tabled) tree _ _ (r .1 .fits)
+        let p = matched.rule-passed table brought pattern width rule in
+        ap (λ (l : List ℕ). plainFrom table l false 0) (sym (accepted .0)) ∙ looked table (table-short table (p .2)) tree _ _ (accepted .1 .fits)
 
     by-plain : plainChecked table brought pattern bytes width
         ≡ both (check (plainFrom table pattern false 0) NotPlain (passed tree)) (reading (readRecord table bytes))
     by-plain =
-        rw (own-checked, ends-shown (readPattern table pattern) n ends .1)
+        let p = matched.rule-passed table brought pattern width rule in
+        rw (own-checked (p .0) (p .2) (p .1), p .3 .2)
         (ap (λ (b : Bool). both (check b NotPlain (passed tree)) (reading (readRecord table bytes))) (sym plain-is))
 
     pub plain-fails : plainFrom table pattern false 0 ≡ false → Failed NotPlain ≡ checkOf (plainChecked table brought pattern bytes width)

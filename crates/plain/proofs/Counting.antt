@@ -1,11 +1,10 @@
 -- The tier's count is at most the number of the pattern's bytes.
-use Prim.Native.Nat.{ℕ, zero, suc, _+_, _≤_}
+use Prim.Native.Nat.{ℕ, _+_, _≤_}
 use mathlib.Core.List.{List, []}
 use mathlib.Core.Bool.{Bool, true, false, cond, _&&_}
 use native.Mathlib.Omega.{arith}
 use lib.Dec.{eqb}
 use lib.ListN.{length}
-use Rattle.term.specs.Code.{byteOf}
 use Rattle.term.specs.Pattern.{Pattern, name, symbol, complement, Children, end, plain, run, patternTree, childTrees, patternBytes}
 use Rattle.term.specs.Table.{width}
 use Rattle.term.specs.Term.{Term, node, Terms, nil, _::_, size, sizes}

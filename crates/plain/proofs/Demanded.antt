@@ -1,37 +1,37 @@
 -- The call's answer and final buffer meet every demand.
-use Prim.Native.Nat.{ℕ, _<_, _≤_}
+use Prim.Native.Nat.{ℕ, _≤_}
 use native.Mathlib.Omega.{arith}
 use mathlib.Core.Path.{_≡_, refl, sym, _∙_, ap, subst}
-use mathlib.Core.List.{List, []}
-use mathlib.Core.Bool.{Bool, true, false, cond}
+use mathlib.Core.List.{List}
+use mathlib.Core.Bool.{Bool, true, false}
 use mathlib.Core.Option.{Option, none, some}
 use lib.ListN.{length}
 use lib.Dec.{leb}
 use borrow.Author.Tests.{leb-true, leb-false}
 use Rattle.term.specs.Code.{variables}
-use Rattle.term.specs.Limits.{Octets, longestPattern}
+use Rattle.term.specs.Limits.{Octets}
 use Rattle.term.specs.Pattern.{Pattern}
 use Rattle.term.specs.Term.{Term}
 use Rattle.term.specs.declared.Part.{Part}
 use Rattle.term.specs.declared.Refusal.{Refusal}
+use Rattle.reader.specs.Reading.{readRecord, shown as shownRead}
+use Rattle.reader.specs.declared.Read.{Read}
+use Rattle.reader.specs.declared.Read.the-variants.{Ends}
 use Rattle.reader.proofs.Typed.{pattern-iff}
 use Rattle.term.specs.declared.Refusal.the-variants.{NotPlain}
-use Rattle.anti_pattern.specs.Answer.{Answer as Outcome, answer, countOf, shown}
-use Rattle.anti_pattern.specs.Demands.{First}
+use Rattle.anti_pattern.specs.Answer.{answer, countOf, matchingOf}
 use Rattle.anti_pattern.specs.Language.{Language}
-use Rattle.anti_pattern.specs.Meaning.{Assignment}
-use Rattle.anti_pattern.specs.Search.{Env, Outcome as Found, found, failed, firstAnswer, whole, start}
+use Rattle.anti_pattern.specs.Search.{Env, Answers, found, failed, firstAnswer, whole, start}
 use Rattle.anti_pattern.proofs.Allowance.{answer-within}
-use Rattle.search.specs.Inner.Replies.{partsIn}
-use Rattle.search.specs.Shown.{answerWidth, shownBy}
-use Rattle.search.specs.declared.Outcome.the-variants.{Found as IsFound}
+use Rattle.parts.specs.Packed.{partsIn}
+use Rattle.parts.specs.Shown.{answerWidth, shownParts}
 use Rattle.link.specs.Input.{Input}
 use Rattle.call.specs.Brought.{classesOf, languageOf, broughtAccepted}
 use Rattle.call.specs.Call.{written}
-use Rattle.call.specs.Verdict.{Verdict, passed}
+use Rattle.call.specs.Verdict.{passed}
 use Rattle.call.proofs.Brought.{brought-alike}
 use Rattle.call.proofs.Handled.{handled, fails, passes}
-use Rattle.matcher.specs.Call.{answerNumber, answerCount, checkOf, refusal, told, answerOf, boundParts, bufferOf}
+use Rattle.matcher.specs.Call.{answerNumber, answerCount, ruleChecked, checkOf, refusal, told, answerOf, boundParts, bufferOf}
 use Rattle.matcher.specs.Demands.{Answered, Shows}
 use Rattle.matcher.specs.declared.Answer.{Answer}
 use Rattle.matcher.specs.declared.Answer.the-variants.{Bound, None, Refused}
@@ -40,17 +40,16 @@ use Rattle.matcher.proofs.Checks.{check-failed, check-passed}
 use Rattle.matcher.proofs.Demanded.{told-refused, told-unbound}
 use Rattle.matcher.specs.declared.Check.{Check}
 use Rattle.matcher.specs.declared.Check.the-variants.{Passed, Failed}
-use Rattle.link.proofs.Linked.{narrow}
-use Rattle.plain.specs.Bytes.{Ending, tieringOf, tierOn, rootMayHold, noParts, toldEnding, shownEnding}
+use Rattle.plain.specs.Bytes.{plainFrom, Ending, tieringOf, tierOn, rootMayHold, noParts, toldEnding, shownEnding}
 use Rattle.plain.specs.Call.{AcceptedPlain, plainTrees, plainChecked, plainOf, plainBufferOf}
 use Rattle.plain.specs.Check.{isPlain}
-use Rattle.plain.specs.Demands.{PlainExact, PlainAnswered, PlainDemanded}
+use Rattle.plain.specs.Demands.{PlainExact, PlainAnswered, PlainDemanded, PlainCalled}
 use Rattle.plain.specs.Plain.{Plain}
 use Rattle.plain.specs.Tier.{wholeTier, shownTier, plainAnswer}
 use Rattle.plain.specs.declared.Tiering.{Tiering}
 use Rattle.plain.proofs.Agreeing.{same-outcome}
 use Rattle.plain.proofs.Checking.{check-exact}
-use Rattle.plain.proofs.Checks.{reads, checked-exactly, own-checked}
+use Rattle.plain.proofs.Checks.{reads, checked-exactly, own-checked, first-fails, plain-fails, record-fails, all-pass}
 use Rattle.plain.proofs.Counting.{tier-count}
 use Rattle.plain.proofs.Linked.{linked}
 use Rattle.plain.proofs.Turns.{root-fails}
@@ -61,11 +60,11 @@ pub plain-exact : (l : Language) (q : Pattern) (t : Term) → Plain q → PlainE
 plain-exact l q t p = record { same-outcome = same-outcome l q t p; count-within = tier-count (l .table) (l .classes) q t 0 start }
 
 -- word and buffer are told by what is found first, whatever is counted
-same-number : (table : List ℕ) (o : Found) (n m : ℕ) → answerNumber (told (shownTier table (firstAnswer o) n)) ≡ answerNumber (told (shown table o m))
+same-number : (table : List ℕ) (o : Answers) (n m : ℕ) → answerNumber (told (shownTier table (firstAnswer o) n)) ≡ answerNumber (told (matchingOf table o m))
 same-number table (found e k o) n m = refl
 same-number table failed n m = refl
 
-same-written : (table : List ℕ) (o : Found) (n m : ℕ) (before : List ℕ) → written (boundParts (shownTier table (firstAnswer o) n)) before ≡ written (boundParts (shown table o m)) before
+same-written : (table : List ℕ) (o : Answers) (n m : ℕ) (before : List ℕ) → written (boundParts (shownTier table (firstAnswer o) n)) before ≡ written (boundParts (matchingOf table o m)) before
 same-written table (found e k o) n m before = refl
 same-written table failed n m before = refl
 
@@ -89,7 +88,7 @@ module _ (table : List ℕ) (brought : Option (List ℕ)) (pattern bytes before 
 
     -- the full search's answer, where it is not spent
     module _ (allowance : ℕ) (within : countOf lang q t ≤ allowance) where
-      within-is : answer lang q t allowance ≡ shown table (whole lang q t .out) (countOf lang q t)
+      within-is : answer lang q t allowance ≡ matchingOf table (whole lang q t .out) (countOf lang q t)
       within-is = answer-within lang q t allowance within
 
       numbers-same : answerNumber (told (plainAnswer lang q t)) ≡ answerNumber (told (answer lang q t allowance))
@@ -168,39 +167,39 @@ module _ (table : List ℕ) (brought : Option (List ℕ)) (pattern bytes before 
     answered = λ wide classed q t i p. rw (accepted-passes wide classed q t i p) (plain-answered wide classed q t i p);
   }
 
-  -- the whole contract
-  abbrev Called : Answer → List ℕ → Type 0
-  Called a after =
-      (a ≡ plainOf table brought pattern bytes (length before))
-      × ((after ≡ plainBufferOf table brought pattern bytes before) × PlainDemanded table brought pattern bytes before a after)
-
   -- where a check fails
-  pub fails-called : {k : Check} {r : Refusal} → k ≡ checkOf (plainChecked table brought pattern bytes (length before)) → k ≡ Failed r → Called (Refused r) before
+  fails-called : (r : Refusal) → Failed r ≡ checkOf (plainChecked table brought pattern bytes (length before)) → PlainCalled table brought pattern bytes before (Refused r) before
   unfolding plainOf plainBufferOf
-  fails-called {k} {r} e f =
-      let c = check-failed (plainChecked table brought pattern bytes (length before)) r (sym f ∙ e) in
+  fails-called r e =
+      let c = check-failed (plainChecked table brought pattern bytes (length before)) r e in
       fails refusal tells binds before (plainChecked table brought pattern bytes (length before)) (PlainDemanded table brought pattern bytes before) demanded-of r (c .0) (c .1)
 
-  module _ {k : Check} (e : k ≡ checkOf (plainChecked table brought pattern bytes (length before))) (f : k ≡ Passed) where
-    -- where all pass, the pattern is short
-    pub passes-short : length pattern ≤ longestPattern
-    passes-short =
-        let c = check-passed (plainChecked table brought pattern bytes (length before)) (sym f ∙ e) in
-        let i = checked-exactly table pattern bytes pattern-octets record-octets brought (length before) (c .0) (c .1) .0 (c .2) in
-        narrow table (classesOf brought) pattern bytes (brought-alike table brought (i .1)) (c .0) (c .1) (i .2 .0) 0
+  -- the pattern's own
+  pub first-called : {k : Check} {r : Refusal} → k ≡ checkOf (ruleChecked table brought pattern (length before)) → k ≡ Failed r
+      → PlainCalled table brought pattern bytes before (Refused r) before
+  first-called {k} {r} e f = fails-called r (first-fails table brought pattern bytes (length before) r (sym f ∙ e))
 
-    -- and the tier takes the class list that is brought, or an empty one
-    pub passes-called : (classes : List ℕ) → classes ≡ classesOf brought → (a : Answer) (after : List ℕ)
-        → (a ≡ toldEnding (tierOn table classes pattern bytes noParts)) × (after ≡ shownEnding (tierOn table classes pattern bytes noParts) before)
-        → length after ≡ length before → Called a after
-    unfolding plainOf plainBufferOf
-    passes-called classes same a after m =
-        let c = check-passed (plainChecked table brought pattern bytes (length before)) (sym f ∙ e) in
-        let i = checked-exactly table pattern bytes pattern-octets record-octets brought (length before) (c .0) (c .1) .0 (c .2) in
-        let z = linked table (classesOf brought) pattern bytes (brought-alike table brought (i .1)) (c .0) (c .1) (i .2 .0) (i .2 .1) before (i .0) in
-        let n = rw same at m in
-        passes refusal tells binds before (plainChecked table brought pattern bytes (length before)) (PlainDemanded table brought pattern bytes before) demanded-of
-        (c .0, c .1) (c .2) a after (n .0 ∙ z .0) (n .1 ∙ z .1)
+  module _ (rule : Passed ≡ checkOf (ruleChecked table brought pattern (length before))) where
+    pub plain-called : plainFrom table pattern false 0 ≡ false → PlainCalled table brought pattern bytes before (Refused NotPlain) before
+    plain-called h = fails-called NotPlain (plain-fails table brought pattern bytes (length before) pattern-octets rule h)
+
+    module _ (is-plain : plainFrom table pattern false 0 ≡ true) where
+      pub record-called : (r : Refusal) → shownRead (readRecord table bytes) ≡ Read.Refused r → PlainCalled table brought pattern bytes before (Refused r) before
+      record-called r h = fails-called r (record-fails table brought pattern bytes (length before) pattern-octets rule is-plain r h)
+
+      -- the tier takes the class list that is brought, or an empty one
+      pub passes-called : (m : ℕ) → shownRead (readRecord table bytes) ≡ Ends m → (classes : List ℕ) → classes ≡ classesOf brought → (a : Answer) (after : List ℕ)
+          → (a ≡ toldEnding (tierOn table classes pattern bytes noParts)) × (after ≡ shownEnding (tierOn table classes pattern bytes noParts) before)
+          → length after ≡ length before → PlainCalled table brought pattern bytes before a after
+      unfolding plainOf plainBufferOf
+      passes-called m ends classes same a after h =
+          let e = all-pass table brought pattern bytes (length before) pattern-octets rule is-plain m ends in
+          let c = check-passed (plainChecked table brought pattern bytes (length before)) e in
+          let i = checked-exactly table pattern bytes pattern-octets record-octets brought (length before) (c .0 .0) (c .0 .1) .0 (c .1) in
+          let z = linked table (classesOf brought) pattern bytes (brought-alike table brought (i .1)) (c .0 .0) (c .0 .1) (i .2 .0) (i .2 .1) before (i .0) in
+          let n = rw same at h in
+          passes refusal tells binds before (plainChecked table brought pattern bytes (length before)) (PlainDemanded table brought pattern bytes before) demanded-of
+          (c .0) (c .1) a after (n .0 ∙ z .0) (n .1 ∙ z .1)
 
 -- The match of bytes as they are
 
@@ -211,13 +210,13 @@ module _ (x : Ending) (e : Tiering) (is : e ≡ tieringOf x) (before : List ℕ)
   pub ended-fails : e .fits ≡ false → (None (e .count) ≡ toldEnding x) × (before ≡ shownEnding x before)
   ended-fails h = rw (sym fits-is ∙ h) (ap (λ (y : Tiering). None (y .count)) is, refl)
 
-  pub ended-fits : e .fits ≡ true → (ps : List ℕ) → ps ≡ x .parts → (after : List ℕ) → after ≡ shownBy IsFound (partsIn (e .assigned) ps 0 variables) before
+  pub ended-fits : e .fits ≡ true → (ps : List ℕ) → ps ≡ x .parts → (after : List ℕ) → after ≡ shownParts (partsIn (e .assigned) ps 0 variables) before
       → (Bound (e .count) ≡ toldEnding x) × (after ≡ shownEnding x before)
   ended-fits h ps k after f =
       rw (sym fits-is ∙ h) (
         ap (λ (y : Tiering). Bound (y .count)) is,
-        f ∙ ap (λ (y : Tiering). shownBy IsFound (partsIn (y .assigned) ps 0 variables) before) is
-            ∙ ap (λ (y : List ℕ). shownBy IsFound (partsIn (x .assigned) y 0 variables) before) k,
+        f ∙ ap (λ (y : Tiering). shownParts (partsIn (y .assigned) ps 0 variables) before) is
+            ∙ ap (λ (y : List ℕ). shownParts (partsIn (x .assigned) y 0 variables) before) k,
       )
 
 -- the first node decides

@@ -10,7 +10,7 @@ use Rattle.term.specs.Pattern.{Pattern, name, symbol, complement, Children, end
 use Rattle.term.specs.Table.{width}
 use Rattle.term.specs.Term.{Term, node, Terms, nil, _::_, _⧺_, count, single, size, sizes}
 use Rattle.term.specs.Class.{classOf}
-use Rattle.anti_pattern.specs.Search.{Env, bind, Outcome, found, failed, firstAnswer, Result, ifTrue, ifSome, after, Deferred, Next, finish, assign, lengths, behind, freely, every, tryRun, search, searches}
+use Rattle.anti_pattern.specs.Search.{Env, bind, Answers, found, failed, firstAnswer, Result, ifTrue, ifSome, after, Deferred, Continuation, finish, assign, lengths, behind, freely, every, tryRun, search, searches}
 use Rattle.anti_pattern.proofs.Facts.{behind-alike, count-join, join-nil, join-one}
 use Rattle.plain.specs.Plain.{runNames, plainChildren}
 use Rattle.plain.specs.Tier.{taken, left}
@@ -24,10 +24,10 @@ some-fails none f h = refl
 some-fails (some x) f h = h x refl
 
 -- after a failure the second decides; where the second fails, the first does
-after-failed : (o : Outcome) (n : ℕ) (f : Unit {0} → Result) → o ≡ failed → after o n f .out ≡ f tt .out
+after-failed : (o : Answers) (n : ℕ) (f : Unit {0} → Result) → o ≡ failed → after o n f .out ≡ f tt .out
 after-failed o n f h = rw h refl
 
-after-first : (o : Outcome) (n : ℕ) (f : Unit {0} → Result) → f tt .out ≡ failed → firstAnswer (after o n f .out) ≡ firstAnswer o
+after-first : (o : Answers) (n : ℕ) (f : Unit {0} → Result) → f tt .out ≡ failed → firstAnswer (after o n f .out) ≡ firstAnswer o
 after-first (found e m o) n f h = refl
 after-first failed n f h = ap firstAnswer h
 
@@ -70,14 +70,14 @@ module _ (table classes : List ℕ) where
   mutual
     unfolding search
 
-    search-fails : (q : Pattern) (t : Term) (at : ℕ) (e : Env) (put : List Deferred) (k : Next)
+    search-fails : (q : Pattern) (t : Term) (at : ℕ) (e : Env) (put : List Deferred) (k : Continuation)
         → ((f : Env) (ds : List Deferred) → k f ds .out ≡ failed) → search table classes freely q t at e put k .out ≡ failed
     search-fails (name v) t at e put k h = some-fails (assign classes e v at (single t)) (λ f. k f put) (λ f o. h f put)
     search-fails (symbol s qs) (node r ts) at e put k h =
         true-fails (eqb (classOf classes s) (classOf classes r)) (λ u. searches table classes freely qs ts (at + width table r) e put k) (searches-fail qs ts (at + width table r) e put k h)
     search-fails (complement q) t at e put k h = h e (put ++ ((λ f. search table classes freely q t at f [] finish) ∷ []))
 
-    searches-fail : (qs : Children) (ts : Terms) (at : ℕ) (e : Env) (put : List Deferred) (k : Next)
+    searches-fail : (qs : Children) (ts : Terms) (at : ℕ) (e : Env) (put : List Deferred) (k : Continuation)
         → ((f : Env) (ds : List Deferred) → k f ds .out ≡ failed) → searches table classes freely qs ts at e put k .out ≡ failed
     searches-fail end nil at e put k h = h e put
     searches-fail end (t :: ts) at e put k h = refl
@@ -92,7 +92,7 @@ module _ (table classes : List ℕ) where
         (λ w us l. searches-fail qs us (at + sizes table w) e put k h)
 
   -- without a run name: another number of elements than of child patterns
-  pub unequal-fails : (qs : Children) (ts : Terms) (at : ℕ) (e : Env) (put : List Deferred) (k : Next) → runNames qs ≡ 0
+  pub unequal-fails : (qs : Children) (ts : Terms) (at : ℕ) (e : Env) (put : List Deferred) (k : Continuation) → runNames qs ≡ 0
       → (count ts ≡ plainChildren qs → ⊥) → searches table classes freely qs ts at e put k .out ≡ failed
   unfolding search
   unequal-fails end nil at e put k r h = absurd (h refl)
@@ -104,7 +104,7 @@ module _ (table classes : List ℕ) where
   unequal-fails (run v qs) ts at e put k r h = absurd (omega arith)
 
   -- with or without: fewer elements than plain child patterns
-  pub fewer-fails : (qs : Children) (ts : Terms) (at : ℕ) (e : Env) (put : List Deferred) (k : Next)
+  pub fewer-fails : (qs : Children) (ts : Terms) (at : ℕ) (e : Env) (put : List Deferred) (k : Continuation)
       → count ts < plainChildren qs → searches table classes freely qs ts at e put k .out ≡ failed
   unfolding search
   fewer-fails end ts at e put k h = absurd (omega arith)

@@ -5,6 +5,9 @@ pub mod Counting
 pub mod Checking
 pub mod Among
 pub mod Nodes
+pub mod Light
+pub mod Holding
+pub mod Sight
 pub mod Turns
 pub mod Looked
 pub mod Parted

@@ -1,41 +1,37 @@
 -- On accepted input the tier on bytes is the tier on trees.
-use Prim.Native.Nat.{ℕ, zero, suc, _+_, _-_, _^_, _<_, _≤_}
+use Prim.Native.Nat.{ℕ, zero, suc, _+_, _-_, _<_, _≤_}
 use native.Mathlib.Omega.{arith}
 use mathlib.Core.Path.{_≡_, refl, sym, _∙_, ap, ap₂, subst}
 use mathlib.Core.Logic.{_⊎_, inl, inr}
 use mathlib.Core.List.{List, [], _∷_, _++_}
 use mathlib.Core.Bool.{Bool, true, false, cond, _&&_, false≢true}
 use mathlib.Core.Option.{Option, none, some}
-use lib.Bits.{bitOr}
-use lib.ListN.{length, getD, drop, set, replicate, length-set, getD-replicate}
+use lib.ListN.{length, getD, drop, set, length-set, getD-replicate}
 use lib.Seq.{getD-set-same, getD-set-other}
-use lib.Dec.{eqb, leb, ltb}
-use borrow.Author.Tests.{eqb-true, eqb-false, eq-eqb, ne-eqb, lt-ltb, le-ltb, ltb-true, ltb-false}
+use lib.Dec.{eqb, ltb}
+use borrow.Author.Tests.{eqb-true, eqb-false, ne-eqb, le-ltb, ltb-true, ltb-false}
+use Rattle.term.proofs.Lists.{past-front}
 use Rattle.term.specs.Class.{classOf, Alike}
-use Rattle.term.specs.Code.{names, variables, decodeOf, byteOf}
+use Rattle.term.specs.Code.{variables, byteOf}
 use Rattle.term.specs.Extent.{entryOf, extentOf}
 use Rattle.term.specs.Limits.{Written, Shape, Counted, Fits, FitAll, longestRecord, nesting}
-use Rattle.term.specs.Part.{boundPart}
 use Rattle.term.specs.Pattern.{Pattern, name, symbol, complement, Children, end, plain, run, patternTree, childTrees, patternBytes}
-use Rattle.term.specs.Same.{sameByte}
 use Rattle.term.specs.Table.{largestTable, list, isList, width}
 use Rattle.term.specs.Term.{Term, node, Terms, nil, _::_, _⧺_, count, single, size, sizes, termTree, termTrees, termBytes, termsBytes}
 use Rattle.term.specs.Tree.{branch, empty, number, listCode, own, encode}
 use Rattle.term.specs.declared.Code.{Code}
-use Rattle.term.specs.declared.Code.the-variants.{Symbol, Name, Run, Complement}
+use Rattle.term.specs.declared.Code.the-variants.{Symbol, Name, Run}
 use Rattle.term.proofs.Codes.{code-back}
 use Rattle.term.proofs.Extents.{entry-symbol, extent-term}
 use Rattle.term.proofs.Joins.{bytes-join, sizes-join, sizes-single, fit-split}
-use Rattle.term.proofs.Sizes.{arity, number-children, number-terms, childrenBytes, node-bytes, symbol-bytes, past-front, past-term, past-terms, term-length}
+use Rattle.term.proofs.Sizes.{arity, number-children, number-terms, childrenBytes, node-bytes, symbol-bytes, past-term, past-terms}
 use Rattle.term.specs.declared.Part.{Part}
 use Rattle.anti_pattern.specs.Language.{language}
 use Rattle.anti_pattern.specs.Search.{Env, bind, start}
 use Rattle.anti_pattern.specs.Variables.{vars, varsAll, among}
-use Rattle.anti_pattern.proofs.Facts.{count-join}
 use Rattle.search.specs.Given.{elementsOf}
-use Rattle.search.specs.Inner.Memory.{packed, partPlaces}
-use Rattle.search.specs.Inner.Replies.{partsIn}
-use Rattle.search.specs.Shown.{numbers, shownBy, answerWidth}
+use Rattle.parts.specs.Packed.{partPlaces, partsIn}
+use Rattle.parts.specs.Shown.{numbers, answerWidth, shownParts}
 use Rattle.link.specs.Input.{Input}
 use Rattle.call.specs.Call.{written}
 use Rattle.matcher.specs.Call.{told, boundParts}
@@ -43,12 +39,12 @@ use Rattle.matcher.specs.declared.Answer.the-variants.{Bound, None}
 use Rattle.link.proofs.Linked.{shown-parts, table-short, short}
 use Rattle.link.proofs.Parts.{shown-bind, shown-start}
 use Rattle.link.proofs.Places.{within-terms}
-use Rattle.link.proofs.Represents.{Limited, Stands, Shown}
-use Rattle.plain.specs.Bytes.{runs, runsAmong, noRuns, listStep, listOf, symbolOf, stepBy, stepOf, Ending, ending, Standing, standing, takes, takesRun, stepped, tierFrom, standingStart, tierOn, noParts, toldEnding, shownEnding}
+use Rattle.link.proofs.Represents.{Stands, Shown}
+use Rattle.plain.specs.Bytes.{runs, runsAmong, noRuns, listStep, listOf, symbolOf, turnBy, turnOf, Ending, Standing, standing, takes, stepped, tierFrom, standingStart, tierOn, noParts, toldEnding, shownEnding}
 use Rattle.plain.specs.Plain.{NoComplement, NoComplements, Once, runNames, plainChildren, OneRun, OneRuns, Plain}
 use Rattle.plain.specs.Tier.{Tiered, comesOut, taken, left, runLength, andThen, ifTrue, tier, tiers, wholeTier, shownTier, plainAnswer}
-use Rattle.plain.specs.declared.Step.{Step}
-use Rattle.plain.specs.declared.Step.the-variants.{Fails, Enters, Notes, TakesNode, TakesRun}
+use Rattle.plain.specs.declared.Turn.{Turn}
+use Rattle.plain.specs.declared.Turn.the-variants.{Fails, Enters, Notes, TakesNode, TakesRun}
 use Rattle.plain.proofs.Agreeing.{ComesOut, Number, comes, unequal, fewer, number-comes, count-left}
 use Rattle.plain.proofs.Looked.{lastRun, no-run, runs-children}
 use Rattle.plain.proofs.Parted.{parts-take, parts-none}
@@ -146,14 +142,14 @@ module _ (table classes bytes : List ℕ) (small : length table ≤ largestTable
         → x ≡ from bs r (n + k) → Goes bs s n behind vs x (some e) k
 
   -- a name or a run name: the bytes of its code
-  leaf : (c : Code) (bs : List ℕ) (s : Standing) (n : ℕ) (x : Step) → Written false c → listCode table c ≡ false
-      → ((q : List ℕ) → stepBy c table classes q (drop (s .node) bytes) ≡ x)
+  leaf : (c : Code) (bs : List ℕ) (s : Standing) (n : ℕ) (x : Turn) → Written false c → listCode table c ≡ false
+      → ((q : List ℕ) → turnBy c table classes q (drop (s .node) bytes) ≡ x)
       → from (encode table (branch c empty) bs) s n ≡ stepped table bytes x s (n + 1) (λ b z. tierFrom table classes bytes bs b z (n + 1))
-  unfolding encode own number tierFrom stepOf
+  unfolding encode own number tierFrom turnOf
   leaf c bs s n x w l k =
       ap (λ (b : Bool). from (byteOf c ∷ cond b (0 ∷ bs) bs) s n) l
-      ∙ ap (λ (y : Step). stepped table bytes y s (n + 1) (λ b z. tierFrom table classes bytes bs b z (n + 1)))
-      (ap (λ (d : Code). stepBy d table classes (byteOf c ∷ bs) (drop (s .node) bytes)) (code-back false c w) ∙ k (byteOf c ∷ bs))
+      ∙ ap (λ (y : Turn). stepped table bytes y s (n + 1) (λ b z. tierFrom table classes bytes bs b z (n + 1)))
+      (ap (λ (d : Code). turnBy d table classes (byteOf c ∷ bs) (drop (s .node) bytes)) (code-back false c w) ∙ k (byteOf c ∷ bs))
 
   drop-term : (t : Term) (rs : List ℕ) → drop (size table t) (termBytes table t rs) ≡ rs
   drop-term t rs =
@@ -177,7 +173,7 @@ module _ (table classes bytes : List ℕ) (small : length table ≤ largestTable
       sym (alike .alike s) ∙ ap (λ (k : ℕ). getD table k 0) (eqb-true (classOf classes s) (classOf classes r) e) ∙ alike .alike r
 
   -- what a symbol's step is, by whether symbol and number come out
-  data Steps (l m : Bool) (ps : Children) (us : Terms) : Step → Bool → Type 0 where
+  data Steps (l m : Bool) (ps : Children) (us : Terms) : Turn → Bool → Type 0 where
     fails : Steps l m ps us Fails false
     enters : l ≡ m → ComesOut ps us → (runNames ps ≡ 0) ⊎ (count us ≡ arity ps) → Steps l m ps us (Enters (cond m 2 1)) true
     notes : {v : ℕ} → l ≡ true → m ≡ true → ComesOut ps us → runOf ps ≡ some v → Steps l m ps us (Notes v (count us - plainChildren ps)) true
@@ -223,9 +219,9 @@ module _ (table classes bytes : List ℕ) (small : length table ≤ largestTable
       go false e b k = after b k (eqb-false (arity ps) (count us) e) (eqb (runNames ps) 0) refl (ltb (count us) (arity ps - 1)) refl
 
   symbol-step : (s x : ℕ) (q r : List ℕ) → Written false (Symbol s)
-      → stepOf table classes (s ∷ q) (x ∷ r)
+      → turnOf table classes (s ∷ q) (x ∷ r)
       ≡ cond (eqb (classOf classes s) (classOf classes x)) (cond (eqb (entryOf table s) list) (listOf table (s ∷ q) (x ∷ r)) (Enters 1)) Fails
-  unfolding stepOf symbolOf byteOf
+  unfolding turnOf symbolOf byteOf
   symbol-step s x q r w = rw (code-back false (Symbol s) w, ne-eqb (length (x ∷ r)) 0 (λ e. omega arith))
 
   list-step : (s x n m : ℕ) (q r : List ℕ) → listOf table (s ∷ n ∷ q) (x ∷ m ∷ r) ≡ listStep n m (runsAmong table q n noRuns)
@@ -237,11 +233,11 @@ module _ (table classes bytes : List ℕ) (small : length table ≤ largestTable
 
   symbol-steps : (s r : ℕ) (ps : Children) (us : Terms) (deep deep′ : ℕ) (inList inList′ : Bool) (cs rs : List ℕ)
       → Fits table false (patternTree (symbol s ps)) deep inList → Fits table true (termTree (node r us)) deep′ inList′ → runNames ps ≤ 1
-      → Steps (isList table s) (isList table r) ps us (stepOf table classes (patternBytes table (symbol s ps) cs) (termBytes table (node r us) rs))
+      → Steps (isList table s) (isList table r) ps us (turnOf table classes (patternBytes table (symbol s ps) cs) (termBytes table (node r us) rs))
       (eqb (classOf classes s) (classOf classes r) && comesOut ps us)
   unfolding Fits Shape listCode
   symbol-steps s r ps us deep deep′ inList inList′ cs rs h k one =
-      subst (λ (x : Step). Steps (isList table s) (isList table r) ps us x (eqb (classOf classes s) (classOf classes r) && comesOut ps us)) (sym is)
+      subst (λ (x : Turn). Steps (isList table s) (isList table r) ps us x (eqb (classOf classes s) (classOf classes r) && comesOut ps us)) (sym is)
       (by (eqb (classOf classes s) (classOf classes r)) refl)
     where
       C : List ℕ
@@ -250,10 +246,10 @@ module _ (table classes bytes : List ℕ) (small : length table ≤ largestTable
       R : List ℕ
       R = termsBytes table us rs
 
-      is : stepOf table classes (patternBytes table (symbol s ps) cs) (termBytes table (node r us) rs)
+      is : turnOf table classes (patternBytes table (symbol s ps) cs) (termBytes table (node r us) rs)
           ≡ cond (eqb (classOf classes s) (classOf classes r))
           (cond (eqb (entryOf table s) list) (listOf table (s ∷ cond (isList table s) (arity ps ∷ C) C) (r ∷ cond (isList table r) (count us ∷ R) R)) (Enters 1)) Fails
-      is = ap₂ (stepOf table classes) (symbol-bytes table s ps cs) (node-bytes table r us rs) ∙ symbol-step s r _ _ (h .1)
+      is = ap₂ (turnOf table classes) (symbol-bytes table s ps cs) (node-bytes table r us rs) ∙ symbol-step s r _ _ (h .1)
 
       fixed : runNames ps ≡ 0 → arity ps ≡ count us → (b : Bool) → Number ps us b → Steps false false ps us (Enters 1) b
       fixed z e true (comes c) = enters refl c (inl z)
@@ -288,7 +284,7 @@ module _ (table classes bytes : List ℕ) (small : length table ≤ largestTable
 
   symbol-from : (s : ℕ) (ps : Children) (bs : List ℕ) (z : Standing) (n : ℕ)
       → from (patternBytes table (symbol s ps) bs) z n
-      ≡ stepped table bytes (stepOf table classes (patternBytes table (symbol s ps) bs) (drop (z .node) bytes)) z (n + 1)
+      ≡ stepped table bytes (turnOf table classes (patternBytes table (symbol s ps) bs) (drop (z .node) bytes)) z (n + 1)
       (λ b y. tierFrom table classes bytes (cond (isList table s) (number (childTrees ps) ∷ childrenBytes table ps bs) (childrenBytes table ps bs)) b y (n + 1))
   unfolding encode own byteOf listCode tierFrom
   symbol-from s ps bs z n = refl
@@ -441,8 +437,8 @@ module _ (table classes bytes : List ℕ) (small : length table ≤ largestTable
         (record { after = rs; stands = d; within = w; limited = record { left = deep′; inList = inList′; fit = (k, tt) } }))
         (λ u m. refl) (leaf (Name v) bs s n (TakesNode v (sizes table (single t))) (h .1) refl (λ q. ap (TakesNode v) i))
     tier-goes (symbol a ps) (node r us) deep deep′ inList inList′ vs s e n bs rs h k c o once g ones w d =
-        go (stepOf table classes (patternBytes table (symbol a ps) bs) (drop (s .node) bytes)) (eqb (classOf classes a) (classOf classes r) && comesOut ps us)
-        (subst (λ (y : List ℕ). Steps (isList table a) (isList table r) ps us (stepOf table classes (patternBytes table (symbol a ps) bs) y) (eqb (classOf classes a) (classOf classes r) && comesOut ps us))
+        go (turnOf table classes (patternBytes table (symbol a ps) bs) (drop (s .node) bytes)) (eqb (classOf classes a) (classOf classes r) && comesOut ps us)
+        (subst (λ (y : List ℕ). Steps (isList table a) (isList table r) ps us (turnOf table classes (patternBytes table (symbol a ps) bs) y) (eqb (classOf classes a) (classOf classes r) && comesOut ps us))
         (sym d) (symbol-steps a r ps us deep deep′ inList inList′ bs rs h k (o .0)))
         (symbol-from a ps bs s n)
         (λ j long co few kn.
@@ -460,7 +456,7 @@ module _ (table classes bytes : List ℕ) (small : length table ≤ largestTable
         behind : s .node + width table r + sizes table us ≡ s .node + (width table r + sizes table us)
         behind = omega arith
 
-        go : (y : Step) (b : Bool) → Steps (isList table a) (isList table r) ps us y b → from (patternBytes table (symbol a ps) bs) s n ≡ stepped table bytes y s (n + 1) (rest a ps bs n)
+        go : (y : Turn) (b : Bool) → Steps (isList table a) (isList table r) ps us y b → from (patternBytes table (symbol a ps) bs) s n ≡ stepped table bytes y s (n + 1) (rest a ps bs n)
             → ((j : List ℕ) → length j ≡ variables → ComesOut ps us → ((runNames ps ≡ 0 → ⊥) → count us ≤ 255) → Known j ps (count us) → Inner j)
             → Goes bs s n (s .node + (width table r + sizes table us)) (varsAll ps []) (from (patternBytes table (symbol a ps) bs) s n)
             (ifTrue b (λ u. tiers table classes ps us (s .node + width table r) e) .out)
@@ -561,7 +557,7 @@ module _ (table classes pattern bytes : List ℕ) (alike : Alike table classes) 
   pub linked : (before : List ℕ) → answerWidth ≤ length before
       → (toldEnding (tierOn table classes pattern bytes noParts) ≡ told (plainAnswer (language table classes) q t))
       × (shownEnding (tierOn table classes pattern bytes noParts) before ≡ written (boundParts (plainAnswer (language table classes) q t)) before)
-  unfolding plainAnswer shownBy tierFrom
+  unfolding plainAnswer shownParts tierFrom
   linked before wide =
       go (wholeTier (language table classes) q t .out) (wholeTier (language table classes) q t .cost)
       (goes (table-short table (i .table-accepted)) (short table classes pattern bytes alike q t i 0))

@@ -1,35 +1,35 @@
 -- On an accepted pattern's bytes the check is the check on trees.
-use Prim.Native.Nat.{ℕ, zero, suc, _+_, _%_, _^_, _<_, _≤_}
-use native.Mathlib.Nat.{zero-div}
+use Prim.Native.Nat.{ℕ, suc, _+_, _^_, _≤_}
 use native.Mathlib.Omega.{arith}
-use mathlib.Core.Path.{_≡_, refl, sym, _∙_, ap, subst}
+use mathlib.Core.Path.{_≡_, refl, sym, _∙_, ap}
 use mathlib.Core.List.{List, [], _∷_}
 use mathlib.Core.Bool.{Bool, true, false, cond, false≢true}
 use mathlib.Core.Option.{Option, none, some}
 use lib.Bits.{bitOr}
-use lib.ListN.{length, getD, drop}
+use lib.ListN.{length, drop}
 use lib.Dec.{eqb, leb, ltb}
-use borrow.Author.Tests.{eqb-true, eqb-false, eq-eqb, ne-eqb, leb-true, leb-false, lt-ltb, le-ltb}
-use Rattle.term.specs.Code.{names, variables, decodeOf, byteOf}
+use borrow.Author.Tests.{eqb-true, eqb-false, leb-true, leb-false, lt-ltb, le-ltb}
+use Rattle.term.specs.Code.{decodeOf, byteOf}
 use Rattle.term.specs.Extent.{entryOf, extentOf}
 use Rattle.term.specs.Limits.{Written, Shape, Fits, FitAll, belowOf}
 use Rattle.term.specs.Pattern.{Pattern, name, symbol, complement, Children, end, plain, run, patternTree, childTrees, patternBytes}
 use Rattle.term.specs.Table.{largestTable, list, isList}
-use Rattle.term.specs.Tree.{Trees, branch, empty, more, number, listCode, own, encode, encodes}
+use Rattle.term.specs.Tree.{Trees, branch, empty, more, number, listCode, own, encode}
 use Rattle.term.specs.declared.Code.{Code}
 use Rattle.term.specs.declared.Code.the-variants.{Symbol, Name, Run, Complement}
 use Rattle.term.proofs.Codes.{code-back}
 use Rattle.term.proofs.Extents.{entry-symbol, extent-tree}
-use Rattle.term.proofs.Sizes.{arity, number-children, childrenBytes, past-tree, symbol-bytes}
+use Rattle.term.proofs.Sizes.{arity, childrenBytes, past-tree, symbol-bytes}
 use Rattle.anti_pattern.specs.Variables.{among}
-use Rattle.search.specs.Inner.Memory.{bit}
-use Rattle.search.proofs.Masks.{bit-new, bit-other}
+use Rattle.parts.specs.Packed.{bit}
+use Rattle.parts.proofs.Masks.{bit-new, bit-other}
 use Rattle.plain.specs.Bytes.{runs, alsoRun, runsAmong, noRuns, lookList, lookSymbol, lookVariable, lookBy, lookOf, onPass, plainFrom}
 use Rattle.plain.specs.Check.{seenOr, goOn, onlyIf, look, looks, isSome, isPlain}
 use Rattle.plain.specs.Plain.{runNames}
 use Rattle.plain.specs.declared.Look.{Look}
 use Rattle.plain.specs.declared.Look.the-variants.{NotPlain, Passes}
 use Rattle.plain.specs.declared.Runs.{Runs}
+use Rattle.plain.proofs.Nodes.{none-seen}
 
 -- the run names of a list's children
 
@@ -208,9 +208,6 @@ module _ (table : List ℕ) (small : length table ≤ largestTable) where
   unfolding isPlain plainFrom
   looked q left inList h = go (look-goes q left inList [] 0 [] h (record { bits = λ v. none-seen v }))
     where
-      none-seen : (v : ℕ) → bit 0 v ≡ false
-      none-seen v = ap (λ (x : ℕ). eqb (x % 2) 1) (zero-div (2 ^ v))
-
       go : {x : Bool} {o : Option (List ℕ)} → Goes [] x o → x ≡ isSome o
       go (stops e) = e
       go (passes mask s e) = e

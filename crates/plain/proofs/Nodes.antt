@@ -1,27 +1,29 @@
 -- One node of the check and of the tier, by what is told of its bytes.
-use Prim.Native.Nat.{ℕ, zero, suc, _+_, _-_, _<_, _≤_}
+use Prim.Native.Nat.{ℕ, _-_, _%_, _^_, _<_, _≤_}
+use native.Mathlib.Nat.{zero-div}
 use native.Mathlib.Omega.{arith}
 use mathlib.Core.Path.{_≡_, refl, sym, _∙_, ap, subst}
 use mathlib.Core.List.{List, [], _∷_}
-use mathlib.Core.Bool.{Bool, true, false, cond, true≢false}
+use mathlib.Core.Bool.{Bool, true, false, cond, not, true≢false, false≢true}
+use lib.Bits.{bitOr}
 use lib.ListN.{length, getD, take, drop}
-use lib.Dec.{eqb, ltb}
-use borrow.Author.Tests.{eq-eqb, ne-eqb, lt-ltb, le-ltb}
+use lib.Dec.{eqb}
+use borrow.Author.Tests.{eqb-false, not-true, eq-eqb, ne-eqb, lt-ltb, le-ltb}
+use Rattle.term.proofs.Lists.{rest-part}
 use Rattle.term.specs.Code.{variables, decodeOf, VariableBelow}
-use Rattle.term.specs.Extent.{entryOf, extentOf}
+use Rattle.term.specs.Extent.{entryOf}
 use Rattle.term.specs.Same.{sameByte}
 use Rattle.term.specs.Table.{list}
 use Rattle.term.specs.declared.Code.{Code}
 use Rattle.term.specs.declared.Code.the-variants.{Symbol, Name, Run, Complement}
 use Rattle.term.proofs.Codes.{decode-below}
-use Rattle.reader.proofs.Steps.{rest-part}
-use Rattle.search.specs.Inner.Memory.{bit}
-use Rattle.plain.specs.Bytes.{runsAmong, noRuns, runBytes, mayHold, rootMayHold, lookList, lookSymbol, lookBy, lookOf, LookWithin, listStep, listOf, symbolOf, stepBy, stepOf, StepWithin}
+use Rattle.parts.specs.Packed.{bit}
+use Rattle.plain.specs.Bytes.{runsAmong, noRuns, runCode, runBytes, isSingle, mayHold, rootMayHold, lookList, lookSymbol, lookVariable, lookBy, lookOf, LookWithin, listStep, listOf, symbolOf, turnBy, turnOf, TurnWithin}
 use Rattle.plain.specs.declared.Runs.{Runs}
 use Rattle.plain.specs.declared.Look.{Look}
 use Rattle.plain.specs.declared.Look.the-variants.{NotPlain, Passes}
-use Rattle.plain.specs.declared.Step.{Step}
-use Rattle.plain.specs.declared.Step.the-variants.{Fails, Enters, Notes, TakesNode, TakesRun}
+use Rattle.plain.specs.declared.Turn.{Turn}
+use Rattle.plain.specs.declared.Turn.the-variants.{Fails, Enters, Notes}
 use Rattle.plain.proofs.Among.{bytes-behind, among-bytes}
 
 -- a variable's number is one of those of the answer buffer
@@ -34,6 +36,20 @@ unfolding VariableBelow
 run-below b c v e f = subst VariableBelow (sym e ∙ f) (decode-below b)
 
 -- The check
+
+-- no variable is in the mask 0
+pub none-seen : (v : ℕ) → bit 0 v ≡ false
+none-seen v = ap (λ (x : ℕ). eqb (x % 2) 1) (zero-div (2 ^ v))
+
+pub variable-within : (q : List ℕ) (seen v : ℕ) → 0 < length q → (x : Look) → x ≡ lookVariable seen v → LookWithin q x
+variable-within q seen v h x e = subst (LookWithin q) (sym e) (go (bit seen v))
+  where
+    go : (a : Bool) → LookWithin q (cond a NotPlain (Passes (bitOr seen (2 ^ v)) 1))
+    go true = tt
+    go false = (omega arith, omega arith, omega arith)
+
+pub single-by : (table : List ℕ) (c : Code) (b e : ℕ) → c ≡ Symbol b → e ≡ entryOf table b → not (eqb e list) ≡ isSingle table c
+single-by table c b e h i = rw (h, i)
 
 module _ (table q : List ℕ) (seen : ℕ) where
   pub look-short : length q < 2 → NotPlain ≡ lookList table q seen
@@ -69,37 +85,24 @@ module _ (table q : List ℕ) (seen : ℕ) where
     unfolding lookSymbol
     look-other h = rw (ne-eqb (entryOf table b) list (λ z. h (entry ∙ z)))
 
-  within-list : (a b : Bool) → LookWithin (cond a NotPlain (cond b NotPlain (Passes seen 2)))
-  within-list true b = tt
-  within-list false true = tt
-  within-list false false = (omega arith, omega arith)
-
-  within-symbol : (a : Bool) (x : Look) → LookWithin x → LookWithin (cond a x (Passes seen 1))
-  within-symbol true x h = h
-  within-symbol false x h = (omega arith, omega arith)
-
-  within-variable : (a : Bool) (m : ℕ) → LookWithin (cond a NotPlain (Passes m 1))
-  within-variable true m = tt
-  within-variable false m = (omega arith, omega arith)
-
-  look-within : (c : Code) → LookWithin (lookBy c table q seen)
-  unfolding lookSymbol lookList
-  look-within (Symbol b) = within-symbol (eqb (entryOf table b) list) (lookList table q seen) (within-list (ltb (length q) 2) (ltb 1 (runsAmong table (drop 2 q) (getD q 1 0) noRuns .number)))
-  look-within (Name v) = within-variable (bit seen v) _
-  look-within (Run v) = within-variable (bit seen v) _
-  look-within Complement = tt
-  look-within Code.Refused = tt
-
   -- by the code of the byte that stands there
-  pub look-by : (c d : Code) → c ≡ decodeOf (getD q 0 0) → c ≡ d → (x : Look) → x ≡ lookBy d table q seen → (x ≡ lookOf table q seen) × LookWithin x
+  pub look-by : (c d : Code) → c ≡ decodeOf (getD q 0 0) → c ≡ d → (x : Look) → x ≡ lookBy d table q seen → x ≡ lookOf table q seen
   unfolding lookOf
-  look-by c d e f x h = (h ∙ ap (λ (y : Code). lookBy y table q seen) (sym f ∙ e), subst LookWithin (sym h) (look-within d))
+  look-by c d e f x h = h ∙ ap (λ (y : Code). lookBy y table q seen) (sym f ∙ e)
+
+  -- a symbol with no number behind it
+  pub single-passes : (c : Code) → isSingle table c ≡ true → (lookBy c table q seen ≡ Passes seen 1) × (runCode c ≡ 0)
+  single-passes (Symbol b) h = (sym (look-other b (entryOf table b) refl (eqb-false (entryOf table b) list (not-true (eqb (entryOf table b) list) h))), refl)
+  single-passes (Name v) h = absurd (false≢true h)
+  single-passes (Run v) h = absurd (false≢true h)
+  single-passes Complement h = absurd (false≢true h)
+  single-passes Code.Refused h = absurd (false≢true h)
 
 -- The tier
 
 module _ (table q r : List ℕ) where
-  abbrev Listed : Step → Type 0
-  Listed x = (x ≡ listOf table q r) × StepWithin q r x
+  abbrev Listed : Turn → Type 0
+  Listed x = (x ≡ listOf table q r) × TurnWithin q r x
 
   pub list-short : length q < 2 → Listed Fails
   unfolding listOf
@@ -111,7 +114,7 @@ module _ (table q r : List ℕ) where
     list-cut h = (rw (le-ltb (length q) 2 wide, lt-ltb (length r) 2 h), tt)
 
     module _ (far : 2 ≤ length r) where
-      by-list : (x : Step) → x ≡ listStep (getD q 1 0) (getD r 1 0) (runsAmong table (drop 2 q) (getD q 1 0) noRuns) → x ≡ listOf table q r
+      by-list : (x : Turn) → x ≡ listStep (getD q 1 0) (getD r 1 0) (runsAmong table (drop 2 q) (getD q 1 0) noRuns) → x ≡ listOf table q r
       unfolding listOf
       by-list x h = rw (le-ltb (length q) 2 wide, le-ltb (length r) 2 far) h
 
@@ -142,8 +145,8 @@ module _ (table q r : List ℕ) where
           )
 
 module _ (table classes q r : List ℕ) (b : ℕ) where
-  abbrev Matched : Step → Type 0
-  Matched x = (x ≡ symbolOf table classes q r b) × StepWithin q r x
+  abbrev Matched : Turn → Type 0
+  Matched x = (x ≡ symbolOf table classes q r b) × TurnWithin q r x
 
   pub symbol-none : length r ≡ 0 → Matched Fails
   unfolding symbolOf
@@ -155,7 +158,7 @@ module _ (table classes q r : List ℕ) (b : ℕ) where
     symbol-differs h = (rw (ne-eqb (length r) 0 some, h), tt)
 
     module _ (same : sameByte classes false b (getD r 0 0) ≡ true) (e : ℕ) (entry : e ≡ entryOf table b) where
-      pub symbol-list : e ≡ list → (x : Step) → (x ≡ listOf table q r) × StepWithin q r x → Matched x
+      pub symbol-list : e ≡ list → (x : Turn) → (x ≡ listOf table q r) × TurnWithin q r x → Matched x
       unfolding symbolOf
       symbol-list h x i = (rw (ne-eqb (length r) 0 some, same, eq-eqb (entryOf table b) list (sym entry ∙ h)) (i .0), i .1)
 
@@ -167,17 +170,17 @@ module _ (table classes q r : List ℕ) (b : ℕ) where
       )
 
 -- a node that can't hold, by its code alone
-pub code-fails : (table classes q : List ℕ) (c : Code) (x : ℕ) (r : List ℕ) → mayHold classes c x ≡ false → stepBy c table classes q (x ∷ r) ≡ Fails
+pub code-fails : (table classes q : List ℕ) (c : Code) (x : ℕ) (r : List ℕ) → mayHold classes c x ≡ false → turnBy c table classes q (x ∷ r) ≡ Fails
 code-fails table classes q (Symbol b) x r h = sym (symbol-differs table classes q (x ∷ r) b (λ z. omega arith) h .0)
 code-fails table classes q (Name v) x r h = absurd (true≢false h)
 code-fails table classes q (Run v) x r h = absurd (true≢false h)
 code-fails table classes q Complement x r h = absurd (true≢false h)
 code-fails table classes q Code.Refused x r h = absurd (true≢false h)
 
-pub step-by : (table classes q r : List ℕ) (c d : Code) → c ≡ decodeOf (getD q 0 0) → c ≡ d → (x : Step) → x ≡ stepBy d table classes q r → StepWithin q r x
-    → (x ≡ stepOf table classes q r) × StepWithin q r x
-unfolding stepOf
-step-by table classes q r c d e f x h w = (h ∙ ap (λ (y : Code). stepBy y table classes q r) (sym f ∙ e), w)
+pub step-by : (table classes q r : List ℕ) (c d : Code) → c ≡ decodeOf (getD q 0 0) → c ≡ d → (x : Turn) → x ≡ turnBy d table classes q r → TurnWithin q r x
+    → (x ≡ turnOf table classes q r) × TurnWithin q r x
+unfolding turnOf
+step-by table classes q r c d e f x h w = (h ∙ ap (λ (y : Code). turnBy y table classes q r) (sym f ∙ e), w)
 
 -- the first node, by what is told of its bytes
 
@@ -199,13 +202,13 @@ module _ (classes q r : List ℕ) where
     root-by far c e x h =
         rw (ne-eqb (length q) 0 some, ne-eqb (length r) 0 far) (h ∙ ap (λ (y : Code). mayHold classes y (getD r 0 0)) e)
 
-root-code : (table classes q : List ℕ) (b : ℕ) (r : List ℕ) → rootMayHold classes (b ∷ q) r ≡ false → stepOf table classes (b ∷ q) r ≡ Fails
-unfolding stepOf
+root-code : (table classes q : List ℕ) (b : ℕ) (r : List ℕ) → rootMayHold classes (b ∷ q) r ≡ false → turnOf table classes (b ∷ q) r ≡ Fails
+unfolding turnOf
 root-code table classes q b [] h = absurd (true≢false (root-no-record classes (b ∷ q) [] (λ z. omega arith) refl ∙ h))
 root-code table classes q b (x ∷ r) h =
     code-fails table classes (b ∷ q) (decodeOf b) x r
     (root-by classes (b ∷ q) (x ∷ r) (λ z. omega arith) (λ z. omega arith) (decodeOf b) refl (mayHold classes (decodeOf b) x) refl ∙ h)
 
-pub root-step : (table classes q r : List ℕ) → rootMayHold classes q r ≡ false → stepOf table classes q r ≡ Fails
+pub root-step : (table classes q r : List ℕ) → rootMayHold classes q r ≡ false → turnOf table classes q r ≡ Fails
 root-step table classes [] r h = absurd (true≢false (root-no-pattern classes [] r refl ∙ h))
 root-step table classes (b ∷ q) r h = root-code table classes q b r h

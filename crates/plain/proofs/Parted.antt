@@ -1,5 +1,5 @@
 -- What the variables have, by mask and parts: a variable takes a part.
-use Prim.Native.Nat.{ℕ, zero, suc, _+_, _^_, _<_}
+use Prim.Native.Nat.{ℕ, _+_, _^_, _<_}
 use native.Mathlib.Omega.{arith}
 use mathlib.Core.Path.{_≡_, refl, sym, _∙_, ap}
 use mathlib.Core.List.{List}
@@ -11,30 +11,17 @@ use lib.Dec.{eqb}
 use borrow.Author.Tests.{eqb-true, eqb-false}
 use Rattle.term.specs.Code.{variables}
 use Rattle.term.specs.Part.{part, absent, boundPart}
-use Rattle.term.specs.declared.Part.{Part}
-use Rattle.search.specs.Inner.Memory.{bit, packed, unpacked, partIn, partPlaces}
-use Rattle.search.specs.Inner.Replies.{partsIn}
-use Rattle.search.proofs.Kept.{parts-shown}
-use Rattle.search.proofs.Masks.{bit-new, bit-other, part-back}
+use Rattle.parts.specs.Packed.{bit, packed, unpacked, partIn, partPlaces, partsIn}
+use Rattle.parts.proofs.Shown.{parts-shown, parts-length, parts-from}
+use Rattle.parts.proofs.Masks.{bit-new, bit-other, part-back}
 use Rattle.plain.specs.Bytes.{noParts}
 
 module _ (assigned : ℕ) (parts : List ℕ) where
-  parts-length : (v k : ℕ) → length (partsIn assigned parts v k) ≡ k
-  unfolding partsIn
-  parts-length v zero = refl
-  parts-length v (suc k) = ap suc (parts-length (v + 1) k)
-
-  parts-from : (v k i : ℕ) → i < k → getD (partsIn assigned parts v k) i (part 0 0 0) ≡ partIn assigned parts (v + i)
-  unfolding partsIn
-  parts-from v zero i h = absurd (omega arith)
-  parts-from v (suc k) zero h = let z : v ≡ v + 0 = omega arith in ap (partIn assigned parts) z
-  parts-from v (suc k) (suc i) h = let z : v + 1 + i ≡ v + suc i = omega arith in parts-from (v + 1) k i (omega arith) ∙ ap (partIn assigned parts) z
-
   pub parts-take : length parts ≡ partPlaces → (v node size n : ℕ) → v < variables → n < 256
       → partsIn (bitOr assigned (2 ^ v)) (set parts v (packed (boundPart node size n))) 0 variables ≡ set (partsIn assigned parts 0 variables) v (boundPart node size n)
   parts-take long v node size n low few =
       sym (parts-shown (bitOr assigned (2 ^ v)) (set parts v (packed (boundPart node size n))) 0 variables (set (partsIn assigned parts 0 variables) v (boundPart node size n))
-      (length-set (partsIn assigned parts 0 variables) v _ ∙ parts-length 0 variables) (λ i l. at i l (eqb v i) refl))
+      (length-set (partsIn assigned parts 0 variables) v _ ∙ parts-length assigned parts 0 variables) (λ i l. at i l (eqb v i) refl))
     where
       at : (i : ℕ) → i < variables → (b : Bool) → eqb v i ≡ b
           → getD (set (partsIn assigned parts 0 variables) v (boundPart node size n)) i (part 0 0 0)
@@ -43,7 +30,7 @@ module _ (assigned : ℕ) (parts : List ℕ) where
           let z : i ≡ v = sym (eqb-true v i e) in
           let y : 0 + i ≡ v = omega arith in
           ap (λ (j : ℕ). getD (set (partsIn assigned parts 0 variables) v (boundPart node size n)) j (part 0 0 0)) z
-          ∙ getD-set-same (partsIn assigned parts 0 variables) v _ (part 0 0 0) (omega (arith, parts-length 0 variables))
+          ∙ getD-set-same (partsIn assigned parts 0 variables) v _ (part 0 0 0) (omega (arith, parts-length assigned parts 0 variables))
           ∙ sym (ap (partIn (bitOr assigned (2 ^ v)) (set parts v (packed (boundPart node size n)))) y
           ∙ ap (λ (b : Bool). cond b (unpacked (getD (set parts v (packed (boundPart node size n))) v 0)) absent) (bit-new assigned v)
           ∙ ap unpacked (getD-set-same parts v (packed (boundPart node size n)) 0 (omega (arith, long))) ∙ part-back node size n few)
@@ -51,7 +38,7 @@ module _ (assigned : ℕ) (parts : List ℕ) where
           let d : i ≡ v → ⊥ = λ x. eqb-false v i e (sym x) in
           let y : 0 + i ≡ i = omega arith in
           getD-set-other (partsIn assigned parts 0 variables) v i _ (part 0 0 0) d
-          ∙ parts-from 0 variables i l
+          ∙ parts-from assigned parts 0 variables i l
           ∙ ap (partIn assigned parts) y
           ∙ sym (ap (partIn (bitOr assigned (2 ^ v)) (set parts v (packed (boundPart node size n)))) y
           ∙ ap (λ (b : Bool). cond b (unpacked (getD (set parts v (packed (boundPart node size n))) i 0)) absent) (bit-other assigned v i (λ x. d (sym x)))

@@ -4,23 +4,25 @@ use native.Mathlib.Omega.{arith}
 use mathlib.Core.Path.{_≡_, refl, sym, _∙_, ap, ap₂, subst}
 use mathlib.Core.Logic.{_⊎_, inl, inr}
 use mathlib.Core.List.{List, [], _∷_}
-use mathlib.Core.Bool.{Bool, true, false, true≢false}
+use mathlib.Core.Bool.{Bool, true, false, cond, true≢false}
 use lib.Bits.{bitOr}
 use lib.ListN.{length, getD, take, drop, set, drop-of-length-le}
 use lib.Seq.{drop-cons, drop-drop}
 use lib.Dec.{eqb}
+use Rattle.term.proofs.Lists.{rest-part, rest-length}
 use Rattle.term.specs.Part.{boundPart}
-use Rattle.reader.proofs.Steps.{rest-part}
-use Rattle.term.specs.Code.{variables}
-use Rattle.skips.proofs.Passing.{rest-length}
+use Rattle.term.specs.Code.{variables, decodeOf}
+use Rattle.term.specs.Same.{sameByte}
+use Rattle.term.specs.declared.Code.{Code}
 use Rattle.search.specs.Given.{elementsOf}
-use Rattle.search.specs.Inner.Memory.{packed}
-use Rattle.plain.specs.Bytes.{lookOf, onPass, plainFrom, stepOf, StepWithin, Ending, ending, tieringOf, Standing, standing, takes, takesRun, stepped, tierFrom, standingStart, tierOn, rootMayHold}
-use Rattle.plain.proofs.Nodes.{root-no-pattern, root-step}
+use Rattle.parts.specs.Packed.{packed}
+use Rattle.plain.specs.Bytes.{lookOf, onPass, plainFrom, isLeaf, leavesOf, turnBy, turnOf, TurnWithin, Ending, ending, tieringOf, Standing, standing, takes, stepped, tierFrom, standingStart, tierOn, rootMayHold}
+use Rattle.plain.proofs.Nodes.{symbol-other, root-no-pattern, root-step}
+use Rattle.plain.proofs.Holding.{leaf-is}
 use Rattle.plain.specs.declared.Look.{Look}
 use Rattle.plain.specs.declared.Look.the-variants.{NotPlain, Passes}
-use Rattle.plain.specs.declared.Step.{Step}
-use Rattle.plain.specs.declared.Step.the-variants.{Fails, Enters, Notes, TakesNode, TakesRun}
+use Rattle.plain.specs.declared.Turn.{Turn}
+use Rattle.plain.specs.declared.Turn.the-variants.{Fails, Enters, Notes, TakesNode, TakesRun}
 use Rattle.plain.specs.declared.Tiering.{Tiering}
 
 one-or-two : (w : ℕ) → 1 ≤ w → w ≤ 2 → (w ≡ 1) ⊎ (w ≡ 2)
@@ -80,12 +82,54 @@ module _ (table classes bytes : List ℕ) where
   skip-tier s n [] = refl
   skip-tier s n (b ∷ l) = refl
 
+  leaf-turn : (b x : ℕ) (q r : List ℕ) (s : Standing) (n : ℕ) → drop (s .node) bytes ≡ x ∷ r → isLeaf table (decodeOf b) ≡ true → sameByte classes false b x ≡ true
+      → tierFrom table classes bytes (b ∷ q) false s n ≡ tierFrom table classes bytes q false (standing (s .node + 1) (s .lengths) (s .assigned) (s .parts)) (n + 1)
+  unfolding tierFrom turnOf
+  leaf-turn b x q r s n e leaf same =
+      let i = leaf-is table b leaf in
+      let step : turnOf table classes (b ∷ q) (drop (s .node) bytes) ≡ Enters 1 =
+      ap₂ (λ (c : Code) (l : List ℕ). turnBy c table classes (b ∷ q) l) (i .0) e
+      ∙ sym (symbol-other table classes (b ∷ q) (x ∷ r) b (λ z. omega arith) same 0 (sym (i .1)) (λ z. omega arith) (omega arith) .0) in
+      ap (λ (y : Turn). stepped table bytes y s (n + 1) (λ c z. tierFrom table classes bytes q c z (n + 1))) step
+
+  -- symbols without children that hold are passed at once, each counted
+  module _ (lengths : List ℕ) (assigned : ℕ) (parts : List ℕ) where
+    abbrev From : List ℕ → ℕ → ℕ → Ending
+    From q node count = tierFrom table classes bytes q false (standing node lengths assigned parts) count
+
+    abbrev Passed : List ℕ → ℕ → ℕ → ℕ → Type 0
+    Passed q node count k = From q node count ≡ From (drop k q) (node + k) (count + k)
+
+    passed-none : (q : List ℕ) (node count : ℕ) → Passed q node count 0
+    passed-none q node count =
+        let i : node ≡ node + 0 = omega arith in
+        let j : count ≡ count + 0 = omega arith in
+        ap₂ (From q) i j
+
+    leaves-passed : (q r : List ℕ) (node count : ℕ) → drop node bytes ≡ r → Passed q node count (leavesOf table classes q r)
+    unfolding leavesOf
+    leaves-passed [] r node count e = passed-none [] node count
+    leaves-passed (b ∷ q) [] node count e = passed-none (b ∷ q) node count
+    leaves-passed (b ∷ q) (x ∷ r) node count e =
+        go (isLeaf table (decodeOf b)) refl (sameByte classes false b x) refl
+        (leaves-passed q r (node + 1) (count + 1) (sym (drop-drop 1 node bytes) ∙ ap (drop 1) e))
+      where
+        go : (l : Bool) → isLeaf table (decodeOf b) ≡ l → (m : Bool) → sameByte classes false b x ≡ m
+            → Passed q (node + 1) (count + 1) (leavesOf table classes q r) → Passed (b ∷ q) node count (cond l (cond m (suc (leavesOf table classes q r)) 0) 0)
+        go false h m i p = passed-none (b ∷ q) node count
+        go true h false i p = passed-none (b ∷ q) node count
+        go true h true i p =
+            let k = leavesOf table classes q r in
+            let y : node + 1 + k ≡ node + suc k = omega arith in
+            let z : count + 1 + k ≡ count + suc k = omega arith in
+            leaf-turn b x q r (standing node lengths assigned parts) count e h i ∙ p ∙ ap₂ (From (drop k q)) y z
+
   -- a first node that can't hold is the end
   pub root-fails : (pattern parts : List ℕ) → rootMayHold classes pattern bytes ≡ false → tierOn table classes pattern bytes parts ≡ ending false 1 0 parts
   unfolding tierOn tierFrom
   root-fails [] parts h = absurd (true≢false (root-no-pattern classes [] bytes refl ∙ h))
   root-fails (b ∷ q) parts h =
-      ap (λ (x : Step). stepped table bytes x (standingStart parts) 1 (λ c s. tierFrom table classes bytes q c s 1)) (root-step table classes (b ∷ q) bytes h)
+      ap (λ (x : Turn). stepped table bytes x (standingStart parts) 1 (λ c s. tierFrom table classes bytes q c s 1)) (root-step table classes (b ∷ q) bytes h)
 
   module _ (pattern parts₀ : List ℕ) where
     -- what is left of the loop from here on
@@ -119,16 +163,30 @@ module _ (table classes bytes : List ℕ) where
       turning-end h =
           ends (ending true count assigned parts) (t .same ∙ ap (λ (l : List ℕ). tierFrom table classes bytes l false here count) (drop-of-length-le pattern h))
 
-      module _ (within : at < length pattern) (x : Step)
-          (e : x ≡ stepOf table classes (take (length pattern - at) (drop at pattern)) (take (length bytes - node) (drop node bytes))) where
-        abbrev on : Step → Ending
+      pub turning-leaves : (n : ℕ) → n ≡ leavesOf table classes (take (length pattern - at) (drop at pattern)) (take (length bytes - node) (drop node bytes))
+          → (n ≤ length (take (length pattern - at) (drop at pattern))) × (n ≤ length (take (length bytes - node) (drop node bytes)))
+          → Turning lengths (at + n) (node + n) (count + n) assigned parts
+      turning-leaves n e w =
+          let z : leavesOf table classes (drop at pattern) (drop node bytes) ≡ n =
+          sym (e ∙ ap₂ (leavesOf table classes) (rest-part at pattern) (rest-part node bytes)) in record {
+            few = omega (arith, t .few);
+            at-within = omega (arith, w .0, rest-length at pattern, t .at-within);
+            node-within = omega (arith, w .1, rest-length node bytes, t .node-within);
+            same = t .same ∙ leaves-passed lengths assigned parts (drop at pattern) (drop node bytes) node count refl
+                ∙ ap (λ (m : ℕ). From lengths assigned parts (drop m (drop at pattern)) (node + m) (count + m)) z
+                ∙ ap (λ (q : List ℕ). From lengths assigned parts q (node + n) (count + n)) (drop-drop n at pattern);
+          }
+
+      module _ (within : at < length pattern) (x : Turn)
+          (e : x ≡ turnOf table classes (take (length pattern - at) (drop at pattern)) (take (length bytes - node) (drop node bytes))) where
+        abbrev on : Turn → Ending
         on y = stepped table bytes y here (count + 1) (λ c z. tierFrom table classes bytes (drop (suc at) pattern) c z (count + 1))
 
         by-step : tierOn table classes pattern bytes parts₀ ≡ on x
         unfolding tierFrom
         by-step =
             t .same ∙ ap (λ (l : List ℕ). tierFrom table classes bytes l false here count) (drop-cons pattern at 0 within)
-            ∙ ap on (sym (e ∙ ap₂ (stepOf table classes) (rest-part at pattern ∙ drop-cons pattern at 0 within) (rest-part node bytes)))
+            ∙ ap on (sym (e ∙ ap₂ (turnOf table classes) (rest-part at pattern ∙ drop-cons pattern at 0 within) (rest-part node bytes)))
 
         pub turning-fails : x ≡ Fails → Ends (record { fits = false; count = count + 1; assigned = assigned }) parts
         turning-fails h = ends (ending false (count + 1) assigned parts) (by-step ∙ ap on h)
@@ -137,9 +195,9 @@ module _ (table classes bytes : List ℕ) where
             ≡ tierFrom table classes bytes (drop (at + w) pattern) false s (count + 1)
         past w s h k = past-own (λ l b. tierFrom table classes bytes l b s (count + 1)) (skip-tier s (count + 1)) pattern at w h k
 
-        module _ (stays : StepWithin (take (length pattern - at) (drop at pattern)) (take (length bytes - node) (drop node bytes)) x) where
-          stayed : {y : Step} → x ≡ y → StepWithin (take (length pattern - at) (drop at pattern)) (take (length bytes - node) (drop node bytes)) y
-          stayed h = subst (StepWithin (take (length pattern - at) (drop at pattern)) (take (length bytes - node) (drop node bytes))) h stays
+        module _ (stays : TurnWithin (take (length pattern - at) (drop at pattern)) (take (length bytes - node) (drop node bytes)) x) where
+          stayed : {y : Turn} → x ≡ y → TurnWithin (take (length pattern - at) (drop at pattern)) (take (length bytes - node) (drop node bytes)) y
+          stayed h = subst (TurnWithin (take (length pattern - at) (drop at pattern)) (take (length bytes - node) (drop node bytes))) h stays
 
           pub enters-within : (w : ℕ) → x ≡ Enters w → (1 ≤ w) × (w ≤ 2) × (at + w ≤ length pattern) × (node + w ≤ length bytes)
           enters-within w h =

@@ -1,11 +1,12 @@
 -- The check for a plain pattern and the tier on bytes, as the code has them; only the contracts of private functions cite them. Of accepted input they
 -- are the check and the tier on trees (proofs/Looked, proofs/Linked).
 use Prim.Native.Nat.{ℕ, zero, suc, _+_, _-_, _^_, _<_, _≤_}
+use mathlib.Core.Path.{_≡_}
 use mathlib.Core.List.{List, [], _∷_}
-use mathlib.Core.Bool.{Bool, true, false, cond}
+use mathlib.Core.Bool.{Bool, true, false, cond, not}
 use lib.Bits.{bitOr}
 use lib.ListN.{length, getD, drop, set, replicate}
-use lib.Dec.{eqb, leb, ltb}
+use lib.Dec.{eqb, ltb}
 use Rattle.term.specs.Code.{variables, decodeOf}
 use Rattle.term.specs.Extent.{entryOf, extentOf}
 use Rattle.term.specs.Part.{boundPart}
@@ -14,17 +15,15 @@ use Rattle.term.specs.Table.{list}
 use Rattle.term.specs.declared.Code.{Code}
 use Rattle.term.specs.declared.Code.the-variants.{Symbol, Name, Run, Complement}
 use Rattle.search.specs.Given.{elementsOf}
-use Rattle.search.specs.Inner.Memory.{bit, packed, partPlaces}
-use Rattle.search.specs.Inner.Replies.{partsIn}
-use Rattle.search.specs.Shown.{shownBy}
-use Rattle.search.specs.declared.Outcome.the-variants.{Found}
+use Rattle.parts.specs.Packed.{bit, packed, partPlaces, partsIn}
+use Rattle.parts.specs.Shown.{shownParts}
 use Rattle.matcher.specs.declared.Answer.{Answer}
 use Rattle.matcher.specs.declared.Answer.the-variants.{Bound, None}
 use Rattle.plain.specs.declared.Runs.{Runs}
 use Rattle.plain.specs.declared.Look.{Look}
 use Rattle.plain.specs.declared.Look.the-variants.{NotPlain, Passes}
-use Rattle.plain.specs.declared.Step.{Step}
-use Rattle.plain.specs.declared.Step.the-variants.{Fails, Enters, Notes, TakesNode, TakesRun}
+use Rattle.plain.specs.declared.Turn.{Turn}
+use Rattle.plain.specs.declared.Turn.the-variants.{Fails, Enters, Notes, TakesNode, TakesRun}
 use Rattle.plain.specs.declared.Tiering.{Tiering}
 
 -- Run names
@@ -48,17 +47,29 @@ runsAmong table (b ∷ s) (suc n) found = runsAmong table (drop (extentOf table 
 abbrev pub noRuns : Runs
 noRuns = runs 0 0
 
--- how many bytes of s are codes of run names
-abbrev pub runHere : Code → ℕ
-runHere (Symbol b) = 0
-runHere (Name v) = 0
-runHere (Run v) = 1
-runHere Complement = 0
-runHere Code.Refused = 0
+-- the sum over all bytes of s, each taken for a code
+unfoldable pub sumOf : (Code → ℕ) → List ℕ → ℕ
+sumOf f [] = 0
+sumOf f (b ∷ s) = f (decodeOf b) + sumOf f s
 
-unfoldable pub runBytes : List ℕ → ℕ
-runBytes [] = 0
-runBytes (b ∷ s) = runHere (decodeOf b) + runBytes s
+-- how many bytes of s are codes of run names
+abbrev pub runCode : Code → ℕ
+runCode (Symbol b) = 0
+runCode (Name v) = 0
+runCode (Run v) = 1
+runCode Complement = 0
+runCode Code.Refused = 0
+
+abbrev pub runBytes : List ℕ → ℕ
+runBytes = sumOf runCode
+
+-- a symbol without children
+abbrev pub isLeaf : List ℕ → Code → Bool
+isLeaf table (Symbol b) = eqb (entryOf table b) 0
+isLeaf table (Name v) = false
+isLeaf table (Run v) = false
+isLeaf table Complement = false
+isLeaf table Code.Refused = false
 
 -- The check
 
@@ -94,46 +105,86 @@ plainFrom table [] counting seen = true
 plainFrom table (b ∷ s) true seen = plainFrom table s false seen
 plainFrom table (b ∷ s) false seen = onPass (lookOf table (b ∷ s) seen) (λ x w. plainFrom table s (eqb w 2) x)
 
--- its own bytes are one or two
-abbrev pub LookWithin : Look → Type 0
-LookWithin NotPlain = Unit {0}
-LookWithin (Passes seen width) = (1 ≤ width) × (width ≤ 2)
+-- a byte's weight: none for a symbol, one for a variable, two for what no plain pattern has
+abbrev pub weightOf : Code → ℕ
+weightOf (Symbol b) = 0
+weightOf (Name v) = 1
+weightOf (Run v) = 1
+weightOf Complement = 2
+weightOf Code.Refused = 2
+
+abbrev pub weightsOf : List ℕ → ℕ
+weightsOf = sumOf weightOf
+
+-- the bytes of a list at the root, of which the second is no code
+abbrev pub rootBytes : List ℕ → Code → ℕ
+rootBytes table (Symbol b) = cond (eqb (entryOf table b) list) 2 0
+rootBytes table (Name v) = 0
+rootBytes table (Run v) = 0
+rootBytes table Complement = 0
+rootBytes table Code.Refused = 0
+
+-- a symbol with no number behind it
+abbrev pub isSingle : List ℕ → Code → Bool
+isSingle table (Symbol b) = not (eqb (entryOf table b) list)
+isSingle table (Name v) = false
+isSingle table (Run v) = false
+isSingle table Complement = false
+isSingle table Code.Refused = false
+
+-- the first n bytes of s need no look: they change neither the check nor the number of run names
+abbrev pub Singles : List ℕ → List ℕ → ℕ → Type 0
+Singles table s n =
+    (n ≤ length s) × ((seen : ℕ) → plainFrom table s false seen ≡ plainFrom table (drop n s) false seen) × (runBytes s ≡ runBytes (drop n s))
+
+-- what one pass tells: true of plain patterns only
+abbrev pub SurelyPlain : List ℕ → List ℕ → Bool → Type 0
+SurelyPlain table s told = told ≡ true → plainFrom table s false 0 ≡ true
+
+-- told of bytes with at most so many codes of run names
+abbrev pub IfFew : List ℕ → ℕ → Look → Look → Type 0
+IfFew q most r x = runBytes q ≤ most → r ≡ x
+
+-- its own bytes are one or two of q
+abbrev pub LookWithin : List ℕ → Look → Type 0
+LookWithin q NotPlain = Unit {0}
+LookWithin q (Passes seen width) = (1 ≤ width) × (width ≤ 2) × (width ≤ length q)
 
 -- The tier
 
 -- a list against a list: where the numbers of children differ, a run name takes what its other child patterns leave
-unfoldable pub listStep : ℕ → ℕ → Runs → Step
+unfoldable pub listStep : ℕ → ℕ → Runs → Turn
 listStep n m found =
     cond (eqb n m) (Enters 2) (cond (eqb (found .number) 0) Fails (cond (ltb m (n - 1)) Fails (Notes (found .variable) (m - (n - 1)))))
 
-unfoldable pub listOf : List ℕ → List ℕ → List ℕ → Step
+unfoldable pub listOf : List ℕ → List ℕ → List ℕ → Turn
 listOf table q r =
     cond (ltb (length q) 2) Fails
     (cond (ltb (length r) 2) Fails (listStep (getD q 1 0) (getD r 1 0) (runsAmong table (drop 2 q) (getD q 1 0) noRuns)))
 
-unfoldable pub symbolOf : List ℕ → List ℕ → List ℕ → List ℕ → ℕ → Step
+unfoldable pub symbolOf : List ℕ → List ℕ → List ℕ → List ℕ → ℕ → Turn
 symbolOf table classes q r b =
     cond (eqb (length r) 0) Fails
     (cond (sameByte classes false b (getD r 0 0)) (cond (eqb (entryOf table b) list) (listOf table q r) (Enters 1)) Fails)
 
 -- a pattern node, whose bytes stand at the start of q, set against the record's bytes r
-abbrev pub stepBy : Code → List ℕ → List ℕ → List ℕ → List ℕ → Step
-stepBy (Symbol b) table classes q r = symbolOf table classes q r b
-stepBy (Name v) table classes q r = TakesNode v (extentOf table r)
-stepBy (Run v) table classes q r = TakesRun v
-stepBy Complement table classes q r = Fails
-stepBy Code.Refused table classes q r = Fails
+abbrev pub turnBy : Code → List ℕ → List ℕ → List ℕ → List ℕ → Turn
+turnBy (Symbol b) table classes q r = symbolOf table classes q r b
+turnBy (Name v) table classes q r = TakesNode v (extentOf table r)
+turnBy (Run v) table classes q r = TakesRun v
+turnBy Complement table classes q r = Fails
+turnBy Code.Refused table classes q r = Fails
 
-unfoldable pub stepOf : List ℕ → List ℕ → List ℕ → List ℕ → Step
-stepOf table classes q r = stepBy (decodeOf (getD q 0 0)) table classes q r
+unfoldable pub turnOf : List ℕ → List ℕ → List ℕ → List ℕ → Turn
+turnOf table classes q r = turnBy (decodeOf (getD q 0 0)) table classes q r
 
 -- it stays within q and r, and variables are those of the answer
-abbrev pub StepWithin : List ℕ → List ℕ → Step → Type 0
-StepWithin q r Fails = Unit {0}
-StepWithin q r (Enters width) = (1 ≤ width) × (width ≤ 2) × (width ≤ length q) × (width ≤ length r)
-StepWithin q r (Notes v n) = (v < variables) × (2 ≤ length q) × (2 ≤ length r)
-StepWithin q r (TakesNode v size) = (v < variables) × (size ≤ length r)
-StepWithin q r (TakesRun v) = v < variables
+abbrev pub TurnWithin : List ℕ → List ℕ → Turn → Type 0
+TurnWithin q r Fails = Unit {0}
+TurnWithin q r (Enters width) = (1 ≤ width) × (width ≤ 2) × (width ≤ length q) × (width ≤ length r)
+TurnWithin q r (Notes v n) = (v < variables) × (2 ≤ length q) × (2 ≤ length r)
+TurnWithin q r (TakesNode v size) = (v < variables) × (size ≤ length r)
+TurnWithin q r (TakesRun v) = v < variables
 
 -- where the tier ends: whether all nodes hold, the count, and what the variables have, by mask and parts
 pub record Ending : Type 0 where
@@ -168,7 +219,7 @@ abbrev pub takesRun : List ℕ → List ℕ → Standing → ℕ → Standing
 takesRun table bytes s v = takes s v (elementsOf table (drop (s .node) bytes) (getD (s .lengths) v 0)) (getD (s .lengths) v 0)
 
 -- after a step; `f` goes on
-abbrev pub stepped : List ℕ → List ℕ → Step → Standing → ℕ → (Bool → Standing → Ending) → Ending
+abbrev pub stepped : List ℕ → List ℕ → Turn → Standing → ℕ → (Bool → Standing → Ending) → Ending
 stepped table bytes Fails s n f = ending false n (s .assigned) (s .parts)
 stepped table bytes (Enters width) s n f = f (eqb width 2) (standing (s .node + width) (s .lengths) (s .assigned) (s .parts))
 stepped table bytes (Notes v k) s n f = f true (standing (s .node + 2) (set (s .lengths) v k) (s .assigned) (s .parts))
@@ -180,7 +231,13 @@ unfoldable pub tierFrom : List ℕ → List ℕ → List ℕ → List ℕ → Bo
 tierFrom table classes bytes [] counting s n = ending true n (s .assigned) (s .parts)
 tierFrom table classes bytes (b ∷ q) true s n = tierFrom table classes bytes q false s n
 tierFrom table classes bytes (b ∷ q) false s n =
-    stepped table bytes (stepOf table classes (b ∷ q) (drop (s .node) bytes)) s (n + 1) (λ c x. tierFrom table classes bytes q c x (n + 1))
+    stepped table bytes (turnOf table classes (b ∷ q) (drop (s .node) bytes)) s (n + 1) (λ c x. tierFrom table classes bytes q c x (n + 1))
+
+-- how many nodes at the start of q are symbols without children that hold, each against the byte of r at its place
+unfoldable pub leavesOf : List ℕ → List ℕ → List ℕ → List ℕ → ℕ
+leavesOf table classes [] r = 0
+leavesOf table classes (b ∷ q) [] = 0
+leavesOf table classes (b ∷ q) (x ∷ r) = cond (isLeaf table (decodeOf b)) (cond (sameByte classes false b x) (suc (leavesOf table classes q r)) 0) 0
 
 -- a run name has length 1 unless another is noted
 abbrev pub standingStart : List ℕ → Standing
@@ -209,4 +266,4 @@ abbrev pub toldEnding : Ending → Answer
 toldEnding e = cond (e .fits) (Bound (e .count)) (None (e .count))
 
 abbrev pub shownEnding : Ending → List ℕ → List ℕ
-shownEnding e before = cond (e .fits) (shownBy Found (partsIn (e .assigned) (e .parts) 0 variables) before) before
+shownEnding e before = cond (e .fits) (shownParts (partsIn (e .assigned) (e .parts) 0 variables) before) before

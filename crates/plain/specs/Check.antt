@@ -1,4 +1,4 @@
--- The check for a plain pattern, in one pass: 23 otherwise. It says exactly whether the pattern is plain (Demands: CheckExact).
+-- The check for a plain pattern, in one pass: 23 otherwise. It says exactly whether the pattern is plain (proofs/Checking: check-exact).
 use Prim.Native.Nat.{ℕ}
 use mathlib.Core.List.{List, [], _∷_}
 use mathlib.Core.Bool.{Bool, true, false}

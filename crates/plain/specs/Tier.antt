@@ -10,7 +10,7 @@ use Rattle.term.specs.Term.{Term, Terms, node, nil, _::_, count, single, size, 
 use Rattle.term.specs.Pattern.{Pattern, Children, name, symbol, complement, end, plain, run}
 use Rattle.anti_pattern.specs.Language.{Language}
 use Rattle.anti_pattern.specs.Search.{Env, bind, start}
-use Rattle.anti_pattern.specs.Answer.{Answer, bound, nothing, parts}
+use Rattle.anti_pattern.specs.Answer.{Matching, bound, nothing, parts}
 use Rattle.plain.specs.Plain.{runNames, plainChildren}
 
 -- the assignment that was found, if any, and what was counted
@@ -74,10 +74,10 @@ module _ (table classes : List ℕ) where
 abbrev pub wholeTier : Language → Pattern → Term → Tiered
 wholeTier l q t = tier (l .table) (l .classes) q t zero start
 
-abbrev pub shownTier : List ℕ → Option Env → ℕ → Answer
+abbrev pub shownTier : List ℕ → Option Env → ℕ → Matching
 shownTier table (some e) n = bound (parts table e) n
 shownTier table none n = nothing n
 
 -- bound with the parts of the variables, or none; each with the tier's own count. "It takes no allowance", so it is never spent
-unfoldable pub plainAnswer : Language → Pattern → Term → Answer
+unfoldable pub plainAnswer : Language → Pattern → Term → Matching
 plainAnswer l q t = shownTier (l .table) (wholeTier l q t .out) (wholeTier l q t .cost)

@@ -2,12 +2,12 @@
 // beside a place in the record; nothing is tried twice.
 use matcher::Answer;
 use matcher::Check;
+use matcher::check_rule;
+use parts::PARTS;
 use reader::Read;
-use search::ANSWER_WIDTH;
-use search::Outcome;
-use search::PARTS;
 use term::Code;
 use term::LIST;
+use term::LONGEST_PATTERN;
 use term::Part;
 use term::Refusal;
 use term::VARIABLES;
@@ -23,15 +23,10 @@ ghost use Rattle.term.specs.Extent.{extentOf};
 ghost use Rattle.term.specs.Limits.{longestPattern};
 ghost use Rattle.term.specs.Part.{boundPart};
 ghost use Rattle.search.specs.Given.{elementsOf};
-ghost use Rattle.search.specs.Inner.Memory.{bit, packed};
-ghost use Rattle.call.specs.Brought.{broughtBy, broughtAccepted};
-ghost use Rattle.matcher.specs.Call.{checkOf};
-ghost use Rattle.plain.specs.Bytes.{alsoRun, runsAmong, noRuns, runHere, runBytes, lookVariable, lookList, lookSymbol, lookOf, LookWithin, plainFrom, listOf, symbolOf, stepOf, StepWithin, mayHold, rootMayHold, tieringOf, tierOn, noParts, toldEnding, shownEnding};
-ghost use Rattle.plain.specs.Call.{plainChecked, plainOf, plainBufferOf};
-ghost use Rattle.plain.specs.Demands.{PlainDemanded};
-
-// How many bytes are counted, by numbers of 16 bits.
-const COUNTED: usize = 65535;
+ghost use Rattle.parts.specs.Packed.{bit, packed};
+ghost use Rattle.plain.specs.Bytes.{alsoRun, runsAmong, noRuns, runCode, runBytes, isLeaf, isSingle, Singles, SurelyPlain, weightOf, weightsOf, rootBytes, IfFew, leavesOf, lookVariable, lookList, lookSymbol, lookOf, LookWithin, plainFrom, listOf, symbolOf, turnOf, TurnWithin, mayHold, rootMayHold, tieringOf, tierOn, noParts, toldEnding, shownEnding};
+ghost use Rattle.plain.specs.Call.{plainOf, plainBufferOf};
+ghost use Rattle.plain.specs.Demands.{PlainDemanded, RuleMatched};
 
 // How many run names there are, and the variable of the last of them.
 pub struct Runs {
@@ -47,7 +42,7 @@ pub enum Look {
 
 // What one turn of the tier does: a node fails, its children are entered, a list's run name has its length noted, a name takes the node of so many
 // bytes, a run name takes its run.
-pub enum Step {
+pub enum Turn {
     Fails,
     Enters(usize),
     Notes(u8, u8),
@@ -113,6 +108,19 @@ fn tree_bytes(table: &[u8], s: &[u8]) -> usize
     term::extent(table, s)
 }
 
+// Whether a code is a symbol without children.
+fn is_leaf(table: &[u8], code: Code) -> bool
+    ensures { λ r. ⌜ r ≡ isLeaf (old table) code ⌝ }
+{
+    match code {
+        Code::Symbol(b) => term::entry_of(table, b) == 0,
+        Code::Name(_) => false,
+        Code::Run(_) => false,
+        Code::Complement => false,
+        Code::Refused => false,
+    }
+}
+
 // The run names among the first n trees of s, which are children of one node.
 fn runs_among(table: &[u8], s: &[u8], n: u8) -> Runs
     ensures is { λ r. ⌜ r ≡ runsAmong (old table) (old s) n noRuns ⌝ }
@@ -128,15 +136,20 @@ fn runs_among(table: &[u8], s: &[u8], n: u8) -> Runs
         if s.len() <= at {
             return found;
         }
-        found = also_run(term::decode(s[at]), found);
-        at = at + tree_bytes(table, &s[at..]);
         left = left - 1;
+        let code = term::decode(s[at]);
+        if is_leaf(table, code) {
+            at = at + 1;
+            continue;
+        }
+        found = also_run(code, found);
+        at = at + tree_bytes(table, &s[at..]);
     }
     found
 }
 
-fn run_here(code: Code) -> u16
-    ensures { λ r. ⌜ r ≡ runHere code ⌝ }
+fn run_here(code: Code) -> usize
+    ensures { λ r. ⌜ r ≡ runCode code ⌝ }
 {
     match code {
         Code::Symbol(_) => 0,
@@ -147,26 +160,23 @@ fn run_here(code: Code) -> u16
     }
 }
 
-// A number that the codes of run names in s don't exceed; no list in s has more run names.
+// How many bytes of s are codes of run names; no list in s has more run names.
 fn run_bytes(s: &[u8]) -> usize
-    ensures { λ r. ⌜ runBytes (old s) ≤ r ⌝ }
+    ensures { λ r. ⌜ (r ≡ runBytes (old s)) × (r ≤ length (old s)) ⌝ }
 {
-    if COUNTED < s.len() {
-        return s.len();
-    }
-    let mut found: u16 = 0;
+    let mut found: usize = 0;
     let mut at: usize = 0;
     while at < s.len() {
         found = found + run_here(term::decode(s[at]));
         at = at + 1;
     }
-    found as usize
+    found
 }
 
-// A list whose bytes start q, which has at most so many codes of run names: it has at most one run name.
+// A list whose bytes start q: it has at most one run name. Where q has at most one code of a run name, none is counted.
 fn look_list(table: &[u8], q: &[u8], seen: u64, most: usize) -> Look
-    requires { ⌜ runBytes (now q) ≤ most ⌝ }
-    ensures { λ r. ⌜ r ≡ lookList (old table) (old q) seen ⌝ }
+    ensures is { λ r. ⌜ IfFew (old q) most r (lookList (old table) (old q) seen) ⌝ }
+    ensures within { λ r. ⌜ LookWithin (old q) r ⌝ }
 {
     if q.len() < 2 {
         return Look::NotPlain;
@@ -182,8 +192,9 @@ fn look_list(table: &[u8], q: &[u8], seen: u64, most: usize) -> Look
 }
 
 fn look_symbol(table: &[u8], q: &[u8], seen: u64, b: u8, most: usize) -> Look
-    requires { ⌜ runBytes (now q) ≤ most ⌝ }
-    ensures { λ r. ⌜ r ≡ lookSymbol (old table) (old q) seen b ⌝ }
+    requires { ⌜ 0 < length (now q) ⌝ }
+    ensures is { λ r. ⌜ IfFew (old q) most r (lookSymbol (old table) (old q) seen b) ⌝ }
+    ensures within { λ r. ⌜ LookWithin (old q) r ⌝ }
 {
     if term::entry_of(table, b) == LIST {
         return look_list(table, q, seen, most);
@@ -204,9 +215,9 @@ fn look_variable(seen: u64, v: u8) -> Look
 
 // The pattern node that starts q.
 fn look_at(table: &[u8], q: &[u8], seen: u64, most: usize) -> Look
-    requires { ⌜ (0 < length (now q)) × (runBytes (now q) ≤ most) ⌝ }
-    ensures is { λ r. ⌜ r ≡ lookOf (old table) (old q) seen ⌝ }
-    ensures within { λ r. ⌜ LookWithin r ⌝ }
+    requires { ⌜ 0 < length (now q) ⌝ }
+    ensures is { λ r. ⌜ IfFew (old q) most r (lookOf (old table) (old q) seen) ⌝ }
+    ensures within { λ r. ⌜ LookWithin (old q) r ⌝ }
 {
     let code = term::decode(q[0]);
     match code {
@@ -218,15 +229,132 @@ fn look_at(table: &[u8], q: &[u8], seen: u64, most: usize) -> Look
     }
 }
 
+// Whether a code is a symbol with no number behind it.
+fn is_single(table: &[u8], code: Code) -> bool
+    ensures { λ r. ⌜ r ≡ isSingle (old table) code ⌝ }
+{
+    match code {
+        Code::Symbol(b) => term::entry_of(table, b) != LIST,
+        Code::Name(_) => false,
+        Code::Run(_) => false,
+        Code::Complement => false,
+        Code::Refused => false,
+    }
+}
+
+// How many bytes at the start of s are symbols with no number behind them; none of them needs a look.
+fn singles(table: &[u8], s: &[u8]) -> usize
+    ensures { λ r. ⌜ Singles (old table) (old s) r ⌝ }
+{
+    let mut at: usize = 0;
+    while at < s.len() {
+        if !is_single(table, term::decode(s[at])) {
+            return at;
+        }
+        at = at + 1;
+    }
+    at
+}
+
+// One pass for patterns with one run name at most: no list has two.
+fn surely_plain(table: &[u8], pattern: &[u8]) -> bool
+    ensures { λ r. ⌜ SurelyPlain (old table) (old pattern) r ⌝ }
+{
+    let mut at = singles(table, pattern);
+    let mut seen: u64 = 0;
+    let mut runs: usize = 0;
+    while at < pattern.len() {
+        let found = look_at(table, &pattern[at..], seen, 1);
+        let Look::Passes(next, width) = found else {
+            return false;
+        };
+        seen = next;
+        runs = runs + run_bytes(&pattern[at..at + width]);
+        at = at + width;
+        at = at + singles(table, &pattern[at..]);
+    }
+    runs < 2
+}
+
+fn weight(code: Code) -> u16
+    ensures { λ r. ⌜ r ≡ weightOf code ⌝ }
+{
+    match code {
+        Code::Symbol(_) => 0,
+        Code::Name(_) => 1,
+        Code::Run(_) => 1,
+        Code::Complement => 2,
+        Code::Refused => 2,
+    }
+}
+
+// The weights of all bytes of s, whether codes or numbers of children: the compiler takes many at a time.
+fn weights(s: &[u8]) -> u16
+    requires { ⌜ length (now s) ≤ longestPattern ⌝ }
+    ensures { λ r. ⌜ r ≡ weightsOf (old s) ⌝ }
+{
+    let mut found: u16 = 0;
+    let mut at: usize = 0;
+    while at < s.len() {
+        found = found + weight(term::decode(s[at]));
+        at = at + 1;
+    }
+    found
+}
+
+fn list_bytes(table: &[u8], b: u8) -> usize
+    ensures { λ r. ⌜ r ≡ rootBytes (old table) (Code.Symbol b) ⌝ }
+{
+    if term::entry_of(table, b) == LIST {
+        return 2;
+    }
+    0
+}
+
+fn root_bytes(table: &[u8], code: Code) -> usize
+    ensures { λ r. ⌜ r ≡ rootBytes (old table) code ⌝ }
+{
+    match code {
+        Code::Symbol(b) => list_bytes(table, b),
+        Code::Name(_) => 0,
+        Code::Run(_) => 0,
+        Code::Complement => 0,
+        Code::Refused => 0,
+    }
+}
+
+// A pattern of no complement and one variable at most, by its bytes alone. The number of a list at the root, often a large one, is left out.
+fn is_light(table: &[u8], pattern: &[u8]) -> bool
+    ensures { λ r. ⌜ SurelyPlain (old table) (old pattern) r ⌝ }
+{
+    let n = pattern.len();
+    if n == 0 {
+        return false;
+    }
+    if LONGEST_PATTERN < n {
+        return false;
+    }
+    if term::entry_of(table, pattern[n - 1]) == LIST {
+        return false;
+    }
+    let own = root_bytes(table, term::decode(pattern[0]));
+    weights(&pattern[own..]) < 2
+}
+
 // Whether a pattern that passed its checks is plain.
 fn is_plain(table: &[u8], pattern: &[u8]) -> bool
     ensures { λ r. ⌜ r ≡ plainFrom (old table) (old pattern) false 0 ⌝ }
 {
-    let most = run_bytes(pattern);
+    if is_light(table, pattern) {
+        return true;
+    }
+    if surely_plain(table, pattern) {
+        return true;
+    }
     let mut at: usize = 0;
     let mut seen: u64 = 0;
     while at < pattern.len() {
-        let found = look_at(table, &pattern[at..], seen, most);
+        let found = look_at(table, &pattern[at..], seen, pattern.len());
         let Look::Passes(next, width) = found else {
             return false;
         };
@@ -237,62 +365,62 @@ fn is_plain(table: &[u8], pattern: &[u8]) -> bool
 }
 
 // A list against a list: where the numbers of children differ, a run name takes what its other child patterns leave.
-fn list_step(table: &[u8], q: &[u8], r: &[u8]) -> Step
+fn list_step(table: &[u8], q: &[u8], r: &[u8]) -> Turn
     ensures is { λ x. ⌜ x ≡ listOf (old table) (old q) (old r) ⌝ }
-    ensures within { λ x. ⌜ StepWithin (old q) (old r) x ⌝ }
+    ensures within { λ x. ⌜ TurnWithin (old q) (old r) x ⌝ }
 {
     if q.len() < 2 {
-        return Step::Fails;
+        return Turn::Fails;
     }
     if r.len() < 2 {
-        return Step::Fails;
+        return Turn::Fails;
     }
     let n = q[1];
     let m = r[1];
     if n == m {
-        return Step::Enters(2);
+        return Turn::Enters(2);
     }
     let runs = runs_among(table, &q[2..], n);
     if runs.number == 0 {
-        return Step::Fails;
+        return Turn::Fails;
     }
     if m < n - 1 {
-        return Step::Fails;
+        return Turn::Fails;
     }
-    Step::Notes(runs.variable, m - (n - 1))
+    Turn::Notes(runs.variable, m - (n - 1))
 }
 
 // A symbol: its children are entered. Pattern and record start at the pair in q and r.
-fn symbol_step(table: &[u8], classes: &[u8], q: &[u8], r: &[u8], b: u8) -> Step
+fn symbol_step(table: &[u8], classes: &[u8], q: &[u8], r: &[u8], b: u8) -> Turn
     requires { ⌜ 0 < length (now q) ⌝ }
     ensures is { λ x. ⌜ x ≡ symbolOf (old table) (old classes) (old q) (old r) b ⌝ }
-    ensures within { λ x. ⌜ StepWithin (old q) (old r) x ⌝ }
+    ensures within { λ x. ⌜ TurnWithin (old q) (old r) x ⌝ }
 {
     if r.len() == 0 {
-        return Step::Fails;
+        return Turn::Fails;
     }
     if !term::same_symbol(classes, b, r[0]) {
-        return Step::Fails;
+        return Turn::Fails;
     }
     if term::entry_of(table, b) == LIST {
         return list_step(table, q, r);
     }
-    Step::Enters(1)
+    Turn::Enters(1)
 }
 
 // The pattern node that starts q, set against the record's bytes r.
-fn step_at(table: &[u8], classes: &[u8], q: &[u8], r: &[u8]) -> Step
+fn step_at(table: &[u8], classes: &[u8], q: &[u8], r: &[u8]) -> Turn
     requires { ⌜ 0 < length (now q) ⌝ }
-    ensures is { λ x. ⌜ x ≡ stepOf (old table) (old classes) (old q) (old r) ⌝ }
-    ensures within { λ x. ⌜ StepWithin (old q) (old r) x ⌝ }
+    ensures is { λ x. ⌜ x ≡ turnOf (old table) (old classes) (old q) (old r) ⌝ }
+    ensures within { λ x. ⌜ TurnWithin (old q) (old r) x ⌝ }
 {
     let code = term::decode(q[0]);
     match code {
         Code::Symbol(b) => symbol_step(table, classes, q, r, b),
-        Code::Name(v) => Step::TakesNode(v, term::extent(table, r)),
-        Code::Run(v) => Step::TakesRun(v),
-        Code::Complement => Step::Fails,
-        Code::Refused => Step::Fails,
+        Code::Name(v) => Turn::TakesNode(v, term::extent(table, r)),
+        Code::Run(v) => Turn::TakesRun(v),
+        Code::Complement => Turn::Fails,
+        Code::Refused => Turn::Fails,
     }
 }
 
@@ -316,8 +444,29 @@ fn take(parts: &mut [u64; PARTS], assigned: u64, v: u8, node: usize, size: usize
     ensures { λ r. ⌜ (r ≡ bitOr assigned (2 ^ v)) × (new parts ≡ set (old parts) v (packed (boundPart node size n))) ⌝ }
 {
     let i = wide(v);
-    parts[i] = search::packed(Part::bound(node, size, n));
+    parts[i] = parts::packed(Part::bound(node, size, n));
     with(assigned, v)
+}
+
+// How many nodes at the start of q are symbols without children that hold, each against the byte of r at its place.
+fn leaves(table: &[u8], classes: &[u8], q: &[u8], r: &[u8]) -> usize
+    ensures is { λ x. ⌜ x ≡ leavesOf (old table) (old classes) (old q) (old r) ⌝ }
+    ensures within { λ x. ⌜ (x ≤ length (old q)) × (x ≤ length (old r)) ⌝ }
+{
+    let mut n: usize = 0;
+    while n < q.len() {
+        if r.len() <= n {
+            return n;
+        }
+        if !is_leaf(table, term::decode(q[n])) {
+            return n;
+        }
+        if !term::same_symbol(classes, q[n], r[n]) {
+            return n;
+        }
+        n = n + 1;
+    }
+    n
 }
 
 // A plain pattern against a record. A run name's length is known from the moment that its list is entered, so no open node is kept.
@@ -341,29 +490,33 @@ fn tier(
         let turn = step_at(table, classes, &pattern[at..], &record[node..]);
         count = count + 1;
         match turn {
-            Step::Fails => {
+            Turn::Fails => {
                 return Tiering {
                     fits: false,
                     count: count,
                     assigned: assigned,
                 };
             }
-            Step::Enters(width) => {
+            Turn::Enters(width) => {
                 at = at + width;
                 node = node + width;
+                let n = leaves(table, classes, &pattern[at..], &record[node..]);
+                at = at + n;
+                node = node + n;
+                count = count + n as u32;
             }
-            Step::Notes(v, n) => {
+            Turn::Notes(v, n) => {
                 let i = wide(v);
                 lengths[i] = n;
                 at = at + 2;
                 node = node + 2;
             }
-            Step::TakesNode(v, size) => {
+            Turn::TakesNode(v, size) => {
                 assigned = take(parts, assigned, v, node, size, 1);
                 at = at + 1;
                 node = node + size;
             }
-            Step::TakesRun(v) => {
+            Turn::TakesRun(v) => {
                 let i = wide(v);
                 let n = lengths[i];
                 let size = span(table, &record[node..], n);
@@ -378,50 +531,6 @@ fn tier(
         count: count,
         assigned: assigned,
     }
-}
-
-// Whether the class list is accepted, if the call brings one.
-fn accepts_classes(table: &[u8], brings: bool, classes: &[u8]) -> bool
-    ensures { λ r. ⌜ r ≡ broughtAccepted (old table) (broughtBy brings (old classes)) ⌝ }
-{
-    if brings {
-        return term::check_classes(table, classes);
-    }
-    true
-}
-
-// The checks in order, for a buffer of so many numbers.
-fn check_input(
-    table: &[u8],
-    brings: bool,
-    classes: &[u8],
-    pattern: &[u8],
-    record: &[u8],
-    width: usize,
-) -> Check
-    ensures { λ r. ⌜ r ≡ checkOf (plainChecked (old table) (broughtBy brings (old classes)) (old pattern) (old «record») width) ⌝ }
-{
-    if width < ANSWER_WIDTH {
-        return Check::Failed(Refusal::Narrow);
-    }
-    if !term::check_table(table) {
-        return Check::Failed(Refusal::Table);
-    }
-    if !accepts_classes(table, brings, classes) {
-        return Check::Failed(Refusal::Class);
-    }
-    let p = reader::read_pattern(table, pattern);
-    if let Read::Refused(r) = p {
-        return Check::Failed(r);
-    }
-    if !is_plain(table, pattern) {
-        return Check::Failed(Refusal::NotPlain);
-    }
-    let s = reader::read_record(table, record);
-    if let Read::Refused(r) = s {
-        return Check::Failed(r);
-    }
-    Check::Passed
 }
 
 // A symbol may hold where it is the record's; any other code may hold.
@@ -468,8 +577,32 @@ fn match_checked(
     if !end.fits {
         return Answer::None(count);
     }
-    search::show(Outcome::Found, &parts, end.assigned, answer);
+    parts::show(&parts, end.assigned, answer);
     Answer::Bound(count)
+}
+
+// The match by a pattern that passed its own checks, with those that follow: whether it is plain, and the record's.
+fn match_rule(
+    table: &[u8],
+    classes: &[u8],
+    pattern: &[u8],
+    record: &[u8],
+    answer: &mut [u16],
+) -> Answer
+    requires { ⌜ length (now pattern) ≤ longestPattern ⌝ }
+    ensures { λ r. ⌜ RuleMatched (old table) (old classes) (old pattern) (old «record») (old answer) r (new answer) ⌝ }
+{
+    if !is_plain(table, pattern) {
+        return Answer::Refused(Refusal::NotPlain);
+    }
+    let s = reader::read_record(table, record);
+    if let Read::Refused(r) = s {
+        return Answer::Refused(r);
+    }
+    if !root_may_hold(classes, pattern, record) {
+        return Answer::None(1);
+    }
+    match_checked(table, classes, pattern, record, answer)
 }
 
 // The match of a plain pattern against a record, with every check.
@@ -479,15 +612,10 @@ pub fn match_plain(table: &[u8], pattern: &[u8], record: &[u8], answer: &mut [u1
     ensures demand { λ r. ⌜ PlainDemanded (old table) none (old pattern) (old «record») (old answer) r (new answer) ⌝ }
 {
     let classes = &table[..0];
-    let checks = check_input(table, false, classes, pattern, record, answer.len());
+    let checks = check_rule(table, false, classes, pattern, answer.len());
     match checks {
         Check::Failed(r) => Answer::Refused(r),
-        Check::Passed => {
-            if !root_may_hold(classes, pattern, record) {
-                return Answer::None(1);
-            }
-            match_checked(table, classes, pattern, record, answer)
-        }
+        Check::Passed => match_rule(table, classes, pattern, record, answer),
     }
 }
 
@@ -503,14 +631,9 @@ pub fn match_plain_with_classes(
     ensures buffer { λ r. ⌜ new answer ≡ plainBufferOf (old table) (some (old classes)) (old pattern) (old «record») (old answer) ⌝ }
     ensures demand { λ r. ⌜ PlainDemanded (old table) (some (old classes)) (old pattern) (old «record») (old answer) r (new answer) ⌝ }
 {
-    let checks = check_input(table, true, classes, pattern, record, answer.len());
+    let checks = check_rule(table, true, classes, pattern, answer.len());
     match checks {
         Check::Failed(r) => Answer::Refused(r),
-        Check::Passed => {
-            if !root_may_hold(classes, pattern, record) {
-                return Answer::None(1);
-            }
-            match_checked(table, classes, pattern, record, answer)
-        }
+        Check::Passed => match_rule(table, classes, pattern, record, answer),
     }
 }

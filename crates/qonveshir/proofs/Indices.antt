@@ -11,11 +11,11 @@ use borrow.Author.Tests.{leb-true}
 use Rattle.term.specs.Term.{Term}
 use Rattle.term.specs.Pattern.{Pattern}
 use Rattle.term.specs.Table.{tableAccepted}
-use Rattle.reader.specs.Reading.{Answer as Reading, refused, read, readRecord}
+use Rattle.reader.specs.Reading.{Parsed, refused, read, readRecord}
 use Rattle.reader.specs.declared.Read.{Read}
 use Rattle.reader.specs.declared.Read.the-variants.{Ends}
 use Rattle.term.specs.declared.Refusal.the-variants.{Table, Narrow, Long, Directory, Full, Class}
-use Rattle.anti_pattern.specs.Answer.{Answer as Outcome, bound, nothing, spent, answer}
+use Rattle.anti_pattern.specs.Answer.{Matching, bound, nothing, spent, answer}
 use Rattle.sheet.specs.Answer.{checkedIndex, writingIndex}
 use Rattle.sheet.specs.Check.{longestSheet, entryCount, directoryAccepted, checkSheet, andThen}
 use Rattle.sheet.specs.Contents.{readEntry, stopAt, checkEach, few, checkContents, checkRules}
@@ -106,12 +106,12 @@ writing-index table bs ns room = go (checkRecords table bs ns) (records-index ta
 
 -- the rules of a sheet, which are tried one by one
 
-trial-index : {A : Type 0} (own : A → Outcome) (i sum : ℕ) (qs : List A) → ruleIndex (told (tryEach own i sum qs)) ≤ i + length qs
+trial-index : {A : Type 0} (own : A → Matching) (i sum : ℕ) (qs : List A) → ruleIndex (told (tryEach own i sum qs)) ≤ i + length qs
 unfolding tryEach
 trial-index own i sum [] = omega arith
 trial-index own i sum (q ∷ qs) = go (own q) (λ s. trial-index own (i + 1) s qs)
   where
-    go : (x : Outcome) → ((s : ℕ) → ruleIndex (told (tryEach own (i + 1) s qs)) ≤ i + 1 + length qs)
+    go : (x : Matching) → ((s : ℕ) → ruleIndex (told (tryEach own (i + 1) s qs)) ≤ i + 1 + length qs)
         → ruleIndex (told (tryOne i sum x (λ s. tryEach own (i + 1) s qs))) ≤ i + suc (length qs)
     go (bound parts n) rest = omega arith
     go (nothing n) rest = omega (arith, rest (sum + n))
@@ -123,7 +123,7 @@ unfolding answerOf checks
 rules-index table brought sheet bytes allowance width =
     go (leb answerWidth width) (tableAccepted table) (broughtAccepted table brought) (checkRules table sheet) refl (readRecord table bytes)
   where
-    go : (a b c : Bool) (x : Checked) → checkRules table sheet ≡ x → (y : Reading Term)
+    go : (a b c : Bool) (x : Checked) → checkRules table sheet ≡ x → (y : Parsed Term)
         → ruleIndex (answerBy RuleAnswer.Refused (λ (z : List Pattern × Term). told (tryRules (languageOf table brought) (z .0) (z .1) allowance))
         (check a Narrow (check b Table (check c Class (both (rulesBy x (rulesOf table (entries sheet))) (reading y)))))) ≤ longestSheet
     go false b c x e y = omega arith

@@ -1,2 +1,3 @@
--- What the C interface shows.
+-- What the C interface shows, and what is demanded of it.
 pub mod Shown
+pub mod Demands

@@ -22,8 +22,8 @@ largest = 4294967295
 abbrev pub outcome : ℕ → ℕ → ℕ → Outcome
 outcome number index count = record { number = number; index = index; count = count }
 
-abbrev pub part : ℕ → ℕ → ℕ → Part
-part number offset length = record { number = number; offset = offset; length = length }
+abbrev pub partShown : ℕ → ℕ → ℕ → Part
+partShown number offset length = record { number = number; offset = offset; length = length }
 
 -- one pattern has no index
 abbrev pub answerShown : Answer → Outcome
@@ -41,7 +41,7 @@ abbrev pub checkShown : Checked → Outcome
 checkShown c = outcome (checkedNumber c) (checkedIndex c) 0
 
 abbrev pub placeShown : Place → Part
-placeShown p = part (placeNumber p) (placeOffset p) (placeLength p)
+placeShown p = partShown (placeNumber p) (placeOffset p) (placeLength p)
 
 -- the count of a cost is the bound
 abbrev pub costShown : Cost → Outcome

@@ -15,7 +15,6 @@ ghost use Rattle.matcher.specs.Call.{answerOf, bufferOf};
 ghost use Rattle.matcher.specs.Demands.{DemandedOf, NextDemandedOf};
 ghost use Rattle.matcher.specs.Next.{nextOf, nextBufferOf};
 ghost use Rattle.plain.specs.Call.{plainOf, plainBufferOf};
-ghost use Rattle.plain.specs.Demands.{PlainDemanded};
 ghost use Rattle.rules.specs.Answer.{ruleIndex};
 ghost use Rattle.rules.specs.Call.{answerOf as rulesAnswer, bufferOf as rulesBuffer};
 ghost use Rattle.rules.specs.Demands.{DemandedOf as RulesDemandedOf};
@@ -24,9 +23,10 @@ ghost use Rattle.sheet.specs.Entry.{placeOf};
 ghost use Rattle.sheet.specs.Contents.{checkRules, checkStates};
 ghost use Rattle.sheet.specs.Writing.{writing, outputAfter};
 ghost use Rattle.sheet.specs.Demands.{Demanded as SheetDemanded};
+ghost use Rattle.stored.specs.Demands.{StoreDemanded, RestoreDemanded};
 ghost use Rattle.stored.specs.Move.{storing, restoring, moved, outputAfter as outputMoved};
-ghost use Rattle.stored.specs.Demands.{RecordOf, StoredOf, Demanded as MoveDemanded};
-ghost use Rattle.qonveshir.specs.Shown.{largest, outcome, part, answerShown, rulesShown, writingShown, checkShown, placeShown, costShown, moveShown};
+ghost use Rattle.qonveshir.specs.Demands.{PlainDemandedOf};
+ghost use Rattle.qonveshir.specs.Shown.{largest, outcome, partShown, answerShown, rulesShown, writingShown, checkShown, placeShown, costShown, moveShown};
 
 // Document 01's number, 0 where nothing is refused; the index of the rule shown or of the entry at fault, else 0; and the count.
 #[repr(C)]
@@ -69,7 +69,7 @@ fn rules_shown(a: RuleAnswer) -> Outcome
 }
 
 fn part_shown(number: u8, offset: u16, length: u16) -> Part
-    ensures { λ r. ⌜ r ≡ part number offset length ⌝ }
+    ensures { λ r. ⌜ r ≡ partShown number offset length ⌝ }
 {
     Part {
         number: number as u32,
@@ -179,7 +179,7 @@ pub extern "C" fn qonveshir_match_plain(
 ) -> Outcome
     ensures shown { λ r. ⌜ r ≡ answerShown (plainOf (old table) none (old pattern) (old «record») (length (old answer))) ⌝ }
     ensures buffer { λ _. ⌜ new answer ≡ plainBufferOf (old table) none (old pattern) (old «record») (old answer) ⌝ }
-    ensures demand { λ _. ⌜ PlainDemanded (old table) none (old pattern) (old «record») (old answer) (plainOf (old table) none (old pattern) (old «record») (length (old answer))) (new answer) ⌝ }
+    ensures demand { λ _. ⌜ PlainDemandedOf (old table) none (old pattern) (old «record») (old answer) (new answer) ⌝ }
 {
     let a = plain::match_plain(table, pattern, record, answer);
     answer_shown(a)
@@ -196,7 +196,7 @@ pub extern "C" fn qonveshir_match_plain_with_classes(
 ) -> Outcome
     ensures shown { λ r. ⌜ r ≡ answerShown (plainOf (old table) (some (old classes)) (old pattern) (old «record») (length (old answer))) ⌝ }
     ensures buffer { λ _. ⌜ new answer ≡ plainBufferOf (old table) (some (old classes)) (old pattern) (old «record») (old answer) ⌝ }
-    ensures demand { λ _. ⌜ PlainDemanded (old table) (some (old classes)) (old pattern) (old «record») (old answer) (plainOf (old table) (some (old classes)) (old pattern) (old «record») (length (old answer))) (new answer) ⌝ }
+    ensures demand { λ _. ⌜ PlainDemandedOf (old table) (some (old classes)) (old pattern) (old «record») (old answer) (new answer) ⌝ }
 {
     let a = plain::match_plain_with_classes(table, classes, pattern, record, answer);
     answer_shown(a)
@@ -292,7 +292,7 @@ pub extern "C" fn qonveshir_cost(table: &[u8], pattern: &[u8]) -> Outcome
 pub extern "C" fn qonveshir_store(table: &[u8], record: &[u8], output: &mut [u8]) -> Outcome
     ensures shown { λ r. ⌜ r ≡ moveShown (moved (storing (old table) (old «record»)) (length (old output))) ⌝ }
     ensures contents { λ _. ⌜ new output ≡ outputMoved (storing (old table) (old «record»)) (old output) ⌝ }
-    ensures demand { λ r. ⌜ MoveDemanded (RecordOf (old table)) (StoredOf (old table)) (restoring (old table)) (old «record») (old output) (r .number) (r .count) (new output) ⌝ }
+    ensures demand { λ r. ⌜ StoreDemanded (old table) (old «record») (old output) (r .number) (r .count) (new output) ⌝ }
 {
     let m = stored::store(table, record, output);
     move_shown(m)
@@ -303,7 +303,7 @@ pub extern "C" fn qonveshir_store(table: &[u8], record: &[u8], output: &mut [u8]
 pub extern "C" fn qonveshir_restore(table: &[u8], stored: &[u8], output: &mut [u8]) -> Outcome
     ensures shown { λ r. ⌜ r ≡ moveShown (moved (restoring (old table) (old stored)) (length (old output))) ⌝ }
     ensures contents { λ _. ⌜ new output ≡ outputMoved (restoring (old table) (old stored)) (old output) ⌝ }
-    ensures demand { λ r. ⌜ MoveDemanded (StoredOf (old table)) (RecordOf (old table)) (storing (old table)) (old stored) (old output) (r .number) (r .count) (new output) ⌝ }
+    ensures demand { λ r. ⌜ RestoreDemanded (old table) (old stored) (old output) (r .number) (r .count) (new output) ⌝ }
 {
     let m = stored::restore(table, stored, output);
     move_shown(m)

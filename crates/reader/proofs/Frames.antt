@@ -7,6 +7,7 @@ use mathlib.Core.List.{List, [], _∷_}
 use mathlib.Core.Bool.{Bool, false}
 use lib.ListN.{length, getD, drop, set, take, length-drop, length-set}
 use lib.Seq.{drop-drop, getD-set-same, getD-set-other}
+use Rattle.term.proofs.Lists.{rest-part}
 use Rattle.term.specs.Limits.{nesting}
 use Rattle.term.specs.declared.Refusal.{Refusal}
 use Rattle.reader.specs.Frame.{frame}
@@ -17,35 +18,36 @@ use Rattle.reader.specs.declared.Node.{Node}
 use Rattle.reader.specs.declared.Node.the-variants.{Open}
 use Rattle.reader.specs.declared.Read.{Read}
 use Rattle.reader.specs.declared.Read.the-variants.{Ends}
-use Rattle.reader.proofs.Steps.{plus, andThen, all-none, all-more, shown-chain, tree-refused, tree-open, node-within, node-below, rest-part}
+use Rattle.reader.proofs.Steps.{plus, andThen, all-none, all-more, shown-chain, tree-refused, tree-open, node-within, node-below}
 
 -- all but the first tree
 abbrev pub restOf : Frame → Frame
 restOf f = frame (f .count - 1) (f .left) (f .list)
 
--- Frames in an array: the first so many, the last of them innermost
-
 abbrev pub none : Frame
 none = frame 0 0 false
 
-abbrev pub stack : ℕ → List Frame → List Frame
-stack zero fs = []
-stack (suc d) fs = getD fs d none ∷ stack d fs
+-- Elements in an array, frames or what stands beside them: the first so many, the last of them innermost
 
-stack-length : (d : ℕ) (fs : List Frame) → length (stack d fs) ≡ d
-stack-length zero fs = refl
-stack-length (suc d) fs = ap suc (stack-length d fs)
+module _ {A : Type 0} (no : A) where
+  abbrev pub stack : ℕ → List A → List A
+  stack zero fs = []
+  stack (suc d) fs = getD fs d no ∷ stack d fs
 
-stack-kept : (d i : ℕ) (fs : List Frame) (f : Frame) → d ≤ i → stack d (set fs i f) ≡ stack d fs
-stack-kept zero i fs f h = refl
-stack-kept (suc d) i fs f h = ap₂ _∷_ (getD-set-other fs i d f none (λ e. omega arith)) (stack-kept d i fs f (omega arith))
+  stack-length : (d : ℕ) (fs : List A) → length (stack d fs) ≡ d
+  stack-length zero fs = refl
+  stack-length (suc d) fs = ap suc (stack-length d fs)
 
-stack-pushed : (d : ℕ) (fs : List Frame) (f : Frame) → d < length fs → stack (d + 1) (set fs d f) ≡ f ∷ stack d fs
-stack-pushed d fs f h = rw (add-one) (ap₂ _∷_ (getD-set-same fs d f none h) (stack-kept d d fs f (omega arith)))
+  pub stack-kept : (d i : ℕ) (fs : List A) (f : A) → d ≤ i → stack d (set fs i f) ≡ stack d fs
+  stack-kept zero i fs f h = refl
+  stack-kept (suc d) i fs f h = ap₂ _∷_ (getD-set-other fs i d f no (λ e. omega arith)) (stack-kept d i fs f (omega arith))
 
-stack-popped : (d : ℕ) (fs : List Frame) → 0 < d → stack d fs ≡ getD fs (d - 1) none ∷ stack (d - 1) fs
-stack-popped zero fs h = absurd (omega arith)
-stack-popped (suc d) fs h = rw (sub-one (suc d))
+  pub stack-pushed : (d : ℕ) (fs : List A) (f : A) → d < length fs → stack (d + 1) (set fs d f) ≡ f ∷ stack d fs
+  stack-pushed d fs f h = rw (add-one) (ap₂ _∷_ (getD-set-same fs d f no h) (stack-kept d d fs f (omega arith)))
+
+  pub stack-popped : (d : ℕ) (fs : List A) → 0 < d → stack d fs ≡ getD fs (d - 1) no ∷ stack (d - 1) fs
+  stack-popped zero fs h = absurd (omega arith)
+  stack-popped (suc d) fs h = rw (sub-one (suc d))
 
 -- Reading on
 
@@ -153,8 +155,8 @@ module _ (table : List ℕ) (records : Bool) (s : List ℕ) where
     pub some : 0 < top .count
     pub room : depth + top .left ≤ nesting + (2 - top .count)
     pub places : length around ≡ nesting
-    pub kept : Kept (stack depth around)
-    pub to-come : ToCome (top ∷ stack depth around) at
+    pub kept : Kept (stack none depth around)
+    pub to-come : ToCome (top ∷ stack none depth around) at
 
   pub reading-starts : (around : List Frame) (top : Frame) → length around ≡ nesting → top ≡ frame 1 nesting false → Reading around 0 top 0
   reading-starts around top l e = record {
@@ -180,7 +182,7 @@ module _ {table : List ℕ} {records : Bool} {s : List ℕ} {around : List Frame
     {n : Node} (is : n ≡ nodeAt table records (top .list) (top .left) (take (length s - at) (drop at s))) where
   refused : {r : Refusal} → n ≡ Node.Refused r → shown (readTree table records nesting false s) ≡ Read.Refused r
   refused {r} e =
-      i .to-come ∙ ap (plus at) (resume-refused table records top (stack depth around) (drop at s) r (i .some) (rw (rest-part at s) at (sym is ∙ e)))
+      i .to-come ∙ ap (plus at) (resume-refused table records top (stack none depth around) (drop at s) r (i .some) (rw (rest-part at s) at (sym is ∙ e)))
 
   pub node-refuses : {r : Refusal} {a : Read} → n ≡ Node.Refused r → HandsOn n a → a ≡ shown (readTree table records nesting false s)
   node-refuses e h = (rw (e) at h) ∙ sym (refused e)
@@ -200,12 +202,12 @@ module _ {table : List ℕ} {records : Bool} {s : List ℕ} {around : List Frame
     pub depth-within : depth ≤ nesting
     depth-within = omega (arith, i .room, i .some, below)
 
-    opened : ToCome table records s (frame k low list ∷ restOf top ∷ stack depth around) (at + size)
-    opened = children-to-come table records s top (stack depth around) at (i .some) opens (i .to-come)
+    opened : ToCome table records s (frame k low list ∷ restOf top ∷ stack none depth around) (at + size)
+    opened = children-to-come table records s top (stack none depth around) at (i .some) opens (i .to-come)
 
     -- a node without children: its frame goes on, or after its last tree the one around it
-    next-frames : k ≤ 0 → ToCome table records s (restOf top ∷ stack depth around) (at + size)
-    next-frames z = skip table records s (frame k low list) (restOf top ∷ stack depth around) (at + size) (omega arith) opened
+    next-frames : k ≤ 0 → ToCome table records s (restOf top ∷ stack none depth around) (at + size)
+    next-frames z = skip table records s (frame k low list) (restOf top ∷ stack none depth around) (at + size) (omega arith) opened
 
     pub next-tree : k ≤ 0 → (top .count - 1 ≡ 0 → ⊥) → Reading table records s around depth (restOf top) (at + size)
     next-tree z h = record {
@@ -217,17 +219,17 @@ module _ {table : List ℕ} {records : Bool} {s : List ℕ} {around : List Frame
       to-come = next-frames z;
     }
 
-    last-tree : k ≤ 0 → top .count - 1 ≡ 0 → ToCome table records s (stack depth around) (at + size)
-    last-tree z h = skip table records s (restOf top) (stack depth around) (at + size) h (next-frames z)
+    last-tree : k ≤ 0 → top .count - 1 ≡ 0 → ToCome table records s (stack none depth around) (at + size)
+    last-tree z h = skip table records s (restOf top) (stack none depth around) (at + size) h (next-frames z)
 
     pub next-around : k ≤ 0 → top .count - 1 ≡ 0 → (depth ≡ 0 → ⊥) → Reading table records s around (depth - 1) (getD around (depth - 1) none) (at + size)
     next-around z h d =
-        let p = stack-popped depth around (omega (arith, d)) in
-        let o : Kept (getD around (depth - 1) none ∷ stack (depth - 1) around) = rw p at (i .kept) in
+        let p = stack-popped none depth around (omega (arith, d)) in
+        let o : Kept (getD around (depth - 1) none ∷ stack none (depth - 1) around) = rw p at (i .kept) in
         record {
           within = node-ends .0;
           some = o .0;
-          room = omega (arith, o .1, stack-length (depth - 1) around);
+          room = omega (arith, o .1, stack-length none (depth - 1) around);
           places = i .places;
           kept = o .2;
           to-come = rw (← p) (last-tree z h);
@@ -248,18 +250,18 @@ module _ {table : List ℕ} {records : Bool} {s : List ℕ} {around : List Frame
         room = rw q (omega (arith, i .room, i .some, below));
         places = i .places;
         kept = i .kept;
-        to-come = rw q (skip-under table records s (frame k low list) (restOf top) (stack depth around) (at + size) (omega arith) opened);
+        to-come = rw q (skip-under table records s (frame k low list) (restOf top) (stack none depth around) (at + size) (omega arith) opened);
       }
 
       pub child-first : 0 < k → 0 < top .count - 1 → Reading table records s (set around depth (restOf top)) (depth + 1) g (at + size)
       child-first z h =
-          let p : stack (depth + 1) (set around depth (restOf top)) ≡ restOf top ∷ stack depth around =
-          stack-pushed depth around (restOf top) (omega (arith, place-free h, i .places)) in
+          let p : stack none (depth + 1) (set around depth (restOf top)) ≡ restOf top ∷ stack none depth around =
+          stack-pushed none depth around (restOf top) (omega (arith, place-free h, i .places)) in
           record {
             within = node-ends .0;
             some = rw q z;
             room = rw q (omega (arith, i .room, below));
             places = length-set around depth (restOf top) ∙ i .places;
-            kept = rw p (h, omega (arith, i .room, stack-length depth around), i .kept);
+            kept = rw p (h, omega (arith, i .room, stack-length none depth around), i .kept);
             to-come = rw (p, q) opened;
           }

@@ -19,19 +19,19 @@ use Rattle.term.proofs.Bools.{cond-all}
 use Rattle.term.proofs.Codes.{code-back}
 use Rattle.term.proofs.Sizes.{encode-append, branch-length, more-length}
 use Rattle.reader.specs.Node.{nodeAt}
-use Rattle.reader.specs.Reading.{Answer, refused, read, join, chain, readAll, grow, enter, readBy, readTree, whole, readWhole}
+use Rattle.reader.specs.Reading.{Parsed, refused, read, join, chain, readAll, grow, enter, readBy, readTree, unlessSpare, readWhole}
 use Rattle.reader.proofs.Answers.{Got, opened-map, got-map, got-enter, got-chain, enter-same}
 use Rattle.reader.proofs.Nodes.{ownSize, own-first, own-past, own-size, node-complete, NodeSound, sound-node}
 
 -- As many nodes as there are bytes are enough
 
-all-same : (f g : List ℕ → Answer Tree) (n : ℕ) → ((s : List ℕ) → length s ≤ n → f s ≡ g s) → (k : ℕ) (s : List ℕ) → length s ≤ n → readAll f k s ≡ readAll g k s
+all-same : (f g : List ℕ → Parsed Tree) (n : ℕ) → ((s : List ℕ) → length s ≤ n → f s ≡ g s) → (k : ℕ) (s : List ℕ) → length s ≤ n → readAll f k s ≡ readAll g k s
 unfolding readAll
 all-same f g n h zero s l = refl
 all-same f g n h (suc k) s l = ap₂ chain (h s l) (fun-ext (λ u. all-same f g n h k (drop u s) (omega (arith, length-drop u s))))
 
 module _ (table : List ℕ) (records : Bool) where
-  none-short : (left : ℕ) (inList : Bool) (s : List ℕ) (g : ℕ → ℕ → Bool → ℕ → Answer Trees) → length s ≤ 0
+  none-short : (left : ℕ) (inList : Bool) (s : List ℕ) (g : ℕ → ℕ → Bool → ℕ → Parsed Trees) → length s ≤ 0
       → enter (codeIn records (getD s 0 0)) (nodeAt table records inList left s) g ≡ refused Short
   unfolding nodeAt enter
   none-short left inList [] g l = refl
@@ -135,7 +135,7 @@ module _ (table : List ℕ) (records : Bool) (left : ℕ) (inList : Bool) where
     fits = λ o. (a .fits o, b .fits (octets-drop n s o));
   }
 
-  pub sound-all : (f : List ℕ → Answer Tree) → ((s : List ℕ) → Got (TreeSound s) (f s)) → (k : ℕ) (s : List ℕ) → Got (TreesSound s k) (readAll f k s)
+  pub sound-all : (f : List ℕ → Parsed Tree) → ((s : List ℕ) → Got (TreeSound s) (f s)) → (k : ℕ) (s : List ℕ) → Got (TreesSound s k) (readAll f k s)
   unfolding readAll
   sound-all f h zero s = none-sound s
   sound-all f h (suc k) s =
@@ -175,8 +175,8 @@ unfoldable pub Read-whole : List ℕ → Bool → List ℕ → Tree → ℕ → 
 Read-whole table records s t n = (encode table t [] ≡ s) × (n ≡ length s) × (Octets s → Accepted table records t)
 
 module _ (table : List ℕ) (records : Bool) (s : List ℕ) where
-  whole-sound : length s ≤ longest records → (a : Answer Tree) → Got (TreeSound table records nesting false s) a → Got (Read-whole table records s) (whole s a)
-  unfolding whole Read-whole
+  whole-sound : length s ≤ longest records → (a : Parsed Tree) → Got (TreeSound table records nesting false s) a → Got (Read-whole table records s) (unlessSpare s a)
+  unfolding unlessSpare Read-whole
   whole-sound l (refused r) h = tt
   whole-sound l (read t n) h =
       cond-all (Got (Read-whole table records s)) (eqb n (length s))
@@ -195,7 +195,7 @@ module _ (table : List ℕ) (records : Bool) (s : List ℕ) where
 
   -- bytes are read as a tree exactly if they are the tree's own and the tree is within the limits
   pub read-iff : Octets s → (t : Tree) → (readWhole records table s ≡ read t (length s)) ↔ ((encode table t [] ≡ s) × Accepted table records t)
-  unfolding Read-whole readWhole whole
+  unfolding Read-whole readWhole unlessSpare
   read-iff o t = (to, from)
     where
       to : readWhole records table s ≡ read t (length s) → (encode table t [] ≡ s) × Accepted table records t

@@ -5,8 +5,7 @@ use native.Mathlib.Numerals.{sub-one}
 use mathlib.Core.Path.{_≡_, refl, ap, subst, _∙_}
 use mathlib.Core.List.{List}
 use mathlib.Core.Bool.{Bool, true, false, cond}
-use lib.ListN.{length, getD, drop, take, length-drop}
-use lib.Seq.{take-all}
+use lib.ListN.{length, getD, drop}
 use lib.Dec.{eqb}
 use borrow.Author.Tests.{le-leb, lt-leb, eq-eqb, ne-eqb}
 use Rattle.term.specs.Code.{codeIn}
@@ -17,7 +16,7 @@ use Rattle.term.specs.declared.Refusal.{Refusal}
 use Rattle.term.specs.declared.Refusal.the-variants.{Long, Spare}
 use Rattle.term.proofs.Sizes.{encode-length}
 use Rattle.reader.specs.Node.{nodeAt}
-use Rattle.reader.specs.Reading.{Answer, refused, read, shown, join, chain, readAll, grow, enter, readTree, whole, readWhole}
+use Rattle.reader.specs.Reading.{Parsed, refused, read, shown, join, chain, readAll, grow, enter, readTree, unlessSpare, readWhole}
 use Rattle.reader.specs.declared.Node.{Node}
 use Rattle.reader.specs.declared.Node.the-variants.{Open}
 use Rattle.reader.specs.declared.Read.{Read}
@@ -52,12 +51,12 @@ abbrev pub plus : ℕ → Read → Read
 plus n (Read.Refused r) = Read.Refused r
 plus n (Ends m) = Ends (n + m)
 
-shown-grow : (c : Code) (size : ℕ) (a : Answer Trees) → shown (grow c size a) ≡ plus size (shown a)
+shown-grow : (c : Code) (size : ℕ) (a : Parsed Trees) → shown (grow c size a) ≡ plus size (shown a)
 unfolding shown grow
 shown-grow c size (refused r) = refl
 shown-grow c size (read ts n) = refl
 
-shown-join : (t : Tree) (n : ℕ) (a : Answer Trees) → shown (join t n a) ≡ plus n (shown a)
+shown-join : (t : Tree) (n : ℕ) (a : Parsed Trees) → shown (join t n a) ≡ plus n (shown a)
 unfolding shown join
 shown-join t n (refused r) = refl
 shown-join t n (read ts m) = refl
@@ -67,14 +66,10 @@ abbrev pub andThen : Read → (ℕ → Read) → Read
 andThen (Read.Refused r) g = Read.Refused r
 andThen (Ends n) g = plus n (g n)
 
-pub shown-chain : (a : Answer Tree) (g : ℕ → Answer Trees) → shown (chain a g) ≡ andThen (shown a) (λ n. shown (g n))
+pub shown-chain : (a : Parsed Tree) (g : ℕ → Parsed Trees) → shown (chain a g) ≡ andThen (shown a) (λ n. shown (g n))
 unfolding shown chain
 shown-chain (refused r) g = refl
 shown-chain (read t n) g = shown-join t n (g n)
-
--- a part to the end is what is left after so many elements
-pub rest-part : (a : ℕ) (s : List ℕ) → take (length s - a) (drop a s) ≡ drop a s
-rest-part a s = take-all (length s - a) (drop a s) (omega (arith, length-drop a s))
 
 -- One tree
 
@@ -94,12 +89,12 @@ module _ (table : List ℕ) (records : Bool) (left : ℕ) (inList : Bool) (s : L
 
 -- So many trees
 
-pub all-none : (f : List ℕ → Answer Tree) (k : ℕ) (s : List ℕ) → k ≡ 0 → shown (readAll f k s) ≡ Ends 0
+pub all-none : (f : List ℕ → Parsed Tree) (k : ℕ) (s : List ℕ) → k ≡ 0 → shown (readAll f k s) ≡ Ends 0
 unfolding shown readAll
 all-none f k s e = rw e
 
 -- one more is the first, and then one fewer
-pub all-more : (f : List ℕ → Answer Tree) (k : ℕ) (s : List ℕ) → (k ≡ 0 → ⊥) → readAll f k s ≡ chain (f s) (λ n. readAll f (k - 1) (drop n s))
+pub all-more : (f : List ℕ → Parsed Tree) (k : ℕ) (s : List ℕ) → (k ≡ 0 → ⊥) → readAll f k s ≡ chain (f s) (λ n. readAll f (k - 1) (drop n s))
 unfolding readAll
 all-more f zero s h = absurd (h refl)
 all-more f (suc k) s h = rw (sub-one (suc k))
@@ -111,24 +106,24 @@ module _ (records : Bool) (table s : List ℕ) where
   unfolding readWhole shown
   whole-long h = rw (lt-leb (length s) (longest records) h)
 
-  pub whole-tree : length s ≤ longest records → readWhole records table s ≡ whole s (readTree table records nesting false s)
+  pub whole-tree : length s ≤ longest records → readWhole records table s ≡ unlessSpare s (readTree table records nesting false s)
   unfolding readWhole
   whole-tree h = rw (le-leb (length s) (longest records) h)
 
-pub whole-refused : (s : List ℕ) (a : Answer Tree) (r : Refusal) → shown a ≡ Read.Refused r → shown (whole s a) ≡ Read.Refused r
-unfolding shown whole
+pub whole-refused : (s : List ℕ) (a : Parsed Tree) (r : Refusal) → shown a ≡ Read.Refused r → shown (unlessSpare s a) ≡ Read.Refused r
+unfolding shown unlessSpare
 whole-refused s a r e = rw (refused-shown a r e)
 
-whole-ends : (s : List ℕ) (a : Answer Tree) (n : ℕ) → shown a ≡ Ends n → shown (whole s a) ≡ cond (eqb n (length s)) (Ends n) (Read.Refused Spare)
-unfolding shown whole
+whole-ends : (s : List ℕ) (a : Parsed Tree) (n : ℕ) → shown a ≡ Ends n → shown (unlessSpare s a) ≡ cond (eqb n (length s)) (Ends n) (Read.Refused Spare)
+unfolding shown unlessSpare
 whole-ends s a n e = let x = ends-shown a n e in rw (x .1) (by (x .0) (eqb n (length s)))
   where
     by : (t : Tree) (b : Bool) → shown (cond b (read t n) (refused Spare)) ≡ cond b (Ends n) (Read.Refused Spare)
     by t true = refl
     by t false = refl
 
-pub whole-spare : (s : List ℕ) (a : Answer Tree) (n : ℕ) → shown a ≡ Ends n → n < length s → shown (whole s a) ≡ Read.Refused Spare
+pub whole-spare : (s : List ℕ) (a : Parsed Tree) (n : ℕ) → shown a ≡ Ends n → n < length s → shown (unlessSpare s a) ≡ Read.Refused Spare
 whole-spare s a n e h = whole-ends s a n e ∙ simp (ne-eqb n (length s) (omega arith))
 
-pub whole-all : (s : List ℕ) (a : Answer Tree) (n : ℕ) → shown a ≡ Ends n → n ≤ length s → length s ≤ n → shown (whole s a) ≡ Ends n
+pub whole-all : (s : List ℕ) (a : Parsed Tree) (n : ℕ) → shown a ≡ Ends n → n ≤ length s → length s ≤ n → shown (unlessSpare s a) ≡ Ends n
 whole-all s a n e h k = whole-ends s a n e ∙ simp (eq-eqb n (length s) (omega arith))

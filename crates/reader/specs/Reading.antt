@@ -21,12 +21,12 @@ use Rattle.reader.specs.declared.Read.{Read}
 use Rattle.reader.specs.declared.Read.the-variants.{Ends}
 
 -- a refusal, or what was read and its number of bytes
-pub data Answer (A : Type 0) : Type 0 where
-  refused : Refusal → Answer A
-  read : A → ℕ → Answer A
+pub data Parsed (A : Type 0) : Type 0 where
+  refused : Refusal → Parsed A
+  read : A → ℕ → Parsed A
 
 -- what the code answers: the number of bytes alone
-unfoldable pub shown : {A : Type 0} → Answer A → Read
+unfoldable pub shown : {A : Type 0} → Parsed A → Read
 shown (refused r) = Read.Refused r
 shown (read a n) = Ends n
 
@@ -39,37 +39,37 @@ abbrev pub readLength : Read → ℕ
 readLength (Ends n) = n
 readLength (Read.Refused r) = 0
 
-unfoldable pub join : Tree → ℕ → Answer Trees → Answer Trees
+unfoldable pub join : Tree → ℕ → Parsed Trees → Parsed Trees
 join t n (refused r) = refused r
 join t n (read ts m) = read (more t ts) (n + m)
 
 -- a tree, and then the rest, which starts past its bytes
-unfoldable pub chain : Answer Tree → (ℕ → Answer Trees) → Answer Trees
+unfoldable pub chain : Parsed Tree → (ℕ → Parsed Trees) → Parsed Trees
 chain (refused r) g = refused r
 chain (read t n) g = join t n (g n)
 
 -- so many trees, one after the other, by a reader of one
-unfoldable pub readAll : (List ℕ → Answer Tree) → ℕ → List ℕ → Answer Trees
+unfoldable pub readAll : (List ℕ → Parsed Tree) → ℕ → List ℕ → Parsed Trees
 readAll f zero s = read empty 0
 readAll f (suc k) s = chain (f s) (λ n. readAll f k (drop n s))
 
-unfoldable pub grow : Code → ℕ → Answer Trees → Answer Tree
+unfoldable pub grow : Code → ℕ → Parsed Trees → Parsed Tree
 grow c size (refused r) = refused r
 grow c size (read ts n) = read (branch c ts) (size + n)
 
 -- a node that is open goes on with its children
-unfoldable pub enter : Code → Node → (ℕ → ℕ → Bool → ℕ → Answer Trees) → Answer Tree
+unfoldable pub enter : Code → Node → (ℕ → ℕ → Bool → ℕ → Parsed Trees) → Parsed Tree
 enter c (Node.Refused r) g = refused r
 enter c (Open size k list low) g = grow c size (g size k list low)
 
 -- the tree at the start of s. The first number bounds the nodes: as many as s has bytes are enough, and with none left s is short
-unfoldable pub readBy : List ℕ → Bool → ℕ → ℕ → Bool → List ℕ → Answer Tree
+unfoldable pub readBy : List ℕ → Bool → ℕ → ℕ → Bool → List ℕ → Parsed Tree
 readBy table records zero left inList s = refused Short
 readBy table records (suc n) left inList s =
     enter (codeIn records (getD s 0 0)) (nodeAt table records inList left s)
     (λ size k list low. readAll (readBy table records n low list) k (drop size s))
 
-unfoldable pub readTree : List ℕ → Bool → ℕ → Bool → List ℕ → Answer Tree
+unfoldable pub readTree : List ℕ → Bool → ℕ → Bool → List ℕ → Parsed Tree
 readTree table records left inList s = readBy table records (length s) left inList s
 
 -- a node's refusal is handed on; of an open node it says nothing
@@ -78,26 +78,26 @@ HandsOn (Node.Refused r) a = a ≡ Read.Refused r
 HandsOn (Open size k list low) a = Unit {0}
 
 -- 3 where bytes are left after the tree
-unfoldable pub whole : List ℕ → Answer Tree → Answer Tree
-whole s (refused r) = refused r
-whole s (read t n) = cond (eqb n (length s)) (read t n) (refused Spare)
+unfoldable pub unlessSpare : List ℕ → Parsed Tree → Parsed Tree
+unlessSpare s (refused r) = refused r
+unlessSpare s (read t n) = cond (eqb n (length s)) (read t n) (refused Spare)
 
 -- the whole of s as one tree
-unfoldable pub readWhole : Bool → List ℕ → List ℕ → Answer Tree
+unfoldable pub readWhole : Bool → List ℕ → List ℕ → Parsed Tree
 readWhole records table s =
-    cond (leb (length s) (longest records)) (whole s (readTree table records nesting false s)) (refused Long)
+    cond (leb (length s) (longest records)) (unlessSpare s (readTree table records nesting false s)) (refused Long)
 
 -- true where s is known to be a record; false says nothing
 abbrev pub Shallow : List ℕ → List ℕ → Bool → Type 0
 Shallow table s true = shown (readWhole true table s) ≡ Ends (length s)
 Shallow table s false = Unit {0}
 
-unfoldable pub mapAnswer : {A B : Type 0} → (A → B) → Answer A → Answer B
-mapAnswer f (refused r) = refused r
-mapAnswer f (read a n) = read (f a) n
+unfoldable pub mapParsed : {A B : Type 0} → (A → B) → Parsed A → Parsed B
+mapParsed f (refused r) = refused r
+mapParsed f (read a n) = read (f a) n
 
-unfoldable pub readRecord : List ℕ → List ℕ → Answer Term
-readRecord table s = mapAnswer termOf (readWhole true table s)
+unfoldable pub readRecord : List ℕ → List ℕ → Parsed Term
+readRecord table s = mapParsed termOf (readWhole true table s)
 
-unfoldable pub readPattern : List ℕ → List ℕ → Answer Pattern
-readPattern table s = mapAnswer patternOf (readWhole false table s)
+unfoldable pub readPattern : List ℕ → List ℕ → Parsed Pattern
+readPattern table s = mapParsed patternOf (readWhole false table s)

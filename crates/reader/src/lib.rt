@@ -17,7 +17,7 @@ ghost use Rattle.reader.specs.Frame.{frame};
 ghost use Rattle.reader.specs.Reading.{shown, readNumber, readLength, readTree, HandsOn, readWhole, Shallow, readRecord, readPattern};
 
 // The most frames around a tree that is being read.
-const FRAMES: usize = NESTING as usize;
+pub const FRAMES: usize = NESTING as usize;
 
 // So many nodes with children are not nested too deep, nor are their children.
 const FEW_PARENTS: u8 = NESTING - 1;
@@ -34,10 +34,10 @@ pub enum Node {
 }
 
 // Trees that are still to be read: how many, the nesting left for them, and whether they are a list's children.
-struct Frame {
-    count: u8,
-    left: u8,
-    list: bool,
+pub struct Frame {
+    pub count: u8,
+    pub left: u8,
+    pub list: bool,
 }
 
 // A tree that was read ends after so many bytes.
@@ -175,13 +175,13 @@ pub fn node_at(table: &[u8], s: &[u8], records: bool, in_list: bool, left: u8) -
 }
 
 impl Frame {
-    const EMPTY: Frame = Frame {
+    pub const EMPTY: Frame = Frame {
         count: 0,
         left: 0,
         list: false,
     };
 
-    fn of(count: u8, left: u8, list: bool) -> Frame
+    pub fn of(count: u8, left: u8, list: bool) -> Frame
         ensures { λ r. ⌜ r ≡ frame count left list ⌝ }
     {
         Frame {

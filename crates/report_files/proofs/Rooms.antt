@@ -12,27 +12,27 @@ use Rattle.report_lines.specs.declared.File.{File}
 use Rattle.report_lines.specs.declared.File.the-variants.{Table, Rules, States}
 use Rattle.report_lines.proofs.Rooms.{report-room}
 use Rattle.report_lines.proofs.Cuts.{cut-report}
-use Rattle.report_files.specs.Files.{roomOf, startOf, filesRoom, bytesOf}
-use Rattle.report_files.specs.Loading.{Holds, Loads, Reported}
+use Rattle.report_files.specs.Files.{roomOf, roomStart, filesRoom, bytesOf}
+use Rattle.report_files.specs.Loading.{LoadOf, Loads, Reported}
 use Rattle.report_files.specs.declared.Loaded.{Loaded}
 
-pub room-within : (f : File) → startOf f + roomOf f ≤ filesRoom
+pub room-within : (f : File) → roomStart f + roomOf f ≤ filesRoom
 room-within Table = omega arith
 room-within Rules = omega arith
 room-within States = omega arith
 
-pub part-bytes : (f : File) (start n : ℕ) (files : List ℕ) → start ≡ startOf f → take (start + n - start) (drop start files) ≡ bytesOf f n files
+pub part-bytes : (f : File) (start n : ℕ) (files : List ℕ) → start ≡ roomStart f → take (start + n - start) (drop start files) ≡ bytesOf f n files
 part-bytes f start n files e = rw (add-sub-cancel-left, e)
 
 -- a part of the buffer that is lent and back: the room of a file
-pub room-loaded : (l : Loaded) (f : File) (before part : List ℕ) (start room : ℕ) → start ≡ startOf f → room ≡ roomOf f → length before ≡ filesRoom
-    → Holds l f (length (midOf start (start + room - start) before)) → length part ≡ length (midOf start (start + room - start) before)
+pub room-loaded : (l : Loaded) (f : File) (before part : List ℕ) (start room : ℕ) → start ≡ roomStart f → room ≡ roomOf f → length before ≡ filesRoom
+    → LoadOf l f (length (midOf start (start + room - start) before)) → length part ≡ length (midOf start (start + room - start) before)
     → Loads l f before (putMid start (start + room - start) before part)
 room-loaded l f before part start room e r wide held same =
     let within = room-within f in
     let end : start + room ≤ length before = omega arith in
     let size = mid-len start (start + room) before end in
-    let past : startOf f + roomOf f ≡ start + room = omega arith in
+    let past : roomStart f + roomOf f ≡ start + room = omega arith in
     let after = putMid start (start + room - start) before part in
     record {
       held = record { named = held .named; within = omega (arith, held .within) };
@@ -73,9 +73,9 @@ rooms-reported tableRead rulesRead statesRead t r s files before after size a b 
   rules = bytesOf Rules r files;
   states-read = statesRead;
   states = bytesOf States s files;
-  table-within = omega (arith, take-short t (drop (startOf Table) files));
-  rules-within = omega (arith, take-short r (drop (startOf Rules) files));
-  states-within = omega (arith, take-short s (drop (startOf States) files));
+  table-within = omega (arith, take-short t (drop (roomStart Table) files));
+  rules-within = omega (arith, take-short r (drop (roomStart Rules) files));
+  states-within = omega (arith, take-short s (drop (roomStart States) files));
   sized = put .0;
   contents = put .1;
 }

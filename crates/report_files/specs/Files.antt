@@ -18,17 +18,17 @@ abbrev pub roomOf : File → ℕ
 roomOf f = longestOf f + 1
 
 -- the rooms lie one after the other
-abbrev pub startOf : File → ℕ
-startOf Table = 0
-startOf Rules = roomOf Table
-startOf States = roomOf Table + roomOf Rules
+abbrev pub roomStart : File → ℕ
+roomStart Table = 0
+roomStart Rules = roomOf Table
+roomStart States = roomOf Table + roomOf Rules
 
 abbrev pub filesRoom : ℕ
 filesRoom = roomOf Table + roomOf Rules + roomOf States
 
 -- the first n bytes in the room of a file
 abbrev pub bytesOf : File → ℕ → List ℕ → List ℕ
-bytesOf f n files = take n (drop (startOf f) files)
+bytesOf f n files = take n (drop (roomStart f) files)
 
 -- the name of a file, of three
 abbrev pub nameOf : File → List ℕ → List ℕ → List ℕ → List ℕ

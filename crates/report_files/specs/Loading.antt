@@ -7,19 +7,19 @@ use lib.ListN.{length, take, drop}
 use Rattle.report_lines.specs.Report.{report, front}
 use Rattle.report_lines.specs.declared.File.{File}
 use Rattle.report_lines.specs.declared.File.the-variants.{Table, Rules, States}
-use Rattle.report_files.specs.Files.{roomOf, startOf, bytesOf}
+use Rattle.report_files.specs.Files.{roomOf, roomStart, bytesOf}
 use Rattle.report_files.specs.declared.Loaded.{Loaded}
 
 -- it is this file, and at most so many bytes of it
-pub record Holds (l : Loaded) (f : File) (room : ℕ) : Type 0 where
+pub record LoadOf (l : Loaded) (f : File) (room : ℕ) : Type 0 where
   pub named : l .file ≡ f
   pub within : l .size ≤ room
 
 -- it is loaded into its own room, and the other rooms stay
 pub record Loads (l : Loaded) (f : File) (before after : List ℕ) : Type 0 where
-  pub held : Holds l f (roomOf f)
-  pub before-stays : take (startOf f) after ≡ take (startOf f) before
-  pub past-stays : drop (startOf f + roomOf f) after ≡ drop (startOf f + roomOf f) before
+  pub held : LoadOf l f (roomOf f)
+  pub before-stays : take (roomStart f) after ≡ take (roomStart f) before
+  pub past-stays : drop (roomStart f + roomOf f) after ≡ drop (roomStart f + roomOf f) before
 
 -- the report on three files that were loaded
 abbrev pub loadedReport : Loaded → Loaded → Loaded → List ℕ → List ℕ

@@ -7,8 +7,8 @@ ghost use Prim.Native.Nat.{_+_, _≤_};
 ghost use lib.ListN.{length, take};
 ghost use Rattle.term.specs.Moment.{old, new};
 ghost use Rattle.report_lines.specs.Report.{front};
-ghost use Rattle.report_files.specs.Files.{roomOf, startOf, nameOf, bytesOf, filesRoom};
-ghost use Rattle.report_files.specs.Loading.{Holds, Loads, loadedReport, Reported};
+ghost use Rattle.report_files.specs.Files.{roomOf, roomStart, nameOf, bytesOf, filesRoom};
+ghost use Rattle.report_files.specs.Loading.{LoadOf, Loads, loadedReport, Reported};
 
 // One byte more than a table or a sheet may have, so that a longer file is refused by its own check.
 const TABLE_ROOM: usize = term::LARGEST_TABLE + 1;
@@ -38,7 +38,7 @@ fn room_of(file: File) -> usize
 
 // Where they start.
 fn start_of(file: File) -> usize
-    ensures { λ r. ⌜ r ≡ startOf file ⌝ }
+    ensures { λ r. ⌜ r ≡ roomStart file ⌝ }
 {
     match file {
         File::Table => 0,
@@ -60,7 +60,7 @@ fn name_of<'a>(file: File, table: &'a [u8], rules: &'a [u8], states: &'a [u8]) -
 
 // Reads until the buffer is full or the file ends.
 fn read_all(file: File, fd: i32, buffer: &mut [u8]) -> Loaded
-    ensures { λ r. ⌜ Holds r file (length (old buffer)) ⌝ }
+    ensures { λ r. ⌜ LoadOf r file (length (old buffer)) ⌝ }
 {
     let mut size: usize = 0;
     while size < buffer.len() {
@@ -130,9 +130,9 @@ fn put_loaded(
     files: &[u8],
     out: &mut [u8; report_lines::REPORT_ROOM],
 ) -> usize
-    requires { ⌜ Holds t File.Table (roomOf File.Table) ⌝ }
-    requires { ⌜ Holds r File.Rules (roomOf File.Rules) ⌝ }
-    requires { ⌜ Holds s File.States (roomOf File.States) ⌝ }
+    requires { ⌜ LoadOf t File.Table (roomOf File.Table) ⌝ }
+    requires { ⌜ LoadOf r File.Rules (roomOf File.Rules) ⌝ }
+    requires { ⌜ LoadOf s File.States (roomOf File.States) ⌝ }
     requires { ⌜ length (now files) ≡ filesRoom ⌝ }
     ensures { λ n. ⌜ n ≡ length (loadedReport t r s (old files)) ⌝ }
     ensures { λ _. ⌜ new out ≡ front (loadedReport t r s (old files)) (old out) ⌝ }

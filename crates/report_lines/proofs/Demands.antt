@@ -6,10 +6,10 @@ use mathlib.Core.List.{List, [], _∷_, _++_, append-assoc}
 use mathlib.Core.Bool.{true}
 use lib.ListN.{take, drop}
 use Rattle.term.specs.Limits.{Octets}
-use Rattle.sheet.specs.Entry.{entries, entryOf}
+use Rattle.sheet.specs.Entry.{entries, shownEntry}
 use Rattle.rules.specs.Call.{rulesOf}
 use Rattle.report_lines.specs.Line.{header, answerLine}
-use Rattle.report_lines.specs.Verdict.{AllAccepted}
+use Rattle.report_lines.specs.Verdict.{FilesAccepted}
 use Rattle.report_lines.specs.Report.{stateLine, linesFrom, lines, report}
 use Rattle.report_lines.specs.Demands.{withLine, StateShown}
 use Rattle.report_lines.proofs.States.{state-input}
@@ -26,8 +26,8 @@ lines-split table rules (suc k) i (x ∷ es) =
     ∙ sym (append-assoc (stateLine table rules i x) (linesFrom table rules (i + 1) (take k es)) (linesFrom table rules (i + suc k) (drop k es)))
 
 -- the line of a state in its place
-placed-line : (table rules states : List ℕ) (n k : ℕ) → AllAccepted table rules states n → k < n
-    → report true table true rules true states ≡ withLine table rules states k (stateLine table rules k (entryOf states k))
+placed-line : (table rules states : List ℕ) (n k : ℕ) → FilesAccepted table rules states n → k < n
+    → report true table true rules true states ≡ withLine table rules states k (stateLine table rules k (shownEntry states k))
 unfolding lines
 placed-line table rules states n k v h =
     let z : 0 + k ≡ k = omega arith in
@@ -37,7 +37,7 @@ placed-line table rules states n k v h =
     (lines-split table rules k 0 (entries states) ∙ ap (λ (j : ℕ). front ++ linesFrom table rules j (drop k (entries states))) z
     ∙ ap (λ (t : List ℕ). front ++ t) (next-line table rules states n v k h))
 
-pub state-shown : (table rules states : List ℕ) → Octets rules → Octets states → (n k : ℕ) → AllAccepted table rules states n → k < n
+pub state-shown : (table rules states : List ℕ) → Octets rules → Octets states → (n k : ℕ) → FilesAccepted table rules states n → k < n
     → StateShown table rules states k
 unfolding stateLine
 state-shown table rules states ro so n k v h =

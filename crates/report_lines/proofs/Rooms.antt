@@ -11,12 +11,12 @@ use borrow.Author.Tests.{ltb-false, leb-true}
 use Rattle.term.specs.Term.{Term}
 use Rattle.term.specs.Pattern.{Pattern}
 use Rattle.term.specs.Refusal.{numberOf}
-use Rattle.reader.specs.Reading.{Answer as Reading, refused, read, readRecord}
+use Rattle.reader.specs.Reading.{Parsed, refused, read, readRecord}
 use Rattle.term.specs.declared.Refusal.{Refusal}
 use Rattle.anti_pattern.specs.Language.{Language, language}
-use Rattle.anti_pattern.specs.Search.{Outcome, found, failed, whole}
-use Rattle.anti_pattern.specs.Answer.{Answer, bound, nothing, spent, countOf, shown, limit, answer}
-use Rattle.sheet.specs.Check.{lengthAt, followed, checkSheet}
+use Rattle.anti_pattern.specs.Search.{Answers, found, failed, whole}
+use Rattle.anti_pattern.specs.Answer.{Matching, bound, nothing, spent, countOf, matchingOf, limit, answer}
+use Rattle.sheet.specs.Check.{lengthAt, entriesFollow, checkSheet}
 use Rattle.sheet.specs.Entry.{entries}
 use Rattle.sheet.specs.Contents.{mostRules, checkRules}
 use Rattle.sheet.specs.declared.Checked.the-variants.{Accepted}
@@ -44,7 +44,7 @@ use Rattle.report_lines.proofs.Verdicts.{lines-accepted}
 
 -- a rule counts to the allowance at most
 
-abbrev Counted : Answer → Type 0
+abbrev Counted : Matching → Type 0
 Counted (bound ps n) = n ≤ allowance
 Counted (nothing n) = n ≤ allowance
 Counted (spent n) = n ≤ allowance
@@ -53,7 +53,7 @@ answer-counted : (l : Language) (q : Pattern) (t : Term) → Counted (answer l q
 unfolding answer
 answer-counted l q t = go (whole l q t .out) (countOf l q t) (ltb allowance (countOf l q t)) refl
   where
-    go : (o : Outcome) (n : ℕ) (b : Bool) → ltb allowance n ≡ b → Counted (limit b allowance (shown (l .table) o n))
+    go : (o : Answers) (n : ℕ) (b : Bool) → ltb allowance n ≡ b → Counted (limit b allowance (matchingOf (l .table) o n))
     go o n true e = omega arith
     go (found x m o) n false e = ltb-false allowance n e
     go failed n false e = ltb-false allowance n e
@@ -65,13 +65,13 @@ Small (boundAt i ps n) = (i < mostRules) × (n ≤ mostRules * allowance)
 Small (noneOf n) = n ≤ mostRules * allowance
 Small (spentAt i n) = (i < mostRules) × (n ≤ mostRules * allowance)
 
-trial-small : {A : Type 0} (own : A → Answer) → ((q : A) → Counted (own q)) → (i sum : ℕ) (qs : List A) → i + length qs ≤ mostRules → sum ≤ i * allowance
+trial-small : {A : Type 0} (own : A → Matching) → ((q : A) → Counted (own q)) → (i sum : ℕ) (qs : List A) → i + length qs ≤ mostRules → sum ≤ i * allowance
     → Small (tryEach own i sum qs)
 unfolding tryEach
 trial-small own counted i sum [] h l = omega arith
 trial-small own counted i sum (q ∷ qs) h l = go (own q) (counted q) (λ s m. trial-small own counted (i + 1) s qs (omega arith) m)
   where
-    go : (a : Answer) → Counted a → ((s : ℕ) → s ≤ (i + 1) * allowance → Small (tryEach own (i + 1) s qs))
+    go : (a : Matching) → Counted a → ((s : ℕ) → s ≤ (i + 1) * allowance → Small (tryEach own (i + 1) s qs))
         → Small (tryOne i sum a (λ s. tryEach own (i + 1) s qs))
     go (bound ps n) c rest = (omega arith, omega arith)
     go (nothing n) c rest = rest (sum + n) (omega arith)
@@ -98,7 +98,7 @@ module _ (table rules : List ℕ) (m : ℕ) (p : checkRules table rules ≡ Acce
   unfolding stateLine answerOf checks answerLine
   line-short k h e = rw (contents-passed false table rules m p .tabled, p) (go (readRecord table e))
     where
-      go : (x : Reading Term) → length (answerLine k (answerBy RuleAnswer.Refused
+      go : (x : Parsed Term) → length (answerLine k (answerBy RuleAnswer.Refused
           (λ (y : List Pattern × Term). told (tryRules (language table []) (y .0) (y .1) allowance))
           (both (passed (rulesOf table (entries rules))) (reading x)))) ≤ lineRoom
       go (refused r) = omega arith
@@ -114,7 +114,7 @@ module _ (table rules : List ℕ) (m : ℕ) (p : checkRules table rules ≡ Acce
       simp length-append (omega (arith, line-short k (omega arith) e, lines-short (k + 1) es (omega arith)))
 
 -- each entry of a sheet has a pair and a byte at least
-follow-room : (s : List ℕ) (k i at : ℕ) → followed s k i at ≡ true → at + k ≤ length s
+follow-room : (s : List ℕ) (k i at : ℕ) → entriesFollow s k i at ≡ true → at + k ≤ length s
 follow-room s zero i at h = omega (arith, follow-within s zero i at h)
 follow-room s (suc k) i at h = let a = follow-true s k i at h in omega (arith, follow-room s k (i + 1) (at + lengthAt s i) (a .2), a .1)
 

@@ -9,7 +9,7 @@ use mathlib.Core.Bool.{true}
 use lib.ListN.{length, drop, length-append, drop-of-length-le}
 use lib.Seq.{sets, length-sets, drop-cons}
 use Rattle.sheet.specs.Check.{entryCount}
-use Rattle.sheet.specs.Entry.{entries, entryOf}
+use Rattle.sheet.specs.Entry.{entries, shownEntry}
 use Rattle.sheet.proofs.Checks.{accepted-directed}
 use Rattle.sheet.proofs.Entries.{entries-count}
 use Rattle.sheet.proofs.Stores.{sets-append}
@@ -17,7 +17,7 @@ use Rattle.call.specs.Call.{answerWidth}
 use Rattle.rules.specs.Call.{answerOf}
 use Rattle.rules.specs.declared.RuleAnswer.{RuleAnswer}
 use Rattle.report_lines.specs.Line.{header, answerLine}
-use Rattle.report_lines.specs.Verdict.{AllAccepted}
+use Rattle.report_lines.specs.Verdict.{FilesAccepted}
 use Rattle.report_lines.specs.Report.{allowance, stateLine, linesFrom, lines, report, reportRoom}
 use Rattle.report_lines.specs.declared.Verdict.the-variants.{Lines}
 use Rattle.report_lines.proofs.Verdicts.{report-by}
@@ -37,23 +37,23 @@ pub record Turn (table rules states first : List ℕ) (from : ℕ) (out : List �
 pub turn-starts : (table rules states first : List ℕ) (from : ℕ) → Turn table rules states first from first 0 from
 turn-starts table rules states first from = record { same = refl; ends = refl; left = refl }
 
-module _ (table rules states : List ℕ) (n : ℕ) (v : AllAccepted table rules states n) where
+module _ (table rules states : List ℕ) (n : ℕ) (v : FilesAccepted table rules states n) where
   states-count : entryCount states ≡ n
   states-count = accepted-directed states n (states-sheet table rules states n v) .counted
 
   -- by the count that the sheet tells, each state below n is one of accepted files
-  pub state-counted : (k : ℕ) → k < n → AllAccepted table rules states (entryCount states) × (k < entryCount states)
+  pub state-counted : (k : ℕ) → k < n → FilesAccepted table rules states (entryCount states) × (k < entryCount states)
   state-counted k h = rw states-count (v, h)
 
   pub accepted-report : report true table true rules true states ≡ lines table rules states
   accepted-report = sym (report-by true table true rules true states (Lines n) v)
 
-  entries-left : (k : ℕ) → k < n → drop k (entries states) ≡ entryOf states k ∷ drop (k + 1) (entries states)
+  entries-left : (k : ℕ) → k < n → drop k (entries states) ≡ shownEntry states k ∷ drop (k + 1) (entries states)
   entries-left k h =
       let counted = entries-count states n (states-sheet table rules states n v) in
       rw (record-entry table rules states n k v h, add-one) (drop-cons (entries states) k [] (omega arith))
 
-  pub next-line : (k : ℕ) → k < n → linesLeft table rules states k ≡ stateLine table rules k (entryOf states k) ++ linesLeft table rules states (k + 1)
+  pub next-line : (k : ℕ) → k < n → linesLeft table rules states k ≡ stateLine table rules k (shownEntry states k) ++ linesLeft table rules states (k + 1)
   unfolding linesFrom
   next-line k h = ap (linesFrom table rules k) (entries-left k h)
 
@@ -70,7 +70,7 @@ module _ (table rules states : List ℕ) (n : ℕ) (v : AllAccepted table rules 
     unfolding lines
     whole-length = simp length-append (omega arith)
 
-    module _ (a : RuleAnswer) (h : state < n) (answers : a ≡ answerOf table none rules (entryOf states state) allowance answerWidth) where
+    module _ (a : RuleAnswer) (h : state < n) (answers : a ≡ answerOf table none rules (shownEntry states state) allowance answerWidth) where
       answer-next : linesLeft table rules states state ≡ answerLine state a ++ linesLeft table rules states (state + 1)
       unfolding stateLine
       answer-next = next-line state h ∙ ap (λ (b : RuleAnswer). answerLine state b ++ linesLeft table rules states (state + 1)) (sym answers)

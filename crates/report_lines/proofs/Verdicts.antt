@@ -10,7 +10,7 @@ use Rattle.term.specs.declared.Refusal.the-variants.{Unread}
 use Rattle.sheet.specs.Contents.{checkContents, checkRules, checkStates}
 use Rattle.sheet.specs.declared.Checked.{Checked}
 use Rattle.sheet.specs.declared.Checked.the-variants.{Accepted}
-use Rattle.report_lines.specs.Verdict.{readable, verdict, AllAccepted}
+use Rattle.report_lines.specs.Verdict.{readable, verdict, FilesAccepted}
 use Rattle.report_lines.specs.Report.{reportBy, report}
 use Rattle.report_lines.specs.declared.File.{File}
 use Rattle.report_lines.specs.declared.File.the-variants.{Rules, States}
@@ -66,14 +66,14 @@ file-accepted false checks n e = let z : _≡_ {A = ℕ} 0 1 = cc in absurd (ome
 
 pub lines-accepted : (tableRead : Bool) (table : List ℕ) (rulesRead : Bool) (rules : List ℕ) (statesRead : Bool) (states : List ℕ) (n : ℕ)
     → verdict tableRead table rulesRead rules statesRead states ≡ Lines n
-    → ((m : ℕ) × (checkRules table rules ≡ Accepted m)) × (checkStates table states ≡ Accepted n) × AllAccepted table rules states n
+    → ((m : ℕ) × (checkRules table rules ≡ Accepted m)) × (checkStates table states ≡ Accepted n) × FilesAccepted table rules states n
 unfolding verdict
 lines-accepted tableRead table rulesRead rules statesRead states n v =
     go tableRead refl (tableAccepted table) refl (readable rulesRead (checkRules table rules)) refl (readable statesRead (checkStates table states)) refl
   where
     go : (a : Bool) → tableRead ≡ a → (t : Bool) → tableAccepted table ≡ t → (x : Checked) → readable rulesRead (checkRules table rules) ≡ x
         → (y : Checked) → readable statesRead (checkStates table states) ≡ y
-        → ((m : ℕ) × (checkRules table rules ≡ Accepted m)) × (checkStates table states ≡ Accepted n) × AllAccepted table rules states n
+        → ((m : ℕ) × (checkRules table rules ≡ Accepted m)) × (checkStates table states ≡ Accepted n) × FilesAccepted table rules states n
     go false a t b x e y f = let z : _≡_ {A = ℕ} 0 1 = cc in absurd (omega arith)
     go true a false b x e y f = let z : _≡_ {A = ℕ} 0 1 = cc in absurd (omega arith)
     go true a true b (Checked.Refused r i) e y f = let z : _≡_ {A = ℕ} 0 1 = cc in absurd (omega arith)

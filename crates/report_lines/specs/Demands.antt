@@ -7,11 +7,11 @@ use lib.ListN.{take, drop}
 use Rattle.term.specs.Term.{Term}
 use Rattle.term.specs.Pattern.{Pattern}
 use Rattle.anti_pattern.specs.Language.{language}
-use Rattle.sheet.specs.Entry.{entries, entryOf}
+use Rattle.sheet.specs.Entry.{entries, shownEntry}
 use Rattle.rules.specs.Trial.{tryRules}
 use Rattle.rules.specs.Call.{Input, told}
 use Rattle.report_lines.specs.Line.{header, answerLine}
-use Rattle.report_lines.specs.Verdict.{AllAccepted}
+use Rattle.report_lines.specs.Verdict.{FilesAccepted}
 use Rattle.report_lines.specs.Report.{allowance, stateLine, linesFrom, report}
 
 -- a report that has this line for the state of index k, after the header and the lines of the states before it
@@ -22,11 +22,11 @@ withLine table rules states k text =
 
 pub record StateShown (table rules states : List ℕ) (k : ℕ) : Type 0 where
   -- its line stands in its place
-  pub placed : report true table true rules true states ≡ withLine table rules states k (stateLine table rules k (entryOf states k))
+  pub placed : report true table true rules true states ≡ withLine table rules states k (stateLine table rules k (shownEntry states k))
   -- it shows what trying the rules on the record's term gives
-  pub shown : (qs : List Pattern) × (t : Term) × Input table rules (entryOf states k) qs t
-      × (stateLine table rules k (entryOf states k) ≡ answerLine k (told (tryRules (language table []) qs t allowance)))
+  pub shown : (qs : List Pattern) × (t : Term) × Input table rules (shownEntry states k) qs t
+      × (stateLine table rules k (shownEntry states k) ≡ answerLine k (told (tryRules (language table []) qs t allowance)))
   -- it depends on its index, the table, the rules and that record only: the report on other accepted states with this record there has
   -- the same line there
-  pub own : (others : List ℕ) (m : ℕ) → AllAccepted table rules others m → k < m → entryOf others k ≡ entryOf states k
-      → report true table true rules true others ≡ withLine table rules others k (stateLine table rules k (entryOf states k))
+  pub own : (others : List ℕ) (m : ℕ) → FilesAccepted table rules others m → k < m → shownEntry others k ≡ shownEntry states k
+      → report true table true rules true others ≡ withLine table rules others k (stateLine table rules k (shownEntry states k))

@@ -34,5 +34,5 @@ verdict tableRead table rulesRead rules statesRead states =
     (Verdict.Refused Unread File.Table 0)
 
 -- files that pass every check, with n states
-abbrev pub AllAccepted : List ℕ → List ℕ → List ℕ → ℕ → Type 0
-AllAccepted table rules states n = verdict true table true rules true states ≡ Lines n
+abbrev pub FilesAccepted : List ℕ → List ℕ → List ℕ → ℕ → Type 0
+FilesAccepted table rules states n = verdict true table true rules true states ≡ Lines n

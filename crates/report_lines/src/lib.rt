@@ -9,13 +9,13 @@ ghost use lib.ListN.{length};
 ghost use lib.Seq.{sets};
 ghost use Rattle.term.specs.Moment.{old, new};
 ghost use Rattle.sheet.specs.Check.{entryCount};
-ghost use Rattle.sheet.specs.Entry.{entryOf};
+ghost use Rattle.sheet.specs.Entry.{shownEntry};
 ghost use Rattle.sheet.specs.Contents.{checkContents};
 ghost use Rattle.call.specs.Call.{answerWidth};
 ghost use Rattle.rules.specs.Call.{answerOf};
 ghost use Rattle.report_lines.specs.Decimal.{decimal};
 ghost use Rattle.report_lines.specs.Line.{field, line, noneWord, dash, answerLine, refusedWord, refusalLine};
-ghost use Rattle.report_lines.specs.Verdict.{readable, verdict, AllAccepted};
+ghost use Rattle.report_lines.specs.Verdict.{readable, verdict, FilesAccepted};
 ghost use Rattle.report_lines.specs.Report.{allowance, lines, report, reportRoom, front};
 ghost use Rattle.report_lines.specs.Codes.{kindWord, codeLine, codesRoom, codeList};
 
@@ -154,9 +154,9 @@ fn put_answer(out: &mut [u8], at: usize, state: usize, answer: RuleAnswer) -> us
 
 // What the rules answer on the state of an index, in files that were checked before.
 fn match_state(table: &[u8], rules: &[u8], states: &[u8], state: usize) -> RuleAnswer
-    requires { ⌜ AllAccepted (now table) (now rules) (now states) (entryCount (now states)) ⌝ }
+    requires { ⌜ FilesAccepted (now table) (now rules) (now states) (entryCount (now states)) ⌝ }
     requires { ⌜ state < entryCount (now states) ⌝ }
-    ensures { λ r. ⌜ r ≡ answerOf (old table) none (old rules) (entryOf (old states) state) allowance answerWidth ⌝ }
+    ensures { λ r. ⌜ r ≡ answerOf (old table) none (old rules) (shownEntry (old states) state) allowance answerWidth ⌝ }
 {
     let mut answer = [0u16; matcher::ANSWER_WIDTH];
     rules::match_rules_checked(
@@ -171,7 +171,7 @@ fn match_state(table: &[u8], rules: &[u8], states: &[u8], state: usize) -> RuleA
 
 // Puts the report on n states, of files that were checked before, and answers its length.
 fn put_lines(table: &[u8], rules: &[u8], states: &[u8], n: usize, out: &mut [u8]) -> usize
-    requires { ⌜ AllAccepted (now table) (now rules) (now states) n ⌝ }
+    requires { ⌜ FilesAccepted (now table) (now rules) (now states) n ⌝ }
     requires { ⌜ reportRoom ≤ length (now out) ⌝ }
     ensures { λ _. ⌜ new out ≡ sets (old out) 0 (lines (old table) (old rules) (old states)) ⌝ }
     ensures { λ r. ⌜ r ≡ length (lines (old table) (old rules) (old states)) ⌝ }

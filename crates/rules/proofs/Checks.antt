@@ -14,7 +14,7 @@ use Rattle.term.specs.Table.{tableAccepted}
 use Rattle.term.specs.Term.{Term}
 use Rattle.term.specs.Pattern.{Pattern}
 use Rattle.term.specs.Limits.{Octets}
-use Rattle.reader.specs.Reading.{Answer as Reading, refused, read, shown, readPattern, readRecord}
+use Rattle.reader.specs.Reading.{Parsed, refused, read, shown, readPattern, readRecord}
 use Rattle.term.specs.declared.Refusal.{Refusal}
 use Rattle.term.specs.declared.Refusal.the-variants.{Table, Narrow, Class}
 use Rattle.reader.specs.declared.Read.{Read}
@@ -44,7 +44,7 @@ module _ (table : List ℕ) where
   unfolding checkEach readEntry shown
   entry-passed e es i n a = go (readPattern table e) refl
     where
-      go : (x : Reading Pattern) → readPattern table e ≡ x
+      go : (x : Parsed Pattern) → readPattern table e ≡ x
           → (q : Pattern) × (m : ℕ) × (readPattern table e ≡ read q m) × (checkEach false table (i + 1) es ≡ Accepted n)
       go (refused r) f = let z : _≡_ {A = ℕ} 0 1 = cc in absurd (omega arith)
       go (read q m) f = (q, m, f, cc)

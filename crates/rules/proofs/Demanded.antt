@@ -17,7 +17,7 @@ use Rattle.term.specs.declared.Part.{Part}
 use Rattle.term.specs.declared.Refusal.{Refusal}
 use Rattle.term.proofs.Numbers.{word-or-refusal}
 use Rattle.anti_pattern.specs.AntiTerm.{Substitution}
-use Rattle.anti_pattern.specs.Answer.{Answer as Outcome, countOf}
+use Rattle.anti_pattern.specs.Answer.{Matching, countOf}
 use Rattle.anti_pattern.specs.Cost.{Enough}
 use Rattle.anti_pattern.specs.Demands.{First, PublishedAgrees}
 use Rattle.anti_pattern.specs.Language.{Language, TermOf}
@@ -172,8 +172,8 @@ module _ (table : List ℕ) (brought : Option (List ℕ)) (sheet bytes before : 
         let z : j ≡ k = cc in
         let p = part-of r in
         let s = own-answered table brought (partAt sheet j) bytes alike q t (p .0) allowance before (p .1) record-octets wide accepted .bound-shows
-        (ap (λ (o : Outcome). answerNumber (ownTold o)) f) in
-        (q, sum, reached-at l qs t allowance z r, (s .0, s .1, subst (Shows table bytes q t (s .0)) (ap (λ (o : Outcome). written (ownParts o) before) f) (s .2)))
+        (ap (λ (o : Matching). answerNumber (ownTold o)) f) in
+        (q, sum, reached-at l qs t allowance z r, (s .0, s .1, subst (Shows table bytes q t (s .0)) (ap (λ (o : Matching). written (ownParts o) before) f) (s .2)))
     bound-shows k n (ends-none h) e = let z : _≡_ {A = ℕ} 0 1 = cc in absurd (omega arith)
     bound-shows k n (ends-spent r f) e = let z : _≡_ {A = ℕ} 0 1 = cc in absurd (omega arith)
 

@@ -8,7 +8,7 @@ use Rattle.term.specs.Class.{Alike}
 use Rattle.term.specs.Term.{Term}
 use Rattle.term.specs.Pattern.{Pattern}
 use Rattle.term.specs.declared.Part.{Part}
-use Rattle.anti_pattern.specs.Answer.{Answer as Outcome, bound, nothing, spent, countOf, answer}
+use Rattle.anti_pattern.specs.Answer.{Matching, bound, nothing, spent, countOf, answer}
 use Rattle.anti_pattern.specs.Language.{Language, TermOf}
 use Rattle.anti_pattern.proofs.Demands.{answer-exact}
 use Rattle.rules.specs.Answer.{ruleNumber}
@@ -91,7 +91,7 @@ module _ (l : Language) (alike : Alike (l .table) (l .classes)) (t : Term) (of :
   ending-of [] = ending (noneOf 0) refl (ends-none tt)
   ending-of (p ∷ qs) = go (answer l p t allowance) refl (ending-of qs)
     where
-      go : (o : Outcome) → answer l p t allowance ≡ o → Ending qs → Ending (p ∷ qs)
+      go : (o : Matching) → answer l p t allowance ≡ o → Ending qs → Ending (p ∷ qs)
       go (bound ps n) e rest = ending _ (trial-bound (first-reached l t allowance p qs) ps n e) (ends-bound (first-reached l t allowance p qs) e)
       go (spent n) e rest = ending _ (trial-spent (first-reached l t allowance p qs) n e) (ends-spent (first-reached l t allowance p qs) e)
       go (nothing n) e (ending x z f) =
@@ -116,7 +116,7 @@ module _ (l : Language) (alike : Alike (l .table) (l .classes)) (t : Term) (of :
   larger-from more h [] i sum k = refl
   larger-from more h (q ∷ qs) i sum k = go (answer l q t allowance) refl k (larger-from more h qs (i + 1))
     where
-      go : (o : Outcome) → answer l q t allowance ≡ o
+      go : (o : Matching) → answer l q t allowance ≡ o
           → (ruleNumber (told (tryOne i sum o (λ s. tryFrom allowance (i + 1) s qs))) ≡ 11 → ⊥)
           → ((s : ℕ) → (ruleNumber (told (tryFrom allowance (i + 1) s qs)) ≡ 11 → ⊥) → tryFrom more (i + 1) s qs ≡ tryFrom allowance (i + 1) s qs)
           → tryOne i sum (answer l q t more) (λ s. tryFrom more (i + 1) s qs)

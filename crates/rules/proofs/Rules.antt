@@ -8,7 +8,7 @@ use Rattle.term.specs.Tree.{own, encode}
 use Rattle.term.specs.Term.{Term}
 use Rattle.term.specs.Pattern.{Pattern, name, symbol, complement, patternBytes}
 use Rattle.term.specs.Limits.{Octets, PatternAccepted}
-use Rattle.reader.specs.Reading.{Answer as Reading, refused, read, readPattern}
+use Rattle.reader.specs.Reading.{Parsed, refused, read, readPattern}
 use Rattle.sheet.specs.Sheet.{NoneEmpty}
 use Rattle.sheet.specs.Check.{entryCount}
 use Rattle.sheet.specs.Entry.{entryAt, entries, partAt}
@@ -82,6 +82,6 @@ unfolding rulesOf
 rules-few table [] = omega arith
 rules-few table (e ∷ es) = go (readPattern table e) (rules-few table es)
   where
-    go : (x : Reading Pattern) → length (rulesOf table es) ≤ length es → length (withRule x (rulesOf table es)) ≤ suc (length es)
+    go : (x : Parsed Pattern) → length (rulesOf table es) ≤ length es → length (withRule x (rulesOf table es)) ≤ suc (length es)
     go (refused r) rest = omega arith
     go (read q n) rest = omega arith

@@ -11,7 +11,7 @@ use Rattle.term.specs.Class.{Alike}
 use Rattle.term.specs.Term.{Term}
 use Rattle.term.specs.Pattern.{Pattern, name}
 use Rattle.term.specs.declared.Refusal.the-variants.{Narrow}
-use Rattle.anti_pattern.specs.Answer.{Answer as Outcome, bound, nothing, spent, answer}
+use Rattle.anti_pattern.specs.Answer.{Matching, bound, nothing, spent, answer}
 use Rattle.anti_pattern.specs.Language.{language}
 use Rattle.sheet.specs.Check.{entryCount}
 use Rattle.sheet.specs.Entry.{partAt}
@@ -40,7 +40,7 @@ parts-at sheet (suc k) i zero h = ap (partAt sheet) (omega arith)
 parts-at sheet (suc k) i (suc j) h = parts-at sheet k (i + 1) j (omega arith) ∙ ap (partAt sheet) (omega arith)
 
 -- lists whose elements answer alike are tried alike
-same-trial : {A B : Type 0} (f : A → Outcome) (g : B → Outcome) (d : A) (e : B) (xs : List A) (ys : List B) (i sum : ℕ) → length xs ≡ length ys
+same-trial : {A B : Type 0} (f : A → Matching) (g : B → Matching) (d : A) (e : B) (xs : List A) (ys : List B) (i sum : ℕ) → length xs ≡ length ys
     → ((k : ℕ) → k < length xs → f (getD xs k d) ≡ g (getD ys k e)) → tryEach f i sum xs ≡ tryEach g i sum ys
 unfolding tryEach
 same-trial f g d e [] [] i sum l h = refl
@@ -49,7 +49,7 @@ same-trial f g d e (x ∷ xs) [] i sum l h = absurd (omega arith)
 same-trial f g d e (x ∷ xs) (y ∷ ys) i sum l h =
     go (f x) (g y) (h 0 (omega arith)) (λ s. same-trial f g d e xs ys (i + 1) s (omega arith) (λ k b. h (suc k) (omega arith)))
   where
-    go : (o p : Outcome) → o ≡ p → ((s : ℕ) → tryEach f (i + 1) s xs ≡ tryEach g (i + 1) s ys)
+    go : (o p : Matching) → o ≡ p → ((s : ℕ) → tryEach f (i + 1) s xs ≡ tryEach g (i + 1) s ys)
         → tryOne i sum o (λ s. tryEach f (i + 1) s xs) ≡ tryOne i sum p (λ s. tryEach g (i + 1) s ys)
     go (bound ps n) p z r = rw (← z)
     go (nothing n) p z r = rw (← z) (r (sum + n))
@@ -57,7 +57,7 @@ same-trial f g d e (x ∷ xs) (y ∷ ys) i sum l h =
 
 module _ (table classes sheet bytes : List ℕ) (allowance : ℕ) where
   -- what a part answers as a rule, and all parts
-  abbrev own : List ℕ → Outcome
+  abbrev own : List ℕ → Matching
   own part = outcomeOnBytes table classes part bytes allowance
 
   abbrev parts : List (List ℕ)
@@ -144,13 +144,13 @@ Stops (Answer.None n) = ⊥
 Stops (Answer.Spent n) = Unit {0}
 Stops (Answer.Refused r) = Unit {0}
 
-stop-told : (k sum : ℕ) (o : Outcome) (next : ℕ → Trial) (before : List ℕ) → Stops (ownTold o)
+stop-told : (k sum : ℕ) (o : Matching) (next : ℕ → Trial) (before : List ℕ) → Stops (ownTold o)
     → (stopOf k sum (ownTold o) ≡ told (tryOne k sum o next)) × (written (ownParts o) before ≡ written (boundParts (tryOne k sum o next)) before)
 stop-told k sum (bound parts n) next before h = (refl, refl)
 stop-told k sum (nothing n) next before h = absurd h
 stop-told k sum (spent n) next before h = (refl, refl)
 
-none-told : (k sum : ℕ) (o : Outcome) (next : ℕ → Trial) (n : ℕ) (before : List ℕ) → ownTold o ≡ Answer.None n
+none-told : (k sum : ℕ) (o : Matching) (next : ℕ → Trial) (n : ℕ) (before : List ℕ) → ownTold o ≡ Answer.None n
     → (tryOne k sum o next ≡ next (sum + n)) × (written (ownParts o) before ≡ before)
 none-told k sum (bound parts m) next n before e = let z : _≡_ {A = ℕ} 0 1 = cc in absurd (omega arith)
 none-told k sum (nothing m) next n before e = let z : m ≡ n = cc in (ap (λ (x : ℕ). next (sum + x)) z, refl)
@@ -178,7 +178,7 @@ module _ {table classes sheet bytes : List ℕ} {allowance : ℕ} {before : List
       (called : (a ≡ ownAnswer table classes part bytes allowance (length buffer)) × (after ≡ ownBuffer table classes part bytes allowance buffer))
       (below : k < rules) where
     -- the own answer of the part, and the parts past it
-    abbrev outcome : Outcome
+    abbrev outcome : Matching
     outcome = own table classes sheet bytes allowance (partAt sheet k)
 
     abbrev later : ℕ → Trial

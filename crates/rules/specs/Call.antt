@@ -11,7 +11,7 @@ use Rattle.term.specs.Table.{tableAccepted}
 use Rattle.term.specs.Term.{Term, termBytes}
 use Rattle.term.specs.Pattern.{Pattern, patternBytes}
 use Rattle.term.specs.Limits.{TermAccepted, PatternAccepted}
-use Rattle.reader.specs.Reading.{Answer as Reading, refused, read, readPattern, readRecord}
+use Rattle.reader.specs.Reading.{Parsed, refused, read, readPattern, readRecord}
 use Rattle.term.specs.declared.Part.{Part}
 use Rattle.term.specs.declared.Refusal.the-variants.{Narrow}
 use Rattle.call.specs.Brought.{languageOf}
@@ -54,7 +54,7 @@ AcceptedTrees table sheet bytes x = Input table sheet bytes (x .0) (x .1)
 -- The checks, in order: those of every call, the rule sheet's, the record's; they read all trees
 
 -- the rules: the patterns that entries are read as. In a sheet that is accepted each is
-abbrev pub withRule : Reading Pattern → List Pattern → List Pattern
+abbrev pub withRule : Parsed Pattern → List Pattern → List Pattern
 withRule (refused r) qs = qs
 withRule (read q n) qs = q ∷ qs
 

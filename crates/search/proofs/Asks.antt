@@ -1,14 +1,14 @@
 -- What a step asks for: bytes of pattern and record, elements, allowance, and a variable that is not assigned.
 -- Assumes nothing.
-use Prim.Native.Nat.{ℕ, zero, suc, _+_, _<_, _≤_}
+use Prim.Native.Nat.{ℕ, zero, suc, _+_, _-_, _<_, _≤_}
 use native.Mathlib.Nat.{pos-of-ne-zero, le-refl}
 use native.Mathlib.Omega.{arith}
 use mathlib.Core.Bool.{Bool, true, false, _&&_, _||_}
 use mathlib.Core.List.{List, [], _∷_}
 use mathlib.Core.Path.{_≡_, refl}
-use lib.Dec.{leb, eqb, ltb}
+use lib.Dec.{leb, eqb}
 use lib.ListN.{length, getD, drop, length-drop}
-use borrow.Author.Tests.{leb-true, leb-false, eqb-false, ltb-true}
+use borrow.Author.Tests.{leb-true, eqb-false}
 use Rattle.term.proofs.Bools.{cond-all}
 use Rattle.term.proofs.Codes.{decode-below}
 use Rattle.term.proofs.Extents.{extent-some}
@@ -19,12 +19,14 @@ use Rattle.term.specs.Part.{isAbsent}
 use Rattle.term.specs.declared.Code.the-variants.{Symbol, Name, Run, Complement}
 use Rattle.term.specs.declared.Code.{Code}
 use Rattle.term.specs.declared.Part.{Part}
+use Rattle.steps.specs.Turn.{stepOf, variableIn, standsOf, overStep, symbolStep, assignedStep, nameStep, runStep, complementStep, pairStep, plainStep, codeStep, variableOf}
 use Rattle.search.specs.Inner.Bounds.{Ready}
-use Rattle.search.specs.State.{standsOf, overStep, symbolStep, assignedStep, nameStep, runStep, complementStep, pairStep, plainStep, codeStep, stepOf, variableOf, variableAt}
-use Rattle.search.specs.declared.Place.{Place}
-use Rattle.search.specs.declared.Step.the-variants.{Stops, Fails, Closes, Opens, Passes, Binds, PutsBy}
-use Rattle.search.specs.declared.Step.{Step}
-use Rattle.search.specs.declared.Stop.the-variants.{Failure, NoAllowance, NoPair, RunName}
+use Rattle.search.specs.State.{stepAt, variableAt}
+use Rattle.search.specs.declared.place.Place.{Place}
+use Rattle.steps.specs.declared.Step.the-variants.{Stops, Fails, Closes, Opens, Passes, Binds, PutsBy}
+use Rattle.steps.specs.declared.Step.{Step}
+use Rattle.steps.specs.declared.Stop.the-variants.{Failure, NoAllowance, NoPair, RunName}
+use Rattle.steps.proofs.Turns as turns
 
 -- a pair: so many elements, and so many bytes of pattern and record
 pub record Takes (codes bytes : ℕ) (p : Place) (left k n size : ℕ) : Type 0 where
@@ -79,23 +81,20 @@ stands-length : (table classes bytes : List ℕ) (had : Part) (r : List ℕ) →
 unfolding standsOf
 stands-length table classes bytes had r h = leb-true (had .length) (length r) (both _ _ h .0)
 
+some-bytes : (l : List ℕ) (at : ℕ) → (length (drop at l) ≡ 0 → ⊥) → at < length l
+some-bytes l at h = pos (length (drop at l)) (length-drop at l) h
+  where
+    pos : (n : ℕ) → n ≡ length l - at → (n ≡ 0 → ⊥) → at < length l
+    pos n e z = omega arith
+
 neither : (a b : Bool) → a || b ≡ false → (a ≡ false) × (b ≡ false)
 neither true true e = (e, e)
 neither true false e = (e, refl)
 neither false b e = (refl, e)
 
 pub variable-below : (pattern : List ℕ) (at : ℕ) → variableAt pattern at < variables
-unfolding variableAt VariableBelow
-variable-below pattern at =
-    cond-all (λ (v : ℕ). v < variables) (ltb at (length pattern)) (λ e. by (decodeOf (getD pattern at 0)) (decode-below (getD pattern at 0)))
-    (λ e. omega arith)
-  where
-    by : (c : Code) → VariableBelow c → variableOf c < variables
-    by (Symbol b) h = omega arith
-    by (Name v) h = h
-    by (Run v) h = h
-    by Complement h = omega arith
-    by Code.Refused h = omega arith
+unfolding variableAt
+variable-below pattern at = turns.variable-below (drop at pattern)
 
 module _ (outermost : Bool) (table classes pattern bytes : List ℕ) (had : Part) (p : Place) (left : ℕ) (node : p .node ≤ length bytes) where
   asks-over : Asks outermost pattern bytes had p left (overStep outermost (p .elements))
@@ -175,12 +174,11 @@ module _ (outermost : Bool) (table classes pattern bytes : List ℕ) (had : Part
         node = extent-within table bytes (p .node) node;
       }
 
-      asks-pair : (c : Code) → VariableBelow c → variableOf c ≡ variableAt pattern (p .at)
-          → Asks outermost pattern bytes had p left
-          (pairStep (outermost && eqb (p .children) 1) c table classes bytes (drop (p .at) pattern) (drop (p .node) bytes) had (p .elements))
+      asks-pair : (last : Bool) (c : Code) → VariableBelow c → variableOf c ≡ variableAt pattern (p .at)
+          → Asks outermost pattern bytes had p left (pairStep last c table classes bytes (drop (p .at) pattern) (drop (p .node) bytes) had (p .elements))
       unfolding pairStep nameStep VariableBelow
-      asks-pair (Symbol b) low here = asks-symbol b
-      asks-pair (Name v) low here =
+      asks-pair last (Symbol b) low here = asks-symbol b
+      asks-pair last (Name v) low here =
           cond-all (Asks outermost pattern bytes had p left) (isAbsent had)
           (λ e. (
             record { below = low; here = here; absent = e },
@@ -194,35 +192,34 @@ module _ (outermost : Bool) (table classes pattern bytes : List ℕ) (had : Part
             },
           ))
           (λ e. asks-assigned l)
-      asks-pair (Run v) low here = l
-      asks-pair Complement low here = asks-complement (outermost && eqb (p .children) 1)
-      asks-pair Code.Refused low here = l
+      asks-pair last (Run v) low here = l
+      asks-pair last Complement low here = asks-complement last
+      asks-pair last Code.Refused low here = l
 
-    asks-plain : (c : Code) → VariableBelow c → variableOf c ≡ variableAt pattern (p .at)
-        → Asks outermost pattern bytes had p left (plainStep outermost c table classes pattern bytes had p left)
+    asks-plain : (last : Bool) (c : Code) → VariableBelow c → variableOf c ≡ variableAt pattern (p .at)
+        → Asks outermost pattern bytes had p left (plainStep last c table classes bytes (drop (p .at) pattern) (drop (p .node) bytes) had (p .elements) left)
     unfolding plainStep
-    asks-plain c low here =
+    asks-plain last c low here =
         cond-all (Asks outermost pattern bytes had p left) _ (λ e. tt)
         (λ e.
         let f = neither _ _ e in
         cond-all (Asks outermost pattern bytes had p left) (eqb left 0) (λ z. tt)
-        (λ z. asks-pair (pos-of-ne-zero (eqb-false (p .elements) 0 (f .0))) (leb-false (length bytes) (p .node) (f .1))
-        (pos-of-ne-zero (eqb-false left 0 z)) c low here))
+        (λ z. asks-pair (pos-of-ne-zero (eqb-false (p .elements) 0 (f .0))) (some-bytes bytes (p .node) (eqb-false (length (drop (p .node) bytes)) 0 (f .1)))
+        (pos-of-ne-zero (eqb-false left 0 z)) last c low here))
 
-    asks-code : (c : Code) → VariableBelow c → variableOf c ≡ variableAt pattern (p .at)
-        → Asks outermost pattern bytes had p left (codeStep outermost c table classes pattern bytes had p left)
+    asks-code : (last : Bool) (c : Code) → VariableBelow c → variableOf c ≡ variableAt pattern (p .at)
+        → Asks outermost pattern bytes had p left (codeStep last c table classes bytes (drop (p .at) pattern) (drop (p .node) bytes) had (p .elements) left)
     unfolding codeStep VariableBelow
-    asks-code (Symbol b) low here = asks-plain (Symbol b) low here
-    asks-code (Name v) low here = asks-plain (Name v) low here
-    asks-code (Run v) low here = asks-run v low here
-    asks-code Complement low here = asks-plain Complement low here
-    asks-code Code.Refused low here = tt
+    asks-code last (Symbol b) low here = asks-plain last (Symbol b) low here
+    asks-code last (Name v) low here = asks-plain last (Name v) low here
+    asks-code last (Run v) low here = asks-run v low here
+    asks-code last Complement low here = asks-plain last Complement low here
+    asks-code last Code.Refused low here = tt
 
-  pub step-asks : Asks outermost pattern bytes had p left (stepOf outermost table classes pattern bytes had p left)
-  unfolding stepOf variableAt
+  pub step-asks : Asks outermost pattern bytes had p left (stepAt outermost table classes pattern bytes had p left)
+  unfolding stepAt stepOf variableAt variableIn
   step-asks =
       cond-all (Asks outermost pattern bytes had p left) (eqb (p .children) 0) (λ e. asks-over)
-      (λ e. cond-all (Asks outermost pattern bytes had p left) (ltb (p .at) (length pattern))
-      (λ f. asks-code (pos-of-ne-zero (eqb-false (p .children) 0 e)) (ltb-true (p .at) (length pattern) f) (decodeOf (getD pattern (p .at) 0))
-      (decode-below (getD pattern (p .at) 0)) (rw f))
-      (λ f. tt))
+      (λ e. cond-all (Asks outermost pattern bytes had p left) (eqb (length (drop (p .at) pattern)) 0) (λ f. tt)
+      (λ f. asks-code (pos-of-ne-zero (eqb-false (p .children) 0 e)) (some-bytes pattern (p .at) (eqb-false (length (drop (p .at) pattern)) 0 f))
+      (outermost && eqb (p .children) 1) (decodeOf (getD (drop (p .at) pattern) 0 0)) (decode-below (getD (drop (p .at) pattern) 0 0)) (rw f)))

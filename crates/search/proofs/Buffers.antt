@@ -10,7 +10,7 @@ use lib.Seq.{getD-set-same, getD-set-other}
 use borrow.Author.Tests.{eq-eqb, ne-eqb}
 use Rattle.search.specs.Inner.Memory.{frameIn, outer, Linked, putByIn, Queued, Inside, Insides, Sized}
 use Rattle.search.specs.State.{Frame, PutBy, alone}
-use Rattle.search.specs.declared.Marks.{Marks}
+use Rattle.search.specs.declared.marks.Marks.{Marks}
 
 -- the same below n
 abbrev pub Below : ℕ → List ℕ → List ℕ → Type 0

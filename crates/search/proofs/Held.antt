@@ -15,13 +15,14 @@ use Rattle.term.specs.Limits.{longestRecord}
 use Rattle.term.specs.Code.{variables}
 use Rattle.term.specs.Part.{nowhere, part, isAbsent, boundPart}
 use Rattle.term.specs.declared.Part.{Part}
-use Rattle.search.specs.Inner.Memory.{bit, packed, partIn, frameIn, outer, openedMarks, closedMarks, Linked, putByIn, putByMarks, Holds, Kept}
-use Rattle.search.specs.State.{Frame, PutBy, State, frame, putBy, state, passed, entered, reopened}
-use Rattle.search.specs.declared.Marks.{Marks}
-use Rattle.search.specs.declared.Place.{Place}
+use Rattle.parts.specs.Packed.{bit, packed, partIn}
+use Rattle.search.specs.Inner.Memory.{frameIn, outer, openedMarks, closedMarks, Linked, putByIn, putByMarks, LiesIn, Kept}
+use Rattle.search.specs.State.{Frame, PutBy, State, frame, putBy, state, placePast, entered, reopened}
+use Rattle.search.specs.declared.marks.Marks.{Marks}
+use Rattle.search.specs.declared.place.Place.{Place}
 use Rattle.search.proofs.Asks.{Takes}
 use Rattle.search.proofs.Buffers.{below-set, back-set, frame-apart, complement-apart, sized-part, sized-stack, linked-kept, linked-push, queued-kept, queued-push, insides-on, insides-push}
-use Rattle.search.proofs.Masks.{bit-new, bit-other, part-back}
+use Rattle.parts.proofs.Masks.{bit-new, bit-other, part-back}
 
 -- Variables: v is assigned n elements of so many bytes
 
@@ -57,9 +58,9 @@ module _ (assigned v node size n : ℕ) (parts : List ℕ) (vs : List Part) wher
 
 -- Two laws for every step: the place moves on, and v is assigned n elements of so many bytes
 
-module _ {codes bytes assigned : ℕ} {parts stack : List ℕ} {m : Marks} {p : Place} {s : State} (h : Holds codes bytes assigned parts stack m p s) where
+module _ {codes bytes assigned : ℕ} {parts stack : List ℕ} {m : Marks} {p : Place} {s : State} (h : LiesIn codes bytes assigned parts stack m p s) where
   pub holds-moved : (q : Place) → p .at ≤ q .at → q .at ≤ codes → q .node ≤ bytes
-      → Holds codes bytes assigned parts stack m q (state (s .parts) (s .frames) (s .waiting) q)
+      → LiesIn codes bytes assigned parts stack m q (state (s .parts) (s .frames) (s .waiting) q)
   holds-moved q further at node =
       let room = h .room in
       record {
@@ -78,7 +79,7 @@ module _ {codes bytes assigned : ℕ} {parts stack : List ℕ} {m : Marks} {p : 
       }
 
   pub holds-assigned : (v offset size n : ℕ) → v ≤ variables → offset ≤ longestRecord → n < 256
-      → Holds codes bytes (bitOr assigned (2 ^ v)) (set parts v (packed (boundPart offset size n))) stack m p
+      → LiesIn codes bytes (bitOr assigned (2 ^ v)) (set parts v (packed (boundPart offset size n))) stack m p
       (state (set (s .parts) v (boundPart offset size n)) (s .frames) (s .waiting) (s .place))
   holds-assigned v offset size n low offset-fits n-fits =
       let z = h .sized .of-parts in
@@ -100,7 +101,7 @@ module _ {codes bytes assigned : ℕ} {parts stack : List ℕ} {m : Marks} {p : 
 -- Steps
 
 module _ (codes bytes assigned : ℕ) (parts stack : List ℕ) (m : Marks) (p : Place) (vs : List Part) (fs : List Frame) (cs : List PutBy)
-    (h : Holds codes bytes assigned parts stack m p (state vs fs cs p)) where
+    (h : LiesIn codes bytes assigned parts stack m p (state vs fs cs p)) where
   -- a variable whose part is the absent mark is not assigned
   pub unassigned : (v : ℕ) → v < variables → isAbsent (partIn assigned parts v) ≡ true → bit assigned v ≡ false
   unassigned v low e = by (bit assigned v) refl
@@ -110,7 +111,7 @@ module _ (codes bytes assigned : ℕ) (parts stack : List ℕ) (m : Marks) (p : 
       by false i = refl
 
   pub holds-closed : (gs : List Frame) → Linked stack (outer (getD stack (m .inner - 1) 0)) gs → outer (getD stack (m .inner - 1) 0) < m .inner
-      → Holds codes bytes assigned parts stack (closedMarks m (getD stack (m .inner - 1) 0))
+      → LiesIn codes bytes assigned parts stack (closedMarks m (getD stack (m .inner - 1) 0))
       (reopened p (frameIn (getD stack (m .inner - 1) 0)))
       (state vs gs cs (reopened p (frameIn (getD stack (m .inner - 1) 0))))
   holds-closed gs l less = record {
@@ -130,7 +131,7 @@ module _ (codes bytes assigned : ℕ) (parts stack : List ℕ) (m : Marks) (p : 
 
   pub holds-opened : (left children elements width x : ℕ) → Takes codes bytes p left 1 width width
       → (frameIn x ≡ frame (p .children - 1) (p .elements - 1)) × (outer x ≡ m .inner)
-      → Holds codes bytes assigned parts (set stack (m .frames) x) (openedMarks m) (entered p children elements width)
+      → LiesIn codes bytes assigned parts (set stack (m .frames) x) (openedMarks m) (entered p children elements width)
       (state vs (frame (p .children - 1) (p .elements - 1) ∷ fs) cs (entered p children elements width))
   holds-opened left children elements width x t is =
       let z = h .sized .of-stack in
@@ -156,8 +157,8 @@ module _ (codes bytes assigned : ℕ) (parts stack : List ℕ) (m : Marks) (p : 
       }
 
   pub holds-put : (left n size x : ℕ) → Takes codes bytes p left 1 n size → putByIn x ≡ putBy (p .at) (n - 1) (p .node)
-      → Holds codes bytes assigned parts (set stack (255 - m .waiting) x) (putByMarks m) (passed p 1 n size)
-      (state vs fs (cs ++ putBy (p .at) (n - 1) (p .node) ∷ []) (passed p 1 n size))
+      → LiesIn codes bytes assigned parts (set stack (255 - m .waiting) x) (putByMarks m) (placePast p 1 n size)
+      (state vs fs (cs ++ putBy (p .at) (n - 1) (p .node) ∷ []) (placePast p 1 n size))
   holds-put left n size x t is =
       let z = h .sized .of-stack in
       let room = h .room in
@@ -183,34 +184,28 @@ module _ (codes bytes assigned : ℕ) (parts stack : List ℕ) (m : Marks) (p : 
 
 -- What is kept from the start of a call, under the mask and the marks there
 
-module _ (assigned₀ assigned : ℕ) (m₀ m : Marks) (parts₀ stack₀ parts stack : List ℕ)
-    (k : Kept assigned₀ m₀ parts₀ stack₀ parts stack) where
-  pub kept-part : ((v : ℕ) → bit assigned₀ v ≡ true → bit assigned v ≡ true) → (v x : ℕ) → (v < variables → bit assigned v ≡ false)
-      → Kept assigned₀ m₀ parts₀ stack₀ (set parts v x) stack
-  kept-part still v x free = record {
-    of-parts = λ w low b. getD-set-other parts v w x 0 (other w low b) ∙ k .of-parts w low b;
-    of-frames = k .of-frames;
-    of-waiting = k .of-waiting;
-    sized = λ z. sized-part (k .sized z) v x;
-  }
-    where
-      other : (w : ℕ) → w < variables → bit assigned₀ w ≡ true → w ≡ v → ⊥
-      other w low b e = true≢false (sym (still w b) ∙ ap (bit assigned) e ∙ free (subst (λ (u : ℕ). u < variables) e low))
+pub kept-part : {assigned : ℕ} {m : Marks} {parts stack : List ℕ} (v x : ℕ) → (v < variables → bit assigned v ≡ false)
+    → Kept assigned m parts stack (set parts v x) stack
+kept-part {assigned} {parts = parts} v x free = record {
+  of-parts = λ w low b. getD-set-other parts v w x 0 (λ e. true≢false (sym b ∙ ap (bit assigned) e ∙ free (subst (λ (u : ℕ). u < variables) e low)));
+  of-frames = λ i low. refl;
+  of-waiting = λ i low. refl;
+  sized = λ z. sized-part z v x;
+}
 
-  pub kept-frame : (x : ℕ) → m₀ .frames ≤ m .frames → m₀ .waiting ≤ m .waiting → m .frames + m .waiting < 256
-      → Kept assigned₀ m₀ parts₀ stack₀ parts (set stack (m .frames) x)
-  kept-frame x f w room = record {
-    of-parts = k .of-parts;
-    of-frames = λ i low. below-set stack (m .frames) x i (omega arith) ∙ k .of-frames i low;
-    of-waiting = λ i low. frame-apart stack (m .frames) (m .waiting) x room i (omega arith) ∙ k .of-waiting i low;
-    sized = λ z. sized-stack (k .sized z) (m .frames) x;
+module _ {assigned : ℕ} {m : Marks} {parts stack : List ℕ} (x : ℕ) (room : m .frames + m .waiting < 256) where
+  pub kept-frame : Kept assigned m parts stack parts (set stack (m .frames) x)
+  kept-frame = record {
+    of-parts = λ w low b. refl;
+    of-frames = λ i low. below-set stack (m .frames) x i (omega arith);
+    of-waiting = λ i low. frame-apart stack (m .frames) (m .waiting) x room i (omega arith);
+    sized = λ z. sized-stack z (m .frames) x;
   }
 
-  pub kept-waiting : (x : ℕ) → m₀ .frames ≤ m .frames → m₀ .waiting ≤ m .waiting → m .frames + m .waiting < 256
-      → Kept assigned₀ m₀ parts₀ stack₀ parts (set stack (255 - m .waiting) x)
-  kept-waiting x f w room = record {
-    of-parts = k .of-parts;
-    of-frames = λ i low. complement-apart stack (m .frames) (m .waiting) x room i (omega arith) ∙ k .of-frames i low;
-    of-waiting = λ i low. back-set stack (m .waiting) x (omega arith) i (omega arith) ∙ k .of-waiting i low;
-    sized = λ z. sized-stack (k .sized z) (255 - m .waiting) x;
+  pub kept-waiting : Kept assigned m parts stack parts (set stack (255 - m .waiting) x)
+  kept-waiting = record {
+    of-parts = λ w low b. refl;
+    of-frames = λ i low. complement-apart stack (m .frames) (m .waiting) x room i (omega arith);
+    of-waiting = λ i low. back-set stack (m .waiting) x (omega arith) i (omega arith);
+    sized = λ z. sized-stack z (255 - m .waiting) x;
   }

@@ -1,10 +1,10 @@
 -- What a call leaves alone, and what its caller then holds again: why nothing is undone.
 -- Assumes nothing.
-use Prim.Native.Nat.{ℕ, zero, suc, _+_, _-_, _%_, _^_, _<_, _≤_}
+use Prim.Native.Nat.{ℕ, _+_, _-_, _%_, _^_, _<_, _≤_}
 use native.Mathlib.Omega.{arith}
 use native.Mathlib.Nat.{lt-of-lt-of-le, zero-div}
 use mathlib.Core.Path.{_≡_, refl, sym, ap, subst, _∙_}
-use mathlib.Core.List.{List, [], _∷_}
+use mathlib.Core.List.{List}
 use mathlib.Core.Bool.{Bool, true, false, cond, true≢false}
 use lib.Bits.{bitOr}
 use lib.ListN.{length, getD, set, replicate, length-set, length-replicate, getD-replicate}
@@ -14,13 +14,14 @@ use borrow.Author.Tests.{eqb-true, eqb-false}
 use Rattle.term.specs.Limits.{longestRecord, longestPattern}
 use Rattle.term.specs.Code.{variables}
 use Rattle.term.specs.Part.{part, absent, boundPart}
-use Rattle.term.specs.declared.Part.{Part}
-use Rattle.search.specs.State.{PutBy, State, place, state, passed}
+use Rattle.search.specs.State.{PutBy, State, place, state, placePast}
 use Rattle.search.specs.Level.{startOf}
-use Rattle.search.specs.Inner.Memory.{marks, bit, packed, unpacked, partIn, Inside, Sized, Holds, Kept}
-use Rattle.search.specs.Inner.Replies.{partsIn, given, inside, Free}
-use Rattle.search.specs.declared.Place.{Place}
-use Rattle.search.specs.declared.Marks.{Marks}
+use Rattle.parts.specs.Packed.{bit, packed, unpacked, partIn, partsIn}
+use Rattle.search.specs.Inner.Memory.{marks, Inside, Sized, LiesIn, Kept}
+use Rattle.search.specs.Inner.Replies.{given, inside, Free}
+use Rattle.search.specs.declared.place.Place.{Place}
+use Rattle.search.specs.declared.marks.Marks.{Marks}
+use Rattle.parts.proofs.Shown.{parts-shown}
 use Rattle.search.proofs.Buffers.{linked-kept, queued-kept}
 use Rattle.search.proofs.Held.{holds-moved, holds-assigned}
 
@@ -67,7 +68,7 @@ module _ {assigned : ℕ} {m : Marks} {parts stack parts′ stack′ : List ℕ}
 
   -- THE INVARIANT HOLDS AGAIN after a call that leaves alone what it must
   pub restored : {codes bytes : ℕ} {p : Place} {s : State}
-      → Holds codes bytes assigned parts stack m p s → Holds codes bytes assigned parts′ stack′ m p s
+      → LiesIn codes bytes assigned parts stack m p s → LiesIn codes bytes assigned parts′ stack′ m p s
   restored {s = s} h = record {
     place = h .place;
     all-variables = h .all-variables;
@@ -85,11 +86,11 @@ module _ {assigned : ℕ} {m : Marks} {parts stack parts′ stack′ : List ℕ}
 
 -- past a run name
 abbrev pub past : State → State
-past s = state (s .parts) (s .frames) (s .waiting) (passed (s .place) 0 1 0)
+past s = state (s .parts) (s .frames) (s .waiting) (placePast (s .place) 0 1 0)
 
 pub past-holds : {codes bytes assigned : ℕ} {parts stack : List ℕ} {m : Marks} {p : Place} {s : State} → p .at < codes
-    → Holds codes bytes assigned parts stack m p s → Holds codes bytes assigned parts stack m (passed p 0 1 0) (past s)
-past-holds {p = p} l h = rw (h .place) (holds-moved h (passed p 0 1 0) (omega arith) (omega arith) (omega (arith, h .node)))
+    → LiesIn codes bytes assigned parts stack m p s → LiesIn codes bytes assigned parts stack m (placePast p 0 1 0) (past s)
+past-holds {p = p} l h = rw (h .place) (holds-moved h (placePast p 0 1 0) (omega arith) (omega arith) (omega (arith, h .node)))
 
 -- One more variable is assigned
 
@@ -99,8 +100,8 @@ none-free = record { below = omega arith; free = λ l. absurd (omega (arith, l))
 -- v is given n elements of so many bytes
 module _ (assigned v offset size n : ℕ) (offset-fits : offset ≤ longestRecord) (v-fits : v ≤ variables) (n-fits : n < 256) where
   pub given-holds : {codes bytes : ℕ} {parts stack : List ℕ} {m : Marks} {s : State} → s .place .node ≡ offset → offset + size ≤ bytes
-      → Holds codes bytes assigned parts stack m (s .place) s
-      → Holds codes bytes (bitOr assigned (2 ^ v)) (set parts v (packed (boundPart offset size n))) stack m (given s v n size .place) (given s v n size)
+      → LiesIn codes bytes assigned parts stack m (s .place) s
+      → LiesIn codes bytes (bitOr assigned (2 ^ v)) (set parts v (packed (boundPart offset size n))) stack m (given s v n size .place) (given s v n size)
   given-holds {s = s} o w h =
       let moved = holds-moved h (place (s .place .children) (s .place .elements - n) (s .place .at) (offset + size)) (omega arith) (h .at) w in
       rw o (holds-assigned moved v offset size n v-fits offset-fits n-fits)
@@ -108,8 +109,8 @@ module _ (assigned v offset size n : ℕ) (offset-fits : offset ≤ longestRecor
 -- a level's start within another
 
 pub start-holds : {codes bytes assigned : ℕ} {parts stack : List ℕ} {m : Marks} {p : Place} {s : State} (c : PutBy)
-    → Holds codes bytes assigned parts stack m p s → Inside codes bytes (p .at) m c
-    → Holds (c .size) bytes assigned parts stack (inside m) (place 1 1 0 (c .node)) (startOf (s .parts) (c .node))
+    → LiesIn codes bytes assigned parts stack m p s → Inside codes bytes (p .at) m c
+    → LiesIn (c .size) bytes assigned parts stack (inside m) (place 1 1 0 (c .node)) (startOf (s .parts) (c .node))
 start-holds c h i = record {
   place = refl;
   all-variables = h .all-variables;
@@ -127,7 +128,7 @@ start-holds c h i = record {
 
 -- and the whole pattern's, with nothing assigned
 pub first-holds : (codes bytes : ℕ) (parts stack : List ℕ) → codes ≤ longestPattern → Sized parts stack
-    → Holds codes bytes 0 parts stack (marks 0 0 0 0) (place 1 1 0 0) (startOf (replicate variables absent) 0)
+    → LiesIn codes bytes 0 parts stack (marks 0 0 0 0) (place 1 1 0 0) (startOf (replicate variables absent) 0)
 first-holds codes bytes parts stack h z = record {
   place = refl;
   all-variables = length-replicate variables absent;
@@ -148,22 +149,7 @@ first-holds codes bytes parts stack h z = record {
 
 -- the parts shown are the state's
 
-pub parts-shown : (assigned : ℕ) (parts : List ℕ) (v k : ℕ) (shows : List Part) → length shows ≡ k
-    → ((i : ℕ) → i < k → getD shows i (part 0 0 0) ≡ partIn assigned parts (v + i)) → shows ≡ partsIn assigned parts v k
-unfolding partsIn
-parts-shown assigned parts v zero [] l h = refl
-parts-shown assigned parts v zero (x ∷ xs) l h = absurd (omega (arith, l))
-parts-shown assigned parts v (suc k) [] l h = absurd (omega (arith, l))
-parts-shown assigned parts v (suc k) (x ∷ xs) l h =
-    let z : v + 0 ≡ v = omega arith in
-    let first : x ≡ partIn assigned parts v = h 0 (omega arith) ∙ ap (partIn assigned parts) z in
-    let rest : xs ≡ partsIn assigned parts (v + 1) k = parts-shown assigned parts (v + 1) k xs (omega (arith, l)) (λ i j. next i j) in
-    rw (first, rest)
-  where
-    next : (i : ℕ) → i < k → getD xs i (part 0 0 0) ≡ partIn assigned parts (v + 1 + i)
-    next i j = let z : v + suc i ≡ v + 1 + i = omega arith in h (suc i) (omega arith) ∙ ap (partIn assigned parts) z
-
 pub state-shown : {codes bytes assigned : ℕ} {parts stack : List ℕ} {m : Marks} {p : Place} {s : State}
-    → Holds codes bytes assigned parts stack m p s → s .parts ≡ partsIn assigned parts 0 variables
+    → LiesIn codes bytes assigned parts stack m p s → s .parts ≡ partsIn assigned parts 0 variables
 state-shown {assigned = assigned} {parts = parts} {s = s} h =
     parts-shown assigned parts 0 variables (s .parts) (h .all-variables) (λ i l. let z : 0 + i ≡ i = omega arith in h .shown i l ∙ ap (partIn assigned parts) (sym z))

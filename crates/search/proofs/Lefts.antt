@@ -11,15 +11,15 @@ use Rattle.term.specs.Code.{variables}
 use Rattle.term.specs.Extent.{extentOf}
 use Rattle.term.specs.Part.{absent}
 use Rattle.term.specs.declared.Part.{Part}
-use Rattle.search.specs.State.{turns, PutBy, State, Walked, alone, variableAt, partAt, closed, stepOf, nextOf, walkOf}
+use Rattle.search.specs.State.{turns, PutBy, State, Walked, alone, variableAt, partInState, closed, stepAt, walkBy, walkOf}
 use Rattle.search.specs.Level.{Reply, failed, startOf, tried, orElse, lengthsOf, insideOf, refuted, complementsOf, stopBy, afterWalk, levelOf, levels, searchOf}
 use Rattle.search.specs.Given.{Pass, ends, unknown, elementsOf, resumedBy, orFurther, furtherOf, givenLengthOf, givenBy, afterGiven, givenOf}
 use Rattle.search.specs.Following.{followedOf, nextPass}
 use Rattle.search.specs.Spread.{freeIn, spreadTo}
-use Rattle.search.specs.declared.Step.{Step}
-use Rattle.search.specs.declared.Step.the-variants.{Stops, Fails, Closes, Opens, Passes, Binds, PutsBy}
-use Rattle.search.specs.declared.Stop.{Stop}
-use Rattle.search.specs.declared.Stop.the-variants.{Failure, NoAllowance, NoPair, RunName}
+use Rattle.steps.specs.declared.Step.{Step}
+use Rattle.steps.specs.declared.Step.the-variants.{Stops, Fails, Closes, Opens, Passes, Binds, PutsBy}
+use Rattle.steps.specs.declared.Stop.{Stop}
+use Rattle.steps.specs.declared.Stop.the-variants.{Failure, NoAllowance, NoPair, RunName}
 use Rattle.search.specs.declared.Outcome.{Outcome}
 use Rattle.search.specs.declared.Outcome.the-variants.{Found, Failed, Spent}
 
@@ -65,8 +65,8 @@ followed-left allowance unknown-leaves = le-refl allowance
 
 -- of a walk, and of what it leads to
 
-next-left : (b : Step) (f : State → ℕ → Walked) → ((s : State) (l : ℕ) → f s l .left ≤ l) → (s : State) (left : ℕ) → nextOf b f s left .left ≤ left
-unfolding nextOf
+next-left : (b : Step) (f : State → ℕ → Walked) → ((s : State) (l : ℕ) → f s l .left ≤ l) → (s : State) (left : ℕ) → walkBy b f s left .left ≤ left
+unfolding walkBy
 next-left (Stops stop) f h s left = le-refl left
 next-left Fails f h s left = omega arith
 next-left Closes f h s left = h (closed s) left
@@ -80,7 +80,7 @@ module _ (table classes bytes : List ℕ) where
   unfolding walkOf
   walk-left zero pattern s left = le-refl left
   walk-left (suc n) pattern s left =
-      next-left (stepOf (alone (s .frames)) table classes pattern bytes (partAt s (variableAt pattern (s .place .at))) (s .place) left)
+      next-left (stepAt (alone (s .frames)) table classes pattern bytes (partInState s (variableAt pattern (s .place .at))) (s .place) left)
       (walkOf n table classes pattern bytes) (walk-left n pattern) s left
 
   lengths-left : (lv : State → ℕ → Reply) → ((s : State) (l : ℕ) → lv s l .left ≤ l) → (v : ℕ) (s : State) (k n size left : ℕ)

@@ -1,11 +1,12 @@
 -- The laws of the search's definitions.
 pub mod Steps
-pub mod Masks
+pub mod Frames
 pub mod Asks
 pub mod Buffers
 pub mod Held
 pub mod Walks
 pub mod Kept
+pub mod Moved
 pub mod Begins
 pub mod Tries
 pub mod Skips

@@ -17,7 +17,8 @@ use Rattle.search.specs.Given.{Pass, passOf}
 use Rattle.search.specs.Inner.GivenReplies.{passBy, leftBy, GivenIs, SpreadIs}
 use Rattle.search.specs.Following.{nextPass, followed, followedOf, shownPass, shownKnown}
 use Rattle.search.specs.Inner.Memory.{marks, Sized}
-use Rattle.search.specs.Inner.Replies.{partsIn}
+use Rattle.search.specs.Inner.Lent.{Lent, inputOf, lentOf, _⇒_}
+use Rattle.parts.specs.Packed.{partsIn}
 use Rattle.search.specs.Shown.{shownBy}
 use Rattle.term.specs.declared.Part.{Part}
 use Rattle.search.specs.declared.Outcome.{Outcome}
@@ -55,14 +56,14 @@ module _ (table classes pattern bytes given before : List ℕ) (allowance : ℕ)
     next-uneven s e = rw (le-leb (length pattern) longestPattern narrow, le-leb (length bytes) longestRecord short, sym (s .even) ∙ e) (refl, refl)
 
     pub next-known : {g : List ℕ} {r : Bool} → SpreadIs table pattern given (replicate variables 0) g r → r ≡ true
-        → (parts stack : List ℕ) → Sized parts stack → (x : Known) (assigned left : ℕ) (parts′ stack′ : List ℕ)
-        → GivenIs table classes pattern bytes g 0 allowance parts stack (marks 0 0 0 0) (place 1 1 0 0) x assigned left parts′ stack′
-        → (after : List ℕ) → after ≡ shownKnown x (partsIn assigned parts′ 0 variables) before
-        → Says allowance (nextPass table classes pattern bytes given allowance) before x (leftBy x left allowance) after
+        → (parts stack : List ℕ) → Sized parts stack → (x : Known) {got : Lent}
+        → GivenIs (inputOf table classes pattern bytes) g (lentOf 0 allowance parts stack ⇒ got) (marks 0 0 0 0) (place 1 1 0 0) x
+        → (after : List ℕ) → after ≡ shownKnown x (partsIn (got .assigned) (got .parts) 0 variables) before
+        → Says allowance (nextPass table classes pattern bytes given allowance) before x (leftBy x (got .left) allowance) after
     unfolding nextPass
-    next-known {g} s e parts stack z x assigned left parts′ stack′ d after w =
+    next-known {g} s e parts stack z x {got} d after w =
         rw (le-leb (length pattern) longestPattern narrow, le-leb (length bytes) longestRecord short, sym (s .even) ∙ e)
-        (subst (λ (p : Pass). Says allowance p before x (leftBy x left allowance) after)
+        (subst (λ (p : Pass). Says allowance p before x (leftBy x (got .left) allowance) after)
         (d .replies (startOf (replicate variables absent) 0) (first-holds (length pattern) (length bytes) parts stack narrow z) (levels pattern 0) (omega arith)
         ∙ ap (λ (l : List ℕ). passOf table classes pattern bytes l allowance) (s .put e))
-        (by-pass allowance x left assigned parts′ before after w))
+        (by-pass allowance x (got .left) (got .assigned) (got .parts) before after w))

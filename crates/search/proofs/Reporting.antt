@@ -1,8 +1,7 @@
 -- What a level that halts reports is read back, and where it halts with no pair left it may go on.
 -- Assumes nothing.
-use Prim.Native.Nat.{ℕ, zero, suc, _+_, _%_, _<_, _≤_}
+use Prim.Native.Nat.{ℕ, zero, suc, _+_, _%_, _<_}
 use native.Mathlib.Omega.{arith}
-use native.Mathlib.Nat.{le-refl}
 use mathlib.Core.Path.{_≡_, refl, sym, ap, subst, _∙_}
 use mathlib.Core.List.{List}
 use mathlib.Core.Bool.{Bool, true, false, cond, true≢false}
@@ -13,23 +12,26 @@ use borrow.Author.Tests.{lt-ltb}
 use Rattle.term.specs.Code.{variables}
 use Rattle.term.specs.Part.{part, boundPart}
 use Rattle.term.specs.declared.Part.{Part}
-use Rattle.search.specs.State.{State, place, Walked, turns, walked, stepOf, nextOf, walkOf, partAt, variableAt, alone}
-use Rattle.search.specs.Inner.Memory.{marks, packed, unpacked, partPlaces, Kept}
+use Rattle.search.specs.State.{State, place, Walked, turns, walked, stepAt, walkBy, walkOf, partInState, variableAt, alone}
+use Rattle.parts.specs.Packed.{packed, unpacked, partPlaces}
+use Rattle.search.specs.Inner.Memory.{marks, Kept}
+use Rattle.search.specs.Inner.Lent.{Handed, Lent}
 use Rattle.search.specs.Inner.Bounds.{Short, StopsAt, reached, WalkIs, Walks}
 use Rattle.search.specs.Inner.Replies.{failure}
 use Rattle.search.specs.Inner.Halts.{haltedAs, runOf, stopIn, reportIn, reportedBy, Told, PairsAre}
-use Rattle.search.specs.declared.Place.{Place}
-use Rattle.search.specs.declared.Marks.{Marks}
-use Rattle.search.specs.declared.Reached.{Reached}
-use Rattle.search.specs.declared.Step.{Step}
-use Rattle.search.specs.declared.Step.the-variants.{Stops, Fails, Closes, Opens, Passes, Binds, PutsBy}
-use Rattle.search.specs.declared.Stop.{Stop}
-use Rattle.search.specs.declared.Stop.the-variants.{Failure, NoAllowance, NoPair, RunName}
+use Rattle.search.specs.declared.place.Place.{Place}
+use Rattle.search.specs.declared.marks.Marks.{Marks}
+use Rattle.search.specs.declared.walk.Reached.{Reached}
+use Rattle.steps.specs.declared.Step.{Step}
+use Rattle.steps.specs.declared.Step.the-variants.{Stops, Fails, Closes, Opens, Passes, Binds, PutsBy}
+use Rattle.steps.specs.declared.Stop.{Stop}
+use Rattle.steps.specs.declared.Stop.the-variants.{Failure, NoAllowance, NoPair, RunName}
 use Rattle.search.specs.declared.Outcome.{Outcome}
 use Rattle.search.specs.declared.Outcome.the-variants.{Found}
-use Rattle.search.proofs.Masks.{part-back}
+use Rattle.parts.proofs.Masks.{part-back}
 use Rattle.search.proofs.Buffers.{sized-part}
-use Rattle.search.proofs.Kept.{kept-then, restored}
+use Rattle.search.proofs.Kept.{restored}
+use Rattle.search.proofs.Moved.{moved-to}
 use Rattle.search.proofs.Walks.{walk-suc}
 
 -- numbers that fit are read back
@@ -126,14 +128,13 @@ fails-only NoAllowance run e = refl
 fails-only NoPair run e = stop-found run
 fails-only (RunName v) run e = stop-found run
 
-module _ {table classes pattern bytes : List ℕ} {assigned left : ℕ} {parts stack : List ℕ} {m : Marks} {p : Place} {parts′ stack′ : List ℕ} {r : Reached}
-    (pairs : PairsAre table classes pattern bytes assigned left parts stack m p parts′ stack′ r) where
+module _ {i : Handed} {e₀ : Lent} {m : Marks} {p : Place} {parts′ stack′ : List ℕ} {r : Reached} (pairs : PairsAre i e₀ m p parts′ stack′ r) where
   -- what the walk reached
   abbrev pub met : Reached
   met = pairs .halts .reached
 
-  told-by : (x : Bool) → failure (met .stop) ≡ x → Told x met (pairs .halts .parts₁) (pairs .outcome) (pairs .assigned₁) parts′
-  told-by x e = subst (λ (y : Bool). Told y met (pairs .halts .parts₁) (pairs .outcome) (pairs .assigned₁) parts′) e (pairs .halts .told)
+  told-by : (x : Bool) → failure (met .stop) ≡ x → Told x met (pairs .halts .parts) (pairs .outcome) (pairs .assigned) parts′
+  told-by x e = subst (λ (y : Bool). Told y met (pairs .halts .parts) (pairs .outcome) (pairs .assigned) parts′) e (pairs .halts .told)
 
   abbrev run : ℕ
   run = unpacked (getD parts′ (variables + 2) 0) .length
@@ -148,48 +149,43 @@ module _ {table classes pattern bytes : List ℕ} {assigned left : ℕ} {parts s
           e ∙ sym (ap (λ (y : Reached). failure (y .stop)) (pairs .is) ∙ ap (λ (o : Outcome). failure (stopIn o run)) (told-by false e .1 .ended)
           ∙ fails-only (met .stop) run e)
 
-  pub met-parts : failure (met .stop) ≡ true → parts′ ≡ pairs .halts .parts₁
+  pub met-parts : failure (met .stop) ≡ true → parts′ ≡ pairs .halts .parts
   met-parts e = told-by true e .1
 
   abbrev report : List ℕ
-  report = reportIn (pairs .halts .parts₁) (met .stop) (met .marks) (met .place)
+  report = reportIn (pairs .halts .parts) (met .stop) (met .marks) (met .place)
 
   -- what is read is the walk, but where it fails
-  module _ (short : Short pattern bytes) (told : Told false met (pairs .halts .parts₁) (pairs .outcome) (pairs .assigned₁) parts′) (s : State)
-      (w : WalkIs table classes pattern bytes assigned left parts stack m p (pairs .halts .parts₁) stack′ met s) where
+  module _ (short : Short (i .pattern) (i .bytes)) (told : Told false met (pairs .halts .parts) (pairs .outcome) (pairs .assigned) parts′) (s : State)
+      (w : WalkIs i e₀ m p (pairs .halts .parts) stack′ met s) where
     is-met : r ≡ met
     is-met =
         pairs .is
-        ∙ ap (λ (l : List ℕ). reportedBy l (pairs .outcome) (pairs .left₁) (pairs .assigned₁) (m .first)) (told .1 .written)
-        ∙ ap (λ (o : Outcome). reportedBy report o (pairs .left₁) (pairs .assigned₁) (m .first)) (told .1 .ended)
-        ∙ ap (λ (l : ℕ). reportedBy report (haltedAs (met .stop)) l (pairs .assigned₁) (m .first)) (pairs .halts .same-left)
+        ∙ ap (λ (l : List ℕ). reportedBy l (pairs .outcome) (pairs .left) (pairs .assigned) (m .first)) (told .1 .written)
+        ∙ ap (λ (o : Outcome). reportedBy report o (pairs .left) (pairs .assigned) (m .first)) (told .1 .ended)
+        ∙ ap (λ (l : ℕ). reportedBy report (haltedAs (met .stop)) l (pairs .assigned) (m .first)) (pairs .halts .same-left)
         ∙ ap (λ (x : ℕ). reportedBy report (haltedAs (met .stop)) (met .left) x (m .first)) (told .0)
-        ∙ ap (λ (f : ℕ). reportedBy report (haltedAs (met .stop)) (met .left) (met .assigned) f) (sym (w .same-first))
-        ∙ read-back (pairs .halts .parts₁) (met .stop) (met .marks) (met .place) (w .holds .sized .of-parts) (met .left) (met .assigned) (length pattern)
-        (omega (arith, w .holds .innermost, w .holds .room)) (omega (arith, w .holds .room)) (omega (arith, w .holds .room))
-        (omega (arith, w .holds .at, short .of-pattern)) (omega (arith, w .holds .node, short .of-record))
+        ∙ ap (λ (f : ℕ). reportedBy report (haltedAs (met .stop)) (met .left) (met .assigned) f) (sym (w .moved .same-first))
+        ∙ read-back (pairs .halts .parts) (met .stop) (met .marks) (met .place) (w .moved .holds .sized .of-parts) (met .left) (met .assigned) (length (i .pattern))
+        (omega (arith, w .moved .holds .innermost, w .moved .holds .room)) (omega (arith, w .moved .holds .room)) (omega (arith, w .moved .holds .room))
+        (omega (arith, w .moved .holds .at, short .of-pattern)) (omega (arith, w .moved .holds .node, short .of-record))
         (told .1 .children) (told .1 .elements) (w .stops)
 
-    read-walk : WalkIs table classes pattern bytes assigned left parts stack m p parts′ stack′ r s
+    read-walk : WalkIs i e₀ m p parts′ stack′ r s
     read-walk =
-        subst (λ (y : Reached). WalkIs table classes pattern bytes assigned left parts stack m p parts′ stack′ y s) (sym is-met)
-        (subst (λ (l : List ℕ). WalkIs table classes pattern bytes assigned left parts stack m p l stack′ met s) (sym (told .1 .written)) (record {
+        subst (λ (y : Reached). WalkIs i e₀ m p parts′ stack′ y s) (sym is-met)
+        (subst (λ (l : List ℕ). WalkIs i e₀ m p l stack′ met s) (sym (told .1 .written)) (record {
           end = w .end;
-          is = w .is;
-          holds = restored (report-kept (pairs .halts .parts₁) (met .stop) (met .marks) (met .place)) (w .holds);
-          kept =
-              kept-then {m₁ = m} (λ v x. x) (le-refl (m .frames)) (le-refl (m .waiting)) (w .kept)
-              (report-kept (pairs .halts .parts₁) (met .stop) (met .marks) (met .place));
-          still = w .still;
-          more-frames = w .more-frames;
-          more-waiting = w .more-waiting;
-          same-first = w .same-first;
-          further = w .further;
+          so = w .so;
+          moved = moved-to (w .moved) (λ v b. b) reports (omega arith, omega arith, refl) (omega arith) (restored reports (w .moved .holds));
           stops = w .stops;
           unassigned = w .unassigned;
         }))
+      where
+        reports : Kept (met .assigned) (met .marks) (pairs .halts .parts) stack′ report stack′
+        reports = report-kept (pairs .halts .parts) (met .stop) (met .marks) (met .place)
 
-  pub pairs-walk : Short pattern bytes → failure (r .stop) ≡ false → Walks table classes pattern bytes assigned left parts stack m p parts′ stack′ r
+  pub pairs-walk : Short (i .pattern) (i .bytes) → failure (r .stop) ≡ false → Walks i e₀ m p parts′ stack′ r
   pairs-walk short e s h = read-walk short (told-by false (met-fails ∙ e)) s (pairs .halts .walks s h)
 
 -- From where no pair is left, a walk is there at once
@@ -198,12 +194,12 @@ module _ (table classes pattern bytes : List ℕ) (l : ℕ) (end : State) where
   abbrev Stays : Type 0
   Stays = walkOf turns table classes pattern bytes end l ≡ walked NoPair l end
 
-  abbrev stepAt : State → ℕ → Step
-  stepAt s left = stepOf (alone (s .frames)) table classes pattern bytes (partAt s (variableAt pattern (s .place .at))) (s .place) left
+  abbrev stepHere : State → ℕ → Step
+  stepHere s left = stepAt (alone (s .frames)) table classes pattern bytes (partInState s (variableAt pattern (s .place .at))) (s .place) left
 
   step-stays : (f : State → ℕ → Walked) → ((s : State) (left : ℕ) → f s left ≡ walked NoPair l end → Stays)
-      → (s : State) (left : ℕ) (x : Step) → x ≡ stepAt s left → nextOf x f s left ≡ walked NoPair l end → Stays
-  unfolding nextOf
+      → (s : State) (left : ℕ) (x : Step) → x ≡ stepHere s left → walkBy x f s left ≡ walked NoPair l end → Stays
+  unfolding walkBy
   step-stays f again s left (Stops stop) i e =
       sym (ap (λ (x : Walked). walkOf turns table classes pattern bytes (x .state) (x .left)) e)
       ∙ walk-suc table classes pattern bytes turns s left (omega arith) ∙ rw (← i) e
@@ -218,4 +214,4 @@ module _ (table classes pattern bytes : List ℕ) (l : ℕ) (end : State) where
   unfolding walkOf
   walk-stays zero s left e = absurd (true≢false (ap (λ (x : Walked). failure (x .stop)) e))
   walk-stays (suc n) s left e =
-      step-stays (walkOf n table classes pattern bytes) (λ s′ left′ f. walk-stays n s′ left′ f) s left (stepAt s left) refl e
+      step-stays (walkOf n table classes pattern bytes) (λ s′ left′ f. walk-stays n s′ left′ f) s left (stepHere s left) refl e

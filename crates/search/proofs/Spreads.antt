@@ -6,16 +6,16 @@ use mathlib.Core.Path.{_≡_, refl, sym, ap, subst, _∙_, ap₂}
 use mathlib.Core.List.{List, [], _∷_}
 use mathlib.Core.Bool.{Bool, true, false, cond}
 use lib.Bits.{bitOr}
-use lib.ListN.{length, getD, take, drop, set}
+use lib.ListN.{length, getD, take, drop, set, drop-of-length-le}
 use lib.Seq.{drop-drop}
 use lib.Dec.{eqb}
 use borrow.Author.Tests.{eqb-true, eqb-false, eq-eqb, ne-eqb}
+use Rattle.term.proofs.Lists.{next-at, rest-part}
 use Rattle.term.specs.Code.{decodeOf}
 use Rattle.term.specs.Extent.{entryOf, spanOf, extentOf}
 use Rattle.term.specs.declared.Code.{Code}
 use Rattle.term.specs.declared.Code.the-variants.{Symbol, Name, Run, Complement}
-use Rattle.search.specs.Inner.Memory.{bit}
-use Rattle.skips.proofs.Passing.{rest-drop}
+use Rattle.parts.specs.Packed.{bit}
 use Rattle.search.specs.Spread.{pastBy, pastOf, runHere, runsFrom, unseen, freeIn, spreadTo}
 use Rattle.search.specs.Inner.GivenReplies.{SpreadIs}
 
@@ -25,19 +25,6 @@ runs-past table [] zero = refl
 runs-past table [] (suc n) = refl
 runs-past table (b ∷ s) zero = refl
 runs-past table (b ∷ s) (suc n) = runs-past table s n
-
-drop-first : (at : ℕ) (l : List ℕ) → at < length l → drop at l ≡ getD l at 0 ∷ drop (at + 1) l
-drop-first zero [] h = absurd (omega (arith, h))
-drop-first (suc at) [] h = absurd (omega (arith, h))
-drop-first zero (x ∷ l) h = refl
-drop-first (suc at) (x ∷ l) h =
-    let z : suc (at + 1) ≡ suc at + 1 = omega arith in drop-first at l (omega (arith, h)) ∙ ap (λ (k : ℕ). getD l at 0 ∷ drop k (x ∷ l)) z
-
-drop-end : (at : ℕ) (l : List ℕ) → length l ≤ at → drop at l ≡ []
-drop-end zero [] h = refl
-drop-end (suc at) [] h = refl
-drop-end zero (x ∷ l) h = absurd (omega (arith, h))
-drop-end (suc at) (x ∷ l) h = drop-end at l (omega (arith, h))
 
 some-extent : (table : List ℕ) (b : ℕ) (s : List ℕ) → 0 < extentOf table (b ∷ s)
 unfolding extentOf spanOf
@@ -59,7 +46,7 @@ runs-at : (table pattern : List ℕ) (at : ℕ) → at < length pattern
     → runsFrom table (drop at pattern) 0 ≡ runHere (decodeOf (getD pattern at 0)) (runsFrom table (drop (at + pastOf table (drop at pattern)) pattern) 0)
 unfolding runsFrom pastOf
 runs-at table pattern at h =
-    let e = drop-first at pattern h in
+    let e = next-at pattern at h in
     let b = getD pattern at 0 in
     let s = drop (at + 1) pattern in
     let n : 0 < pastBy (decodeOf b) table (b ∷ s) = past-some table b s (decodeOf b) in
@@ -72,7 +59,7 @@ runs-at table pattern at h =
 past-more : (table pattern : List ℕ) (at : ℕ) → at < length pattern → 0 < pastOf table (drop at pattern)
 unfolding pastOf
 past-more table pattern at h =
-    subst (λ (l : List ℕ). 0 < pastBy (decodeOf (getD l 0 0)) table l) (sym (drop-first at pattern h))
+    subst (λ (l : List ℕ). 0 < pastBy (decodeOf (getD l 0 0)) table l) (sym (next-at pattern at h))
     (past-some table (getD pattern at 0) (drop (at + 1) pattern) (decodeOf (getD pattern at 0)))
 
 -- the bytes of what stands first
@@ -108,7 +95,7 @@ module _ (table pattern given out₀ : List ℕ) where
     pub spread-end : length pattern ≤ at → (r : Bool) → r ≡ eqb n (length given) → SpreadIs table pattern given out₀ out r
     unfolding runsFrom unseen spreadTo
     spread-end h r e =
-        let z = drop-end at pattern h in
+        let z = drop-of-length-le pattern h in
         let x : unseen seen (runsFrom table (drop at pattern) 0) ≡ [] = ap (λ (l : List ℕ). unseen seen (runsFrom table l 0)) z in
         let m : n ≡ length (freeIn table pattern) = omega (arith, s .many, ap length x) in record {
           even = e ∙ swap n (length given) ∙ ap (eqb (length given)) m;
@@ -127,7 +114,7 @@ module _ (table pattern given out₀ : List ℕ) where
       next = at + r
 
       is-next : next ≡ at + pastOf table (drop at pattern)
-      is-next = ap (at +_) (is-r ∙ ap (pastOf table) (rest-drop at pattern))
+      is-next = ap (at +_) (is-r ∙ ap (pastOf table) (rest-part at pattern))
 
       pub spread-falls : length pattern - (at + r) < length pattern - at
       spread-falls = omega (arith, past-more table pattern at l, is-next)
@@ -182,7 +169,7 @@ module _ (table pattern given out₀ : List ℕ) where
         spread-new b h seen′ i g f =
             let e : seen′ ≡ bitOr seen (2 ^ v) = g ∙ ap (λ (k : ℕ). bitOr seen (2 ^ k)) f in
             let x = new-left b in
-            let y = drop-first n given h in
+            let y = next-at given n h in
             let m : length (unseen seen (runsFrom table (drop at pattern) 0)) ≡ suc (length (unseen seen′ (runsFrom table (drop next pattern) 0))) =
             ap length x ∙ ap (λ (k : ℕ). suc (length (unseen k (runsFrom table (drop next pattern) 0)))) (sym e) in record {
               few = omega arith;

@@ -1,56 +1,62 @@
--- The laws of one turn: the cases of a step, and what a step asks for.
+-- The laws of one turn at a place of pattern and record.
 -- Assumes nothing.
-use Prim.Native.Nat.{ℕ, _-_, _<_, _≤_}
-use mathlib.Core.Bool.{Bool, true, false, _&&_}
+use Prim.Native.Nat.{ℕ, _-_, _<_}
+use native.Mathlib.Omega.{arith}
+use mathlib.Core.Bool.{Bool, _&&_}
 use mathlib.Core.List.{List}
-use mathlib.Core.Path.{_≡_, _∙_}
-use lib.Dec.{leb, eqb}
-use lib.ListN.{length, getD, drop, take}
-use borrow.Author.Tests.{lt-ltb, le-leb, lt-leb, eq-eqb, ne-eqb}
-use Rattle.skips.proofs.Passing.{rest-drop}
-use Rattle.term.specs.Same.{sameByte}
-use Rattle.term.specs.Code.{decodeOf}
-use Rattle.term.specs.Extent.{entryOf}
+use mathlib.Core.Path.{_≡_, sym, ap, subst, _∙_}
+use lib.Dec.{eqb}
+use lib.ListN.{length, getD, drop, take, length-drop}
+use Rattle.term.proofs.Lists.{rest-part, first-left}
+use Rattle.term.proofs.Codes.{decode-below}
+use Rattle.term.specs.Code.{decodeOf, VariableBelow}
 use Rattle.term.specs.declared.Code.{Code}
+use Rattle.term.specs.declared.Code.the-variants.{Name, Run}
 use Rattle.term.specs.declared.Part.{Part}
-use Rattle.search.specs.State.{symbolStep, pairStep, plainStep, codeStep, stepOf, variableOf, variableAt}
-use Rattle.search.specs.declared.Place.{Place}
-use Rattle.search.specs.declared.Step.the-variants.{Fails, Opens, Passes}
-use Rattle.search.specs.declared.Step.{Step}
+use Rattle.parts.specs.Packed.{partIn, partOf}
+use Rattle.parts.proofs.Shown.{part-below}
+use Rattle.steps.specs.Turn.{variableOf, variableIn, pairStep, plainStep, codeStep, stepOf}
+use Rattle.steps.specs.declared.Step.{Step}
+use Rattle.steps.proofs.Turns as turns
+use Rattle.search.specs.State.{variableAt, stepAt}
+use Rattle.search.specs.declared.place.Place.{Place}
 
--- the cases of a step
+-- the variable of a code has a part
 
-module _ (table classes q r : List ℕ) (b : ℕ) (same : sameByte classes false b (getD r 0 0) ≡ true) (e : ℕ) (entry : e ≡ entryOf table b) where
-  pub symbol-leaf : e ≡ 0 → Passes 1 1 ≡ symbolStep table classes q r b
-  unfolding symbolStep
-  symbol-leaf z = rw (← entry, same, eq-eqb e 0 z)
+pub name-part : (assigned : ℕ) (parts : List ℕ) {v : ℕ} (b : ℕ) → Name v ≡ decodeOf b → partOf assigned parts v ≡ partIn assigned parts v
+unfolding VariableBelow
+name-part assigned parts b e = part-below assigned parts _ (subst VariableBelow (sym e) (decode-below b))
 
-  pub symbol-fixed : (e ≡ 0 → ⊥) → (e ≡ 255 → ⊥) → Opens e e 1 ≡ symbolStep table classes q r b
-  unfolding symbolStep
-  symbol-fixed z n = rw (← entry, same, ne-eqb e 0 z, ne-eqb e 255 n)
+pub run-part : (assigned : ℕ) (parts : List ℕ) {v : ℕ} (b : ℕ) → Run v ≡ decodeOf b → partOf assigned parts v ≡ partIn assigned parts v
+unfolding VariableBelow
+run-part assigned parts b e = part-below assigned parts _ (subst VariableBelow (sym e) (decode-below b))
 
-  pub symbol-list : (e ≡ 0 → ⊥) → e ≡ 255 → 2 ≤ length q → 2 ≤ length r → Opens (getD q 1 0) (getD r 1 0) 2 ≡ symbolStep table classes q r b
-  unfolding symbolStep
-  symbol-list z n i j =
-      rw (← entry, same, ne-eqb e 0 z, eq-eqb e 255 n, le-leb 2 (length q) i, le-leb 2 (length r) j)
+-- a step at a place
 
-  pub symbol-short : (e ≡ 0 → ⊥) → e ≡ 255 → leb 2 (length q) && leb 2 (length r) ≡ false → Fails ≡ symbolStep table classes q r b
-  unfolding symbolStep
-  symbol-short z n i = rw (← entry, same, ne-eqb e 0 z, eq-eqb e 255 n, i)
-
-pub plain-pair : (outermost : Bool) (c : Code) (table classes pattern bytes : List ℕ) (had : Part) (p : Place) (left : ℕ) (x : Step)
+pub plain-pair : (last : Bool) (c : Code) (table classes pattern bytes : List ℕ) (had : Part) (p : Place) (left : ℕ) (x : Step)
     → (p .elements ≡ 0 → ⊥) → p .node < length bytes → (left ≡ 0 → ⊥)
-    → x ≡ pairStep (outermost && eqb (p .children) 1) c table classes bytes (take (length pattern - p .at) (drop (p .at) pattern))
-    (take (length bytes - p .node) (drop (p .node) bytes)) had (p .elements)
-    → x ≡ plainStep outermost c table classes pattern bytes had p left
-unfolding plainStep
-plain-pair outermost c table classes pattern bytes had p left x e n l h =
-    rw (ne-eqb (p .elements) 0 e, lt-leb (length bytes) (p .node) n, ne-eqb left 0 l)
-    (h ∙ rw (rest-drop (p .at) pattern, rest-drop (p .node) bytes))
+    → x ≡ pairStep last c table classes bytes (take (length pattern - p .at) (drop (p .at) pattern)) (take (length bytes - p .node) (drop (p .node) bytes))
+    had (p .elements)
+    → x ≡ plainStep last c table classes bytes (drop (p .at) pattern) (drop (p .node) bytes) had (p .elements) left
+plain-pair last c table classes pattern bytes had p left x e n l h =
+    turns.plain-pair last c table classes bytes (drop (p .at) pattern) (drop (p .node) bytes) had (p .elements) left x e
+    (λ z. omega (arith, length-drop (p .node) bytes)) l (h ∙ rw (rest-part (p .at) pattern, rest-part (p .node) bytes))
 
 pub step-at : (outermost : Bool) (table classes pattern bytes : List ℕ) (part : ℕ → Part) (p : Place) (left : ℕ) (c : Code) (x : Step)
     → (p .children ≡ 0 → ⊥) → p .at < length pattern → c ≡ decodeOf (getD pattern (p .at) 0)
-    → x ≡ codeStep outermost c table classes pattern bytes (part (variableOf c)) p left
-    → x ≡ stepOf outermost table classes pattern bytes (part (variableAt pattern (p .at))) p left
-unfolding stepOf variableAt
-step-at outermost table classes pattern bytes part p left c x n a e h = rw (ne-eqb (p .children) 0 n, lt-ltb (p .at) (length pattern) a, ← e) h
+    → x ≡ codeStep (outermost && eqb (p .children) 1) c table classes bytes (drop (p .at) pattern) (drop (p .node) bytes) (part (variableOf c))
+    (p .elements) left
+    → x ≡ stepAt outermost table classes pattern bytes (part (variableAt pattern (p .at))) p left
+unfolding stepAt variableAt
+step-at outermost table classes pattern bytes part p left c x n a e h =
+    turns.step-at outermost table classes bytes (drop (p .at) pattern) (drop (p .node) bytes) part (p .children) (p .elements) left c x n
+    (λ z. omega (arith, length-drop (p .at) pattern)) (e ∙ ap decodeOf (sym (first-left pattern (p .at)))) h
+
+-- what the code's step is
+pub step-here : (outermost : Bool) (table classes pattern bytes : List ℕ) (assigned : ℕ) (parts : List ℕ) (p : Place) (left : ℕ) (x : Step)
+    → x ≡ stepOf outermost table classes bytes (drop (p .at) pattern) (drop (p .node) bytes) (partOf assigned parts (variableIn (drop (p .at) pattern)))
+    (p .children) (p .elements) left
+    → x ≡ stepAt outermost table classes pattern bytes (partIn assigned parts (variableAt pattern (p .at))) p left
+unfolding stepAt variableAt
+step-here outermost table classes pattern bytes assigned parts p left x h =
+    h ∙ rw (part-below assigned parts (variableIn (drop (p .at) pattern)) (turns.variable-below (drop (p .at) pattern)))

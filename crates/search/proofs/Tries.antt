@@ -12,7 +12,7 @@ use Rattle.term.specs.Extent.{extentOf}
 use Rattle.search.specs.State.{turns, State, walked, walkOf}
 use Rattle.search.specs.Level.{Reply, spentAt, failed, tried, lengthsOf, stopBy, afterWalk, levelOf}
 use Rattle.search.specs.Inner.Replies.{given, triesOf}
-use Rattle.search.specs.declared.Stop.{Stop}
+use Rattle.steps.specs.declared.Stop.{Stop}
 use Rattle.search.proofs.Kept.{past}
 
 -- Lengths

@@ -10,8 +10,8 @@ use Rattle.term.specs.Extent.{extentOf}
 use Rattle.term.specs.Part.{absent}
 use Rattle.search.specs.State.{State, Walked, turns, walkOf}
 use Rattle.search.specs.Level.{Reply, failedAt, spentAt, startOf, tried, orElse, lengthsOf, complementsOf, levelOf, levels}
-use Rattle.search.specs.declared.Stop.{Stop}
-use Rattle.search.specs.declared.Stop.the-variants.{Failure, NoAllowance, NoPair, RunName}
+use Rattle.steps.specs.declared.Stop.{Stop}
+use Rattle.steps.specs.declared.Stop.the-variants.{Failure, NoAllowance, NoPair, RunName}
 use Rattle.search.specs.declared.Outcome.{Outcome}
 use Rattle.search.specs.declared.Outcome.the-variants.{Found, Failed, Spent}
 

@@ -9,9 +9,9 @@ use Rattle.term.specs.Limits.{longestRecord, longestPattern}
 use Rattle.term.specs.Extent.{extentOf}
 use Rattle.term.specs.Part.{absent, boundPart}
 use Rattle.term.specs.declared.Part.{Part}
-use Rattle.search.specs.State.{PutBy, State, Walked, place, state, passed, turns, walkOf}
-use Rattle.search.specs.declared.Stop.{Stop}
-use Rattle.search.specs.declared.Stop.the-variants.{Failure, NoAllowance, NoPair, RunName}
+use Rattle.search.specs.State.{PutBy, State, Walked, place, state, placePast, turns, walkOf}
+use Rattle.steps.specs.declared.Stop.{Stop}
+use Rattle.steps.specs.declared.Stop.the-variants.{Failure, NoAllowance, NoPair, RunName}
 use Rattle.search.specs.declared.Outcome.{Outcome}
 use Rattle.search.specs.declared.Outcome.the-variants.{Found, Failed, Spent}
 use Rattle.search.specs.declared.Ended.{Ended}
@@ -46,7 +46,7 @@ startOf parts node = state parts [] [] (place 1 1 0 node)
 -- the run name v is assigned n elements of so many bytes
 abbrev pub tried : State → ℕ → ℕ → ℕ → State
 tried s v n size =
-    state (set (s .parts) v (boundPart (s .place .node) size n)) (s .frames) (s .waiting) (passed (s .place) n 1 size)
+    state (set (s .parts) v (boundPart (s .place .node) size n)) (s .frames) (s .waiting) (placePast (s .place) n 1 size)
 
 -- the reply, or where it failed what comes next
 abbrev pub orElse : Reply → (ℕ → Reply) → Reply

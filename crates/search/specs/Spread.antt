@@ -10,7 +10,7 @@ use Rattle.term.specs.Extent.{entryOf, extentOf}
 use Rattle.term.specs.Table.{list}
 use Rattle.term.specs.declared.Code.{Code}
 use Rattle.term.specs.declared.Code.the-variants.{Symbol, Name, Run, Complement}
-use Rattle.search.specs.Inner.Memory.{bit}
+use Rattle.parts.specs.Packed.{bit}
 
 -- the bytes of a node itself, and of a complement those of its inside too
 abbrev pub pastBy : Code → List ℕ → List ℕ → ℕ

@@ -15,7 +15,7 @@ use Rattle.sheet.specs.Answer.{checkedNumber, checkedCount, writingNumbe
 use Rattle.sheet.specs.Entry.{entries}
 use Rattle.sheet.specs.Contents.{checkEach, checkStates}
 use Rattle.sheet.specs.Writing.{split, lengthsAccepted, sheetLength, writing, outputAfter}
-use Rattle.sheet.specs.Demands.{Reading, OneReading, SheetOf, ReadsBack, Shows, Demanded}
+use Rattle.sheet.specs.Demands.{Reading, OneReading, SheetOf, ReadsBack, Writes, Demanded}
 use Rattle.sheet.specs.declared.Checked.{Checked}
 use Rattle.sheet.specs.declared.Checked.the-variants.{Accepted}
 use Rattle.sheet.specs.declared.Writing.{Writing}
@@ -121,7 +121,7 @@ module _ (table bs ns before : List ℕ) (o : Octets bs) (n : ℕ) (w : writing 
         same-entry = λ i h. entry-of-entries s (length ns) a i h ∙ ap (λ (l : List (List ℕ)). getD l i []) (written-read es);
       }
 
-  written-shown : (s : List ℕ) → s ≡ sheetBytes (split bs ns) → Shows before 0 n (outputAfter table bs ns before) s
+  written-shown : (s : List ℕ) → s ≡ sheetBytes (split bs ns) → Writes before 0 n (outputAfter table bs ns before) s
   written-shown s e =
       let p = written-passed table bs ns before n w in
       record {

@@ -16,7 +16,7 @@ use Rattle.term.specs.declared.Refusal.the-variants.{Directory}
 use Rattle.sheet.specs.Sheet.{pastPairs}
 use Rattle.sheet.specs.Check.{entryCount, offsetAt, lengthAt, checkSheet}
 use Rattle.sheet.specs.Answer.{checkedNumber, checkedCount, placeOffset}
-use Rattle.sheet.specs.Entry.{entryAt, entriesFrom, entries, checkEntry, placeOf, entryOf, pairWithin, partAt, partOffset, pointsInto}
+use Rattle.sheet.specs.Entry.{entryAt, entriesFrom, entries, checkEntry, placeOf, shownEntry, pairWithin, partAt, partOffset, pointsInto}
 use Rattle.sheet.specs.declared.Checked.{Checked}
 use Rattle.sheet.specs.declared.Checked.the-variants.{Accepted}
 use Rattle.sheet.specs.declared.Place.{Place}
@@ -46,7 +46,7 @@ module _ (x : RefT (List ℕ)) (i : ℕ) where
   IsPart bytes place = (bytes ≡ partAt (now x) i) × (place ≡ pointsInto x (partOffset (now x) i))
 
   abbrev pub IsEntry : List ℕ → ℕ × ℕ → Type 0
-  IsEntry bytes place = (bytes ≡ entryOf (now x) i) × (place ≡ pointsInto x (placeOffset (placeOf (now x) i)))
+  IsEntry bytes place = (bytes ≡ shownEntry (now x) i) × (place ≡ pointsInto x (placeOffset (placeOf (now x) i)))
 
   at-start : ptr x ≡ pointsInto x 0
   at-start = let e : ptr x .1 ≡ ptr x .1 + 0 = omega arith in ap (λ (k : ℕ). (ptr x .0, k)) e
@@ -72,12 +72,12 @@ pub part-entry : (s : List ℕ) (n i : ℕ) → Directed s n → i < n → partA
 unfolding partAt
 part-entry s n i d h = rw (pair-entry s n i d h)
 
-entry-accepted : (s : List ℕ) (n i : ℕ) → checkSheet s ≡ Accepted n → i < n → entryOf s i ≡ entryAt s i
-unfolding entryOf placeOf checkEntry entryAt
+entry-accepted : (s : List ℕ) (n i : ℕ) → checkSheet s ≡ Accepted n → i < n → shownEntry s i ≡ entryAt s i
+unfolding shownEntry placeOf checkEntry entryAt
 entry-accepted s n i a h = rw (a, lt-ltb i n h)
 
 -- what is read without the checks is the entry
-pub part-is-entry : (s : List ℕ) (n i : ℕ) → checkSheet s ≡ Accepted n → i < n → partAt s i ≡ entryOf s i
+pub part-is-entry : (s : List ℕ) (n i : ℕ) → checkSheet s ≡ Accepted n → i < n → partAt s i ≡ shownEntry s i
 part-is-entry s n i a h = part-entry s n i (accepted-directed s n a) h ∙ sym (entry-accepted s n i a h)
 
 -- the check of an index
@@ -125,7 +125,7 @@ module _ (s : List ℕ) (i : ℕ) where
   place-refused r j e = rw e
 
   -- the part that the pair tells is the entry, and lies where the entry lies
-  pub part-lies : checkedNumber (checkEntry s i) ≡ 0 → (partAt s i ≡ entryOf s i) × (partOffset s i ≡ placeOffset (placeOf s i))
+  pub part-lies : checkedNumber (checkEntry s i) ≡ 0 → (partAt s i ≡ shownEntry s i) × (partOffset s i ≡ placeOffset (placeOf s i))
   unfolding partOffset
   part-lies z =
       let n = checkedCount (checkEntry s i) in
@@ -137,7 +137,7 @@ module _ (s : List ℕ) (i : ℕ) where
 
 module _ (x : RefT (List ℕ)) (i : ℕ) where
   pub no-entry : (r : Refusal) (j : ℕ) → checkEntry (now x) i ≡ Checked.Refused r j → IsEntry x i [] (ptr x)
-  unfolding entryOf placeOf
+  unfolding shownEntry placeOf
   no-entry r j e = (rw e, rw e (at-start x i))
 
   pub entry-of-part : checkedNumber (checkEntry (now x) i) ≡ 0 → (bytes : List ℕ) (place : ℕ × ℕ) → IsPart x i bytes place → IsEntry x i bytes place
@@ -163,7 +163,7 @@ module _ (s : List ℕ) (n : ℕ) (a : checkSheet s ≡ Accepted n) where
   unfolding entries
   entries-count = entries-length s (entryCount s) 0 ∙ accepted-directed s n a .counted
 
-  pub entry-of-entries : (i : ℕ) → i < n → entryOf s i ≡ getD (entries s) i []
+  pub entry-of-entries : (i : ℕ) → i < n → shownEntry s i ≡ getD (entries s) i []
   unfolding entries
   entry-of-entries i h =
       let e : 0 + i ≡ i = omega arith in

@@ -1,14 +1,14 @@
 -- The lengths of joined records: how they are checked one by one, and what they split the bytes into.
 use Prim.Native.Nat.{ℕ, zero, suc, _+_, _-_, _≤_, _<_}
-use native.Mathlib.Numerals.{add-one}
 use native.Mathlib.Omega.{arith}
 use mathlib.Core.Path.{_≡_, refl, ap, ap₂, _∙_}
 use mathlib.Core.List.{List, [], _∷_, _++_, map, flatten}
 use mathlib.Core.Bool.{Bool, true, false, and-false, and-eq-true-iff}
 use lib.ListN.{length, getD, take, drop, length-append, length-drop, take-append-drop, drop-of-length-le}
-use lib.Seq.{drop-cons, take-all, take-at, drop-at, length-take-le}
+use lib.Seq.{take-at, drop-at, length-take-le}
 use lib.Dec.{ltb, eqb}
 use borrow.Author.Tests.{lt-ltb, eq-eqb, ne-eqb, ltb-true, eqb-true, eqb-false}
+use Rattle.term.proofs.Lists.{next-at}
 use Rattle.term.specs.Limits.{Octets}
 use Rattle.sheet.specs.Word.{word}
 use Rattle.sheet.specs.Sheet.{pastPairs, directory, sheetBytes, NoneEmpty}
@@ -16,14 +16,6 @@ use Rattle.sheet.specs.Check.{longestSheet}
 use Rattle.sheet.specs.Writing.{split, sum, noneZero, lengthsAccepted, sheetLength}
 use Rattle.sheet.proofs.Words.{largestWord, word-octets, joined-octets}
 use Rattle.sheet.proofs.Readings.{written-length}
-
--- what is left from an index on
-
-pub drop-next : (l : List ℕ) (i : ℕ) → i < length l → drop i l ≡ getD l i 0 ∷ drop (i + 1) l
-drop-next l i h = rw (add-one, drop-cons l i 0)
-
-pub rest-part : (l : List ℕ) (n : ℕ) → take (length l - n) (drop n l) ≡ drop n l
-rest-part l n = take-all (length l - n) (drop n l) (omega (arith, length-drop n l))
 
 -- the check of the lengths
 
@@ -37,18 +29,18 @@ eqb-less a n b h = go (eqb (a - n) b) refl
 module _ (ns : List ℕ) (i left : ℕ) where
   pub lengths-zero : i < length ns → getD ns i 0 ≡ 0 → lengthsAccepted (drop i ns) left ≡ false
   unfolding lengthsAccepted noneZero
-  lengths-zero h z = rw (drop-next ns i h, z)
+  lengths-zero h z = rw (next-at ns i h, z)
 
   pub lengths-over : i < length ns → left < getD ns i 0 → lengthsAccepted (drop i ns) left ≡ false
   unfolding lengthsAccepted sum
   lengths-over h o =
-      rw (drop-next ns i h, ne-eqb left (getD ns i 0 + sum (drop (i + 1) ns)) (λ q. omega arith))
+      rw (next-at ns i h, ne-eqb left (getD ns i 0 + sum (drop (i + 1) ns)) (λ q. omega arith))
       (and-false (noneZero (getD ns i 0 ∷ drop (i + 1) ns)))
 
   pub lengths-next : i < length ns → 0 < getD ns i 0 → getD ns i 0 ≤ left
       → lengthsAccepted (drop i ns) left ≡ lengthsAccepted (drop (i + 1) ns) (left - getD ns i 0)
   unfolding lengthsAccepted noneZero sum
-  lengths-next h z o = rw (drop-next ns i h, lt-ltb 0 (getD ns i 0) z, eqb-less left (getD ns i 0) (sum (drop (i + 1) ns)) o)
+  lengths-next h z o = rw (next-at ns i h, lt-ltb 0 (getD ns i 0) z, eqb-less left (getD ns i 0) (sum (drop (i + 1) ns)) o)
 
   pub lengths-end : length ns ≤ i → lengthsAccepted (drop i ns) left ≡ eqb left 0
   unfolding lengthsAccepted noneZero sum
@@ -65,11 +57,11 @@ lengths-true ns total h =
 module _ (ns : List ℕ) (i : ℕ) (h : i < length ns) where
   pub sum-next : sum (drop i ns) ≡ getD ns i 0 + sum (drop (i + 1) ns)
   unfolding sum
-  sum-next = rw (drop-next ns i h)
+  sum-next = rw (next-at ns i h)
 
   pub split-next : (bs : List ℕ) → split bs (drop i ns) ≡ take (getD ns i 0) bs ∷ split (drop (getD ns i 0) bs) (drop (i + 1) ns)
   unfolding split
-  split-next bs = rw (drop-next ns i h)
+  split-next bs = rw (next-at ns i h)
 
 pub split-length : (bs ns : List ℕ) → length (split bs ns) ≡ length ns
 unfolding split

@@ -10,7 +10,7 @@ use borrow.Author.Tests.{eq-eqb, lt-ltb, eqb-true}
 use Rattle.term.specs.Limits.{Octets}
 use Rattle.sheet.specs.Word.{wordBytes, word, wordAt}
 use Rattle.sheet.specs.Sheet.{pairBytes, pastPairs, directory, sheetBytes, NoneEmpty}
-use Rattle.sheet.specs.Check.{longestSheet, entryCount, offsetAt, lengthAt, followed, checkSheet}
+use Rattle.sheet.specs.Check.{longestSheet, entryCount, offsetAt, lengthAt, entriesFollow, checkSheet}
 use Rattle.sheet.specs.Entry.{entryAt, entriesFrom, entries}
 use Rattle.sheet.specs.Demands.{Reading}
 use Rattle.sheet.specs.declared.Checked.the-variants.{Accepted}
@@ -26,20 +26,20 @@ entry-length s i h =
     length-take-le (lengthAt s i) (drop (offsetAt s i) s) (omega (arith, length-drop (offsetAt s i) s))
 
 module _ (s : List ℕ) where
-  followed-length : (k i at : ℕ) → followed s (suc k) i at ≡ true → length (entryAt s i) ≡ lengthAt s i
+  followed-length : (k i at : ℕ) → entriesFollow s (suc k) i at ≡ true → length (entryAt s i) ≡ lengthAt s i
   followed-length k i at h =
       let a = follow-true s k i at h in
       entry-length s i (omega (arith, a .0, follow-within s k (i + 1) (at + lengthAt s i) (a .2)))
 
-  pub followed-none-empty : (k i at : ℕ) → followed s k i at ≡ true → NoneEmpty (entriesFrom s k i)
+  pub followed-none-empty : (k i at : ℕ) → entriesFollow s k i at ≡ true → NoneEmpty (entriesFrom s k i)
   unfolding entriesFrom NoneEmpty
   followed-none-empty zero i at h = tt
   followed-none-empty (suc k) i at h =
       let a = follow-true s k i at h in
       (omega (arith, a .1, followed-length k i at h), followed-none-empty k (i + 1) (at + lengthAt s i) (a .2))
 
-  followed-entries : (k i at : ℕ) → followed s k i at ≡ true → drop at s ≡ flatten (entriesFrom s k i)
-  unfolding followed entriesFrom entryAt flatten
+  followed-entries : (k i at : ℕ) → entriesFollow s k i at ≡ true → drop at s ≡ flatten (entriesFrom s k i)
+  unfolding entriesFollow entriesFrom entryAt flatten
   followed-entries zero i at h = drop-of-length-le s {i = at} (omega (arith, eqb-true at (length s) h))
   followed-entries (suc k) i at h =
       let a = follow-true s k i at h in
@@ -47,7 +47,7 @@ module _ (s : List ℕ) where
       ∙ ap₂ _++_ (ap (λ (o : ℕ). take (lengthAt s i) (drop o s)) (sym (a .0)))
       (drop-drop (lengthAt s i) at s ∙ followed-entries k (i + 1) (at + lengthAt s i) (a .2))
 
-  followed-pairs : Octets s → (k i at : ℕ) → pastPairs (i + k) ≤ length s → followed s k i at ≡ true
+  followed-pairs : Octets s → (k i at : ℕ) → pastPairs (i + k) ≤ length s → entriesFollow s k i at ≡ true
       → drop (pastPairs i) s ≡ directory at (map length (entriesFrom s k i)) ++ drop (pastPairs (i + k)) s
   unfolding entriesFrom directory word
   followed-pairs o zero i at l h = let e : i + zero ≡ i = omega arith in rw e
@@ -107,8 +107,8 @@ module _ (s : List ℕ) where
       (written-entries es (i + 1) (at + length e) rest (a .2) (past-entry at e (flatten es) q))
 
   written-followed : (es : List (List ℕ)) (i at : ℕ) (rest : List ℕ) → NoneEmpty es → at ≤ length s
-      → drop (pastPairs i) s ≡ directory at (map length es) ++ rest → drop at s ≡ flatten es → followed s (length es) i at ≡ true
-  unfolding followed flatten NoneEmpty
+      → drop (pastPairs i) s ≡ directory at (map length es) ++ rest → drop at s ≡ flatten es → entriesFollow s (length es) i at ≡ true
+  unfolding entriesFollow flatten NoneEmpty
   written-followed [] i at rest m l p q = eq-eqb at (length s) (omega (arith, length-drop at s, ap length q))
   written-followed (e ∷ es) i at rest m l p q =
       let a = pair-back i at (length e) (map length es) rest p in

@@ -5,11 +5,12 @@ use mathlib.Core.Path.{_≡_, ap, _∙_}
 use mathlib.Core.List.{List, [], _∷_, _++_}
 use lib.ListN.{length, getD, set, drop, drop-of-length-le}
 use lib.Seq.{sets, sets-eq}
+use Rattle.term.proofs.Lists.{next-at}
 use Rattle.sheet.specs.Word.{wordBytes, word}
 use Rattle.sheet.specs.Sheet.{pastPairs, directory, sheetBytes}
 use Rattle.sheet.specs.Writing.{split, sum}
 use Rattle.sheet.proofs.Readings.{directory-length}
-use Rattle.sheet.proofs.Lengths.{drop-next, split-sheet}
+use Rattle.sheet.proofs.Lengths.{split-sheet}
 
 pub sets-append : (l : List ℕ) (i : ℕ) (vs ws : List ℕ) → sets l i (vs ++ ws) ≡ sets (sets l i vs) (i + length vs) ws
 sets-append l i [] ws = let e : i + zero ≡ i = omega arith in rw e
@@ -28,7 +29,7 @@ module _ (l : List ℕ) (i at : ℕ) where
   pub bytes-next : (bs : List ℕ) → i < length bs → sets l (at + i) (drop i bs) ≡ sets (set l (at + i) (getD bs i 0)) (at + (i + 1)) (drop (i + 1) bs)
   bytes-next bs h =
       let e : at + (i + 1) ≡ suc (at + i) = omega arith in
-      rw (drop-next bs i h, e)
+      rw (next-at bs i h, e)
 
   pub bytes-end : (bs : List ℕ) → length bs ≤ i → sets l (at + i) (drop i bs) ≡ l
   bytes-end bs h = rw (drop-of-length-le bs h)
@@ -42,7 +43,7 @@ module _ (l : List ℕ) (i at : ℕ) where
       let n = getD ns i 0 in
       let rest = directory (at + n) (drop (i + 1) ns) in
       let f : pastPairs i + wordBytes + wordBytes ≡ pastPairs (i + 1) = omega arith in
-      ap (λ (r : List ℕ). sets l (pastPairs i) (directory at r)) (drop-next ns i h)
+      ap (λ (r : List ℕ). sets l (pastPairs i) (directory at r)) (next-at ns i h)
       ∙ sets-append l (pastPairs i) (word at) (word n ++ rest)
       ∙ sets-append (sets l (pastPairs i) (word at)) (pastPairs i + wordBytes) (word n) rest
       ∙ ap (λ (k : ℕ). sets (sets (sets l (pastPairs i) (word at)) (pastPairs i + wordBytes) (word n)) k rest) f

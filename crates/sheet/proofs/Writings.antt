@@ -8,6 +8,7 @@ use lib.ListN.{length, getD, take, drop, drop-of-length-le}
 use lib.Seq.{sets}
 use lib.Dec.{leb}
 use borrow.Author.Tests.{le-leb, lt-leb, leb-true, leb-false}
+use Rattle.term.proofs.Lists.{rest-part}
 use Rattle.term.specs.Table.{tableAccepted}
 use Rattle.reader.specs.declared.Read.{Read}
 use Rattle.reader.specs.declared.Read.the-variants.{Ends}
@@ -21,7 +22,7 @@ use Rattle.sheet.specs.declared.Checked.{Checked}
 use Rattle.sheet.specs.declared.Checked.the-variants.{Accepted}
 use Rattle.sheet.specs.declared.Writing.{Writing}
 use Rattle.sheet.specs.declared.Writing.the-variants.{Written}
-use Rattle.sheet.proofs.Lengths.{rest-part, split-next, lengths-true, split-size}
+use Rattle.sheet.proofs.Lengths.{split-next, lengths-true, split-size}
 use Rattle.sheet.proofs.Stores.{sets-front}
 
 -- the records from index i on
@@ -36,7 +37,7 @@ module _ (table rest ns : List ℕ) (i : ℕ) where
       → checkEach true table i (split rest (drop i ns))
       ≡ checkEach true table (i + 1) (split (take (length rest - getD ns i 0) (drop (getD ns i 0) rest)) (drop (i + 1) ns))
   unfolding checkEach
-  records-read m h e = rw (split-next ns i h rest, e, rest-part rest (getD ns i 0))
+  records-read m h e = rw (split-next ns i h rest, e, rest-part (getD ns i 0) rest)
 
   pub records-end : length ns ≤ i → checkEach true table i (split rest (drop i ns)) ≡ Accepted i
   unfolding checkEach split

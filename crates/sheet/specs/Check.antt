@@ -26,13 +26,13 @@ lengthAt s i = wordAt s (pastPairs i + wordBytes)
 
 -- so many entries from index i on: the first starts at this offset, each where the one before ended, no length is 0, and the last
 -- ends with the sheet
-unfoldable pub followed : List ℕ → ℕ → ℕ → ℕ → Bool
-followed s zero i at = eqb at (length s)
-followed s (suc k) i at = eqb (offsetAt s i) at && ltb 0 (lengthAt s i) && followed s k (i + 1) (at + lengthAt s i)
+unfoldable pub entriesFollow : List ℕ → ℕ → ℕ → ℕ → Bool
+entriesFollow s zero i at = eqb at (length s)
+entriesFollow s (suc k) i at = eqb (offsetAt s i) at && ltb 0 (lengthAt s i) && entriesFollow s k (i + 1) (at + lengthAt s i)
 
 -- count and pairs lie within the sheet, and the entries follow
 unfoldable pub directoryAccepted : List ℕ → Bool
-directoryAccepted s = leb (pastPairs (entryCount s)) (length s) && followed s (entryCount s) 0 (pastPairs (entryCount s))
+directoryAccepted s = leb (pastPairs (entryCount s)) (length s) && entriesFollow s (entryCount s) 0 (pastPairs (entryCount s))
 
 unfoldable pub checkSheet : List ℕ → Checked
 checkSheet s =

@@ -8,7 +8,7 @@ use Rattle.term.specs.Limits.{Octets}
 use Rattle.sheet.specs.Sheet.{sheetBytes, NoneEmpty}
 use Rattle.sheet.specs.Check.{longestSheet}
 use Rattle.sheet.specs.Answer.{checkedNumber, checkedCount}
-use Rattle.sheet.specs.Entry.{entries, entryOf}
+use Rattle.sheet.specs.Entry.{entries, shownEntry}
 use Rattle.sheet.specs.Contents.{checkStates}
 use Rattle.sheet.specs.Writing.{split}
 
@@ -35,10 +35,10 @@ pub record SheetOf (table bs ns s : List ℕ) : Type 0 where
 pub record ReadsBack (table bs ns s : List ℕ) : Type 0 where
   pub sheet : SheetOf table bs ns s
   pub counted : checkedCount (checkStates table s) ≡ length ns
-  pub same-entry : (i : ℕ) → i < length ns → entryOf s i ≡ getD (split bs ns) i []
+  pub same-entry : (i : ℕ) → i < length ns → shownEntry s i ≡ getD (split bs ns) i []
 
 -- a writing shows that s was written: number 0 and the length of s; s is at the front of the output, and past it stays what was there
-pub record Shows (before : List ℕ) (number size : ℕ) (after s : List ℕ) : Type 0 where
+pub record Writes (before : List ℕ) (number size : ℕ) (after s : List ℕ) : Type 0 where
   pub written : number ≡ 0
   pub whole : size ≡ length s
   pub output : after ≡ s ++ drop size before
@@ -46,9 +46,9 @@ pub record Shows (before : List ℕ) (number size : ℕ) (after s : List ℕ) : 
 -- What is demanded of a writing that shows this number and length and leaves `after` in the output, where `before` was
 pub record Demanded (table bs ns before : List ℕ) (number size : ℕ) (after : List ℕ) : Type 0 where
   -- "A sheet that was written reads back as its records"
-  pub reads-back : number ≡ 0 → (s : List ℕ) × Shows before number size after s × ReadsBack table bs ns s
+  pub reads-back : number ≡ 0 → (s : List ℕ) × Writes before number size after s × ReadsBack table bs ns s
   -- "an accepted sheet of accepted records, written anew from them, has the same bytes", where the output has the room
-  pub written-anew : (s : List ℕ) → SheetOf table bs ns s → length s ≤ length before → Shows before number size after s
+  pub written-anew : (s : List ℕ) → SheetOf table bs ns s → length s ≤ length before → Writes before number size after s
   -- refused exactly if no sheet of these records has the room; then the length is 0 and the output as it was
   pub refused-exactly : (0 < number) ↔ ((s : List ℕ) → SheetOf table bs ns s → length before < length s)
   pub untouched : 0 < number → (size ≡ 0) × (after ≡ before)

@@ -38,8 +38,8 @@ unfoldable pub placeOf : List ℕ → ℕ → Place
 placeOf s i = placeBy (checkEntry s i) (offsetAt s i) (lengthAt s i)
 
 -- reading an entry: the part at its place, and an empty part where the check gives 6 or 9
-unfoldable pub entryOf : List ℕ → ℕ → List ℕ
-entryOf s i = take (placeLength (placeOf s i)) (drop (placeOffset (placeOf s i)) s)
+unfoldable pub shownEntry : List ℕ → ℕ → List ℕ
+shownEntry s i = take (placeLength (placeOf s i)) (drop (placeOffset (placeOf s i)) s)
 
 -- whether the pair of an index, and the part that it tells, lie within any bytes
 unfoldable pub pairWithin : List ℕ → ℕ → Bool

@@ -56,9 +56,9 @@ unfoldable pub writing : List ℕ → List ℕ → List ℕ → ℕ → Writing
 writing table bs ns room = withRoom (checkRecords table bs ns) (sheetLength (length ns) (length bs)) room
 
 -- the output after it: the sheet, and past it what was there; all that was there after a refusal
-abbrev pub after : Writing → List ℕ → List ℕ → List ℕ
-after (Written n) s out = s ++ drop n out
-after (Writing.Refused r i) s out = out
+abbrev pub afterWriting : Writing → List ℕ → List ℕ → List ℕ
+afterWriting (Written n) s out = s ++ drop n out
+afterWriting (Writing.Refused r i) s out = out
 
 unfoldable pub outputAfter : List ℕ → List ℕ → List ℕ → List ℕ → List ℕ
-outputAfter table bs ns out = after (writing table bs ns (length out)) (sheetBytes (split bs ns)) out
+outputAfter table bs ns out = afterWriting (writing table bs ns (length out)) (sheetBytes (split bs ns)) out

@@ -11,8 +11,8 @@ ghost use denote.Ref.{ptr};
 ghost use Rattle.term.specs.Moment.{old, new};
 ghost use Rattle.sheet.specs.Word.{wordBytes, word, wordAt};
 ghost use Rattle.sheet.specs.Sheet.{pastPairs, directory, sheetBytes};
-ghost use Rattle.sheet.specs.Check.{longestSheet, entryCount, offsetAt, lengthAt, followed, checkSheet};
-ghost use Rattle.sheet.specs.Entry.{entries, checkEntry, placeOf, entryOf, partAt, partOffset, pointsInto};
+ghost use Rattle.sheet.specs.Check.{longestSheet, entryCount, offsetAt, lengthAt, entriesFollow, checkSheet};
+ghost use Rattle.sheet.specs.Entry.{entries, checkEntry, placeOf, shownEntry, partAt, partOffset, pointsInto};
 ghost use Rattle.sheet.specs.Contents.{readEntry, checkEach, few, checkContents, checkStates, checkRules};
 ghost use Rattle.sheet.specs.Writing.{split, sum, lengthsAccepted, sheetLength, checkRecords, writing, outputAfter};
 ghost use Rattle.sheet.specs.Answer.{checkedNumber, checkedIndex, checkedCount, writingNumber, writingIndex, writingLength, placeNumber, placeOffset, placeLength};
@@ -179,7 +179,7 @@ fn length_at(sheet: &[u8], index: usize) -> u16
 // Whether the entries follow the directory of n pairs and each other, and end with the sheet.
 fn entries_follow(sheet: &[u8], n: usize) -> bool
     requires { ⌜ pastPairs n ≤ length (now sheet) ⌝ }
-    ensures { λ r. ⌜ r ≡ followed (old sheet) n 0 (pastPairs n) ⌝ }
+    ensures { λ r. ⌜ r ≡ entriesFollow (old sheet) n 0 (pastPairs n) ⌝ }
 {
     let mut at = WORD + PAIR * n;
     let mut i: usize = 0;
@@ -253,7 +253,7 @@ pub fn check_entry(sheet: &[u8], index: usize) -> Checked
 
 // An entry as a part of the sheet, or an empty part where the check of sheet and index refuses.
 pub fn entry(sheet: &[u8], index: usize) -> &[u8]
-    ensures bytes { λ r. ⌜ now r ≡ entryOf (old sheet) index ⌝ }
+    ensures bytes { λ r. ⌜ now r ≡ shownEntry (old sheet) index ⌝ }
     ensures place { λ r. ⌜ ptr r ≡ pointsInto (sheet .entry) (placeOffset (placeOf (old sheet) index)) ⌝ }
 {
     let checked = check_entry(sheet, index);

@@ -17,7 +17,7 @@ use Rattle.term.specs.declared.Refusal.{Refusal}
 use Rattle.term.specs.declared.Refusal.the-variants.{Table, Long, Spare, Full}
 use Rattle.term.proofs.Numbers.{numbered}
 use Rattle.term.proofs.Trees.{term-back, term-tree}
-use Rattle.reader.specs.Reading.{Answer, refused, read, shown, join, chain, readAll, readTree as readOld, whole, readWhole, mapAnswer, readRecord}
+use Rattle.reader.specs.Reading.{Parsed, refused, read, shown, join, chain, readAll, readTree, unlessSpare, readWhole, mapParsed, readRecord}
 use Rattle.reader.specs.declared.Read.{Read}
 use Rattle.reader.specs.declared.Read.the-variants.{Ends}
 use Rattle.reader.proofs.Answers.{refused-shown, ends-shown}
@@ -26,7 +26,7 @@ use Rattle.reader.proofs.Steps.{whole-refused, whole-spare, whole-all}
 use Rattle.reader.proofs.Typed.{record-read}
 use Rattle.sheet.proofs.Stores.{sets-front}
 use Rattle.stored.specs.Form.{store, stores, storedBytes, longestStored}
-use Rattle.stored.specs.Reading.{readTree, unlessLong, readForm, readStored}
+use Rattle.stored.specs.Reading.{readStoredTree, unlessLong, readForm, readStored}
 use Rattle.stored.specs.Move.{moveNumber, moveLength, bytesBy, storing, restoring, moved, outputAfter}
 use Rattle.stored.specs.Passes.{stretched, stripped, recordTrees, storedTrees, Putting}
 use Rattle.stored.specs.Demands.{RecordOf, StoredOf, Demanded}
@@ -38,20 +38,20 @@ use Rattle.stored.proofs.Inverse.{stored-short, stored-complete, read-s
 -- Either way
 
 -- what ties the two forms: accepted input is that of one term, and its other form moves back
-pub record Ties (Of To : Term → List ℕ → Type 0) (back : List ℕ → Answer (List ℕ)) (s : List ℕ) (a : Answer (List ℕ)) : Type 0 where
+pub record Ties (Of To : Term → List ℕ → Type 0) (back : List ℕ → Parsed (List ℕ)) (s : List ℕ) (a : Parsed (List ℕ)) : Type 0 where
   pub is-of : (bs : List ℕ) (n : ℕ) → a ≡ read bs n → (t : Term) × (Of t s × To t bs)
   pub of-is : (t : Term) → Of t s → (bs : List ℕ) × ((a ≡ read bs (length s)) × (To t bs × (back bs ≡ read s (length bs))))
   pub same-term : (t u : Term) → Of t s → Of u s → t ≡ u
   pub same-bytes : (t : Term) (bs cs : List ℕ) → To t bs → To t cs → bs ≡ cs
 
-module _ {Of To : Term → List ℕ → Type 0} {back : List ℕ → Answer (List ℕ)} {s : List ℕ} where
+module _ {Of To : Term → List ℕ → Type 0} {back : List ℕ → Parsed (List ℕ)} {s : List ℕ} where
   its-bytes : (cs : List ℕ) (n : ℕ) → Ties Of To back s (read cs n) → (t : Term) → Of t s → To t cs × (back cs ≡ read s (length cs))
   its-bytes cs n g t h =
       let f = g .of-is t h in
       let e : f .0 ≡ cs = cc (f .1 .0) in
       rw (e) at (f .1 .1)
 
-module _ {Of To : Term → List ℕ → Type 0} {back : List ℕ → Answer (List ℕ)} {s : List ℕ} (before : List ℕ) where
+module _ {Of To : Term → List ℕ → Type 0} {back : List ℕ → Parsed (List ℕ)} {s : List ℕ} (before : List ℕ) where
   -- of a move that is refused, and of one that has bytes to write
   refused-demanded : (r : Refusal) → Ties Of To back s (refused r) → Demanded Of To back s before (numberOf r) 0 before
   refused-demanded r g = record {
@@ -78,7 +78,7 @@ module _ {Of To : Term → List ℕ → Type 0} {back : List ℕ → Answer (Lis
     untouched = λ h. (refl, refl);
   }
 
-module _ {Of To : Term → List ℕ → Type 0} {back : List ℕ → Answer (List ℕ)} {s : List ℕ} (before : List ℕ) {a : Answer (List ℕ)} (ties : Ties Of To back s a) where
+module _ {Of To : Term → List ℕ → Type 0} {back : List ℕ → Parsed (List ℕ)} {s : List ℕ} (before : List ℕ) {a : Parsed (List ℕ)} (ties : Ties Of To back s a) where
   -- what a move shows and leaves, and what is demanded of it
   abbrev Done : Move → List ℕ → Type 0
   Done r after = (r ≡ moved a (length before)) × ((after ≡ outputAfter a before) × Demanded Of To back s before (moveNumber r) (moveLength r) after)
@@ -102,12 +102,12 @@ module _ {Of To : Term → List ℕ → Type 0} {back : List ℕ → Answer (Lis
 -- Both readers read the bytes of a term within the limits
 
 old-complete : (table : List ℕ) (t : Term) (s : List ℕ) → termBytes table t [] ≡ s → TermAccepted table t
-    → (readOld table true nesting false s ≡ read (termTree t) (length s)) × (readRecord table s ≡ read t (length s))
-unfolding readRecord readWhole whole mapAnswer
+    → (readTree table true nesting false s ≡ read (termTree t) (length s)) × (readRecord table s ≡ read t (length s))
+unfolding readRecord readWhole unlessSpare mapParsed
 old-complete table t s b a =
     let n : length (termBytes table t []) ≡ length s = ap length b in
-    let d : readOld table true nesting false s ≡ read (termTree t) (length s) =
-    ap (readOld table true nesting false) (sym b) ∙ complete table true (termTree t) nesting false [] (a .fits) ∙ ap (read (termTree t)) n in
+    let d : readTree table true nesting false s ≡ read (termTree t) (length s) =
+    ap (readTree table true nesting false) (sym b) ∙ complete table true (termTree t) nesting false [] (a .fits) ∙ ap (read (termTree t)) n in
     (d, rw (le-leb (length s) longestRecord (omega (arith, a .short)), d, eq-eqb (length s) (length s) refl, term-back t))
 
 module _ (table s : List ℕ) where
@@ -132,14 +132,14 @@ module _ (table s : List ℕ) where
   storing-refused r a e = rw (a, refused-shown (readRecord table s) r e)
 
 -- what is read is one of the two
-bytes-read : (f : Term → List ℕ) (a : Answer Term) (accepted : Bool) (bs : List ℕ) (n : ℕ) → cond accepted (bytesBy f a) (refused Table) ≡ read bs n
+bytes-read : (f : Term → List ℕ) (a : Parsed Term) (accepted : Bool) (bs : List ℕ) (n : ℕ) → cond accepted (bytesBy f a) (refused Table) ≡ read bs n
     → (t : Term) × ((accepted ≡ true) × ((a ≡ read t n) × (f t ≡ bs)))
 unfolding bytesBy
 bytes-read f a false bs n e = let z : _≡_ {A = ℕ} 0 1 = cc in absurd (omega arith)
 bytes-read f (refused r) true bs n e = let z : _≡_ {A = ℕ} 0 1 = cc in absurd (omega arith)
 bytes-read f (read t m) true bs n e = let z : m ≡ n = cc in (t, (refl, (ap (read t) z, cc)))
 
-one-read : (t u : Term) (n : ℕ) (a : Answer Term) → a ≡ read t n → a ≡ read u n → t ≡ u
+one-read : (t u : Term) (n : ℕ) (a : Parsed Term) → a ≡ read t n → a ≡ read u n → t ≡ u
 one-read t u n a e f = let g : read t n ≡ read u n = sym e ∙ f in cc
 
 module _ (table s : List ℕ) (octets : Octets s) where
@@ -207,7 +207,7 @@ module _ (table s : List ℕ) (octets : Octets s) where
     pub is-stored : storing table s ≡ read (storedBytes table its-term []) its-length
     pub short : length s ≤ longestRecord
     pub size : stretched table s false ≡ length (storedBytes table its-term [])
-    pub puts : length (storedBytes table its-term []) ≤ room → Putting table nesting 1 s room 0
+    pub puts : length (storedBytes table its-term []) ≤ room → Putting table s room
     pub put : storedTrees table (recordTrees table nesting 1 s) ≡ storedBytes table its-term []
 
   pub storable : (n room : ℕ) → tableAccepted table ≡ true → shown (readRecord table s) ≡ Ends n → Storable room
@@ -238,7 +238,7 @@ module _ (table s : List ℕ) (octets : Octets s) where
 
   module _ (accepted : tableAccepted table ≡ true) where
     pub restoring-refused : (r : Refusal) → shown (readForm table s) ≡ Read.Refused r → restoring table s ≡ refused r
-    unfolding restoring bytesBy readStored unlessLong mapAnswer
+    unfolding restoring bytesBy readStored unlessLong mapParsed
     restoring-refused r e = rw (accepted, refused-shown (readForm table s) r e)
 
     module _ (n : ℕ) (e : shown (readForm table s) ≡ Ends n) where
@@ -246,14 +246,14 @@ module _ (table s : List ℕ) (octets : Octets s) where
       its-tree = let x = ends-shown (readForm table s) n e in (x .0, (x .1, rw (x .1) at (form-sound table s octets)))
 
       pub restoring-long : longestRecord < length (stripped table s 0) → restoring table s ≡ refused Long
-      unfolding restoring bytesBy readStored unlessLong mapAnswer
+      unfolding restoring bytesBy readStored unlessLong mapParsed
       restoring-long h =
           let x = its-tree in
           let k = stripped-tree (x .0) n (x .1 .1) .0 in
           rw (accepted, x .1 .0, lt-leb (length (encode table (x .0) [])) longestRecord (omega (arith, ap length k)))
 
       pub restoring-old : length (stripped table s 0) ≤ longestRecord → restoring table s ≡ read (stripped table s 0) n
-      unfolding restoring bytesBy readStored unlessLong mapAnswer
+      unfolding restoring bytesBy readStored unlessLong mapParsed
       restoring-old h =
           let x = its-tree in
           let k = stripped-tree (x .0) n (x .1 .1) in
@@ -276,15 +276,15 @@ module _ (table s : List ℕ) where
       go false l = let z : _≡_ {A = ℕ} 0 1 = cc (form-long (leb-false (length s) longestStored l)) in absurd (omega arith)
 
   module _ (l : length s ≤ longestStored) where
-    form-tree : readForm table s ≡ whole s (readTree table nesting s)
+    form-tree : readForm table s ≡ unlessSpare s (readStoredTree table nesting s)
     unfolding readForm
     form-tree = rw (le-leb (length s) longestStored l)
 
-    pub form-refused : (r : Refusal) → shown (readTree table nesting s) ≡ Read.Refused r → Read.Refused r ≡ shown (readForm table s)
-    form-refused r e = sym (ap shown form-tree ∙ whole-refused s (readTree table nesting s) r e)
+    pub form-refused : (r : Refusal) → shown (readStoredTree table nesting s) ≡ Read.Refused r → Read.Refused r ≡ shown (readForm table s)
+    form-refused r e = sym (ap shown form-tree ∙ whole-refused s (readStoredTree table nesting s) r e)
 
-    pub form-spare : (n : ℕ) → shown (readTree table nesting s) ≡ Ends n → n < length s → Read.Refused Spare ≡ shown (readForm table s)
-    form-spare n e h = sym (ap shown form-tree ∙ whole-spare s (readTree table nesting s) n e h)
+    pub form-spare : (n : ℕ) → shown (readStoredTree table nesting s) ≡ Ends n → n < length s → Read.Refused Spare ≡ shown (readForm table s)
+    form-spare n e h = sym (ap shown form-tree ∙ whole-spare s (readStoredTree table nesting s) n e h)
 
-    pub form-all : (n : ℕ) → shown (readTree table nesting s) ≡ Ends n → n ≤ length s → length s ≤ n → Ends n ≡ shown (readForm table s)
-    form-all n e h k = sym (ap shown form-tree ∙ whole-all s (readTree table nesting s) n e h k)
+    pub form-all : (n : ℕ) → shown (readStoredTree table nesting s) ≡ Ends n → n ≤ length s → length s ≤ n → Ends n ≡ shown (readForm table s)
+    form-all n e h k = sym (ap shown form-tree ∙ whole-all s (readStoredTree table nesting s) n e h k)

@@ -49,9 +49,6 @@ module _ (table : List ℕ) where
   pub store-length : (t : Tree) (bs : List ℕ) → length (store table t bs) ≡ length (store table t []) + length bs
   store-length t bs = ap length (store-append t [] bs) ∙ length-append (store table t []) bs
 
-  pub stores-length : (ts : Trees) (bs : List ℕ) → length (stores table ts bs) ≡ length (stores table ts []) + length bs
-  stores-length ts bs = ap length (stores-append ts [] bs) ∙ length-append (stores table ts []) bs
-
   pub branch-length : (c : Code) (ts : Trees) → length (store table (branch c ts) []) ≡ storedSize (listCode table c) + length (stores table ts [])
   unfolding store own
   branch-length c ts = node-length (listCode table c) (byteOf c) (number ts) (length (stores table ts [])) (stores table ts [])

@@ -16,7 +16,7 @@ use Rattle.term.specs.Tree.{Tree, Trees, branch, empty, more, number, listCode,
 use Rattle.term.specs.Term.{Term, Terms, node, nil, _::_, termTree, termTrees, termOf}
 use Rattle.term.specs.Limits.{nesting, longestRecord, Written, Counted, Shape, Fits, FitAll, Octets, TermAccepted}
 use Rattle.reader.specs.Node.{openNode, codeNode, nodeAt}
-use Rattle.reader.specs.Reading.{Answer, refused, read, join, chain, readAll, grow, enter, whole, mapAnswer}
+use Rattle.reader.specs.Reading.{Parsed, refused, read, join, chain, readAll, grow, enter, unlessSpare, mapParsed}
 use Rattle.term.specs.declared.Code.the-variants.{Symbol}
 use Rattle.term.specs.declared.Refusal.{Refusal}
 use Rattle.term.specs.declared.Refusal.the-variants.{Short}
@@ -31,7 +31,7 @@ use Rattle.reader.proofs.Typed.{map-read}
 use Rattle.sheet.specs.Word.{word, wordAt}
 use Rattle.sheet.proofs.Words.{word-forth}
 use Rattle.stored.specs.Form.{tell, store, stores, storedBytes, longestStored}
-use Rattle.stored.specs.Reading.{lengthBytes, withLength, storedNode, toldLength, agrees, agreed, readNode, readTree, unlessLong, readForm, readStored}
+use Rattle.stored.specs.Reading.{lengthBytes, withLength, storedNode, toldLength, agrees, agreed, readNode, readStoredTree, unlessLong, readForm, readStored}
 use Rattle.stored.specs.Passes.{storedSize}
 use Rattle.stored.proofs.Forms.{store-append, branch-length, more-length, store-twice}
 
@@ -94,7 +94,7 @@ module _ (table : List ℕ) (left : ℕ) (s : List ℕ) {n : Node} (is : n ≡ n
 octets-drop : (n : ℕ) (s : List ℕ) → Octets s → Octets (drop n s)
 octets-drop n s o i = rw (getD-drop n s i 0) (o (n + i))
 
-got-agreed : (P : Trees → ℕ → Type 0) (list : Bool) (told : ℕ) (a : Answer Trees) → Got (λ ts n. agrees list told n ≡ true → P ts n) a → Got P (agreed list told a)
+got-agreed : (P : Trees → ℕ → Type 0) (list : Bool) (told : ℕ) (a : Parsed Trees) → Got (λ ts n. agrees list told n ≡ true → P ts n) a → Got P (agreed list told a)
 unfolding agreed
 got-agreed P list told (refused r) h = tt
 got-agreed P list told (read ts n) h = cond-all (Got P) (agrees list told n) h (λ e. tt)
@@ -131,14 +131,14 @@ module _ (table : List ℕ) (left : ℕ) where
     fits = λ o i. (a .fits o i, b .fits (octets-drop n s o) i);
   }
 
-  sound-all : (f : List ℕ → Answer Tree) → ((s : List ℕ) → Got (TreeSound s) (f s)) → (k : ℕ) (s : List ℕ) → Got (TreesSound s k) (readAll f k s)
+  sound-all : (f : List ℕ → Parsed Tree) → ((s : List ℕ) → Got (TreeSound s) (f s)) → (k : ℕ) (s : List ℕ) → Got (TreesSound s k) (readAll f k s)
   unfolding readAll
   sound-all f h zero s = none-sound s
   sound-all f h (suc k) s =
       got-chain (TreesSound s (suc k)) (f s) (λ n. readAll f k (drop n s))
       (got-map (λ t n a. got-map (λ ts m b. more-sound s k t n ts m a b) (readAll f k (drop n s)) (sound-all f h k (drop n s))) (f s) (h s))
 
-stored-size : (l : Bool) (own-bytes size n m : ℕ) → own-bytes ≡ cond l 2 1 → size ≡ own-bytes + lengthBytes l → n ≡ m → size + n ≡ storedSize l + m
+pub stored-size : (l : Bool) (own-bytes size n m : ℕ) → own-bytes ≡ cond l 2 1 → size ≡ own-bytes + lengthBytes l → n ≡ m → size + n ≡ storedSize l + m
 stored-size true own-bytes size n m a b c = omega arith
 stored-size false own-bytes size n m a b c = omega arith
 
@@ -159,8 +159,8 @@ grow-sound table left s size k list low ts n o b a =
       fits = λ x i. (node .levels, node .written, rw (b .counted) (o .node i .shape x), rw (sub-one (suc left)) (b .fits (octets-drop size s x) (listCode table c)));
     }
 
-sound : (table : List ℕ) (left : ℕ) (s : List ℕ) → Got (TreeSound table left s) (readTree table left s)
-unfolding readTree readNode
+pub sound : (table : List ℕ) (left : ℕ) (s : List ℕ) → Got (TreeSound table left s) (readStoredTree table left s)
+unfolding readStoredTree readNode
 sound table zero s =
     got-enter (TreeSound table zero s) (codeIn true (getD s 0 0)) (storedNode table zero s) _
     (opened-map (λ size k list low o. absurd (omega (arith, o .node false .levels))) (storedNode table zero s) (node-reads table zero s))
@@ -168,13 +168,10 @@ sound table (suc left) s =
     got-enter (TreeSound table (suc left) s) (codeIn true (getD s 0 0)) (storedNode table (suc left) s) _
     (opened-map
     (λ size k list low o.
-    got-agreed (λ ts n. TreeSound table (suc left) s (branch (codeIn true (getD s 0 0)) ts) (size + n)) list (toldLength s) (readAll (readTree table left) k (drop size s))
-    (got-map (λ ts n b a. grow-sound table left s size k list low ts n o b a) (readAll (readTree table left) k (drop size s))
-    (sound-all table left (readTree table left) (sound table left) k (drop size s))))
+    got-agreed (λ ts n. TreeSound table (suc left) s (branch (codeIn true (getD s 0 0)) ts) (size + n)) list (toldLength s) (readAll (readStoredTree table left) k (drop size s))
+    (got-map (λ ts n b a. grow-sound table left s size k list low ts n o b a) (readAll (readStoredTree table left) k (drop size s))
+    (sound-all table left (readStoredTree table left) (sound table left) k (drop size s))))
     (storedNode table (suc left) s) (node-reads table (suc left) s))
-
-pub sound-trees : (table : List ℕ) (left k : ℕ) (s : List ℕ) → Got (TreesSound table left s k) (readAll (readTree table left) k s)
-sound-trees table left k s = sound-all table left (readTree table left) (sound table left) k s
 
 -- Terms within the limits are read back
 
@@ -194,21 +191,21 @@ module _ (table : List ℕ) where
       rw (e, sub-one (suc left)) at (node-complete table true false (suc left) (Symbol b) k r (omega arith) tt (h, rw e c)) in
       rw (o, le-leb 1 (length s) (omega arith))
 
-  agreed-untold : (m n : ℕ) (a : Answer Trees) → agreed false m a ≡ agreed false n a
+  agreed-untold : (m n : ℕ) (a : Parsed Trees) → agreed false m a ≡ agreed false n a
   unfolding agreed
   agreed-untold m n (refused r) = refl
   agreed-untold m n (read ts k) = refl
 
   -- and then what its children are read from
   node-step : (l : Bool) (b k n left : ℕ) (r : List ℕ) → isList table b ≡ l → b < length table → Counted l k (getD table b 0)
-      → readTree table (suc left) (b ∷ cond l (k ∷ tell l n r) (tell l n r))
-      ≡ grow (Symbol b) (storedSize l) (agreed l n (readAll (readTree table left) k r))
-  unfolding readTree readNode enter tell word wordAt
+      → readStoredTree table (suc left) (b ∷ cond l (k ∷ tell l n r) (tell l n r))
+      ≡ grow (Symbol b) (storedSize l) (agreed l n (readAll (readStoredTree table left) k r))
+  unfolding readStoredTree readNode enter tell word wordAt
   node-step true b k n left r e h c =
       let z : (n % 256) + 256 * (n / 256) ≡ n = omega arith in
       rw (node-opens true b k n left r e h c, z)
   node-step false b k n left r e h c =
-      rw (node-opens false b k n left r e h c) (ap (grow (Symbol b) 1) (agreed-untold (toldLength (b ∷ r)) n (readAll (readTree table left) k r)))
+      rw (node-opens false b k n left r e h c) (ap (grow (Symbol b) 1) (agreed-untold (toldLength (b ∷ r)) n (readAll (readStoredTree table left) k r)))
 
   agrees-self : (l : Bool) (n : ℕ) → agrees l n n ≡ true
   agrees-self true n = eq-eqb n n refl
@@ -221,7 +218,7 @@ module _ (table : List ℕ) where
     unfolding Fits Shape listCode byteOf store own grow agreed readAll number chain join
 
     complete : (t : Term) (left : ℕ) (inList : Bool) (bs : List ℕ) → Fits table true (termTree t) left inList
-        → readTree table left (store table (termTree t) bs) ≡ read (termTree t) (length (store table (termTree t) []))
+        → readStoredTree table left (store table (termTree t) bs) ≡ read (termTree t) (length (store table (termTree t) []))
     complete (node b ts) zero inList bs f = absurd (omega (arith, f .0))
     complete (node b ts) (suc left) inList bs f =
         let n = length (stores table (termTrees ts) []) in
@@ -233,7 +230,7 @@ module _ (table : List ℕ) where
         )
 
     completes : (ts : Terms) (left : ℕ) (inList : Bool) (bs : List ℕ) → FitAll table true (termTrees ts) left inList
-        → readAll (readTree table left) (number (termTrees ts)) (stores table (termTrees ts) bs) ≡ read (termTrees ts) (length (stores table (termTrees ts) []))
+        → readAll (readStoredTree table left) (number (termTrees ts)) (stores table (termTrees ts) bs) ≡ read (termTrees ts) (length (stores table (termTrees ts) []))
     completes nil left inList bs f = refl
     completes (t :: ts) left inList bs f =
         rw (
@@ -251,24 +248,24 @@ stored-short table t a = omega (arith, a .short, store-twice table (termTree t))
 
 module _ (table s : List ℕ) (t : Term) (bytes : storedBytes table t [] ≡ s) (accepted : TermAccepted table t) where
   form-complete : readForm table s ≡ read (termTree t) (length s)
-  unfolding readForm whole
+  unfolding readForm unlessSpare
   form-complete =
       let n : length (storedBytes table t []) ≡ length s = ap length bytes in
-      let d : readTree table nesting s ≡ read (termTree t) (length s) =
-      ap (readTree table nesting) (sym bytes) ∙ complete table t nesting false [] (accepted .fits) ∙ ap (read (termTree t)) n in
+      let d : readStoredTree table nesting s ≡ read (termTree t) (length s) =
+      ap (readStoredTree table nesting) (sym bytes) ∙ complete table t nesting false [] (accepted .fits) ∙ ap (read (termTree t)) n in
       rw (le-leb (length s) longestStored (omega (arith, stored-short table t accepted)), d, eq-eqb (length s) (length s) refl)
 
   -- the stored form of a term within the limits is read as it
   pub stored-complete : readStored table s ≡ read t (length s)
-  unfolding readStored unlessLong mapAnswer
+  unfolding readStored unlessLong mapParsed
   stored-complete = rw (form-complete, le-leb (length (encode table (termTree t) [])) longestRecord (accepted .short), term-back t)
 
 module _ (table s : List ℕ) (octets : Octets s) where
   unfoldable pub Sound : Tree → ℕ → Type 0
   Sound t n = (store table t [] ≡ s) × (n ≡ length s) × Fits table true t nesting false
 
-  whole-sound : (a : Answer Tree) → Got (TreeSound table nesting s) a → Got Sound (whole s a)
-  unfolding whole Sound
+  whole-sound : (a : Parsed Tree) → Got (TreeSound table nesting s) a → Got Sound (unlessSpare s a)
+  unfolding unlessSpare Sound
   whole-sound (refused r) h = tt
   whole-sound (read t n) h =
       cond-all (Got Sound) (eqb n (length s))
@@ -281,12 +278,12 @@ module _ (table s : List ℕ) (octets : Octets s) where
   -- what is read before the check of the old form's length
   pub form-sound : Got Sound (readForm table s)
   unfolding readForm
-  form-sound = cond-all (Got Sound) (leb (length s) longestStored) (λ l. whole-sound (readTree table nesting s) (sound table nesting s)) (λ l. tt)
+  form-sound = cond-all (Got Sound) (leb (length s) longestStored) (λ l. whole-sound (readStoredTree table nesting s) (sound table nesting s)) (λ l. tt)
 
   unfoldable pub Accepts : Tree → ℕ → Type 0
   Accepts t n = Sound t n × (length (encode table t []) ≤ longestRecord)
 
-  unless-long : (a : Answer Tree) → Got Sound a → Got Accepts (unlessLong table a)
+  unless-long : (a : Parsed Tree) → Got Sound a → Got Accepts (unlessLong table a)
   unfolding unlessLong Accepts
   unless-long (refused r) h = tt
   unless-long (read t n) h = cond-all (Got Accepts) (leb (length (encode table t [])) longestRecord) (λ l. (h, leb-true (length (encode table t [])) longestRecord l)) (λ l. tt)

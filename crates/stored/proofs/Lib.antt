@@ -1,5 +1,6 @@
 -- The laws that the proofs of this crate, and other crates, cite.
 pub mod Forms
+pub mod Frames
 pub mod Inverse
 pub mod Steps
 pub mod Passing

@@ -1,29 +1,23 @@
 -- The passes over bytes, one after the other: the old form of a stored record, and the length of the stored form of a record.
-use Prim.Native.Nat.{ℕ, zero, suc, _+_, _-_, _≤_, _<_}
+use Prim.Native.Nat.{ℕ, _+_, _-_, _≤_, _<_}
 use native.Mathlib.Omega.{arith}
 use native.Mathlib.Numerals.{add-one}
 use mathlib.Core.Path.{_≡_, refl, sym, ap, _∙_}
 use mathlib.Core.List.{List, [], _∷_, _++_}
-use mathlib.Core.Bool.{Bool, true, false, cond, not, _&&_, true≢false}
-use lib.Dec.{eqb}
-use borrow.Author.Tests.{eqb-true}
+use mathlib.Core.Bool.{Bool, true, false, cond}
 use lib.ListN.{length, getD, set, drop, length-set, length-append, drop-of-length-le}
 use lib.Seq.{sets, drop-drop}
+use Rattle.term.proofs.Lists.{next-at}
 use Rattle.term.specs.Same.{countNext}
 use Rattle.term.specs.Table.{isList}
-use Rattle.sheet.proofs.Lengths.{drop-next}
 use Rattle.sheet.proofs.Stores.{sets-append}
+use Rattle.stored.specs.Reading.{lengthBytes}
 use Rattle.stored.specs.Passes.{stretched, stripped, ownSize, storedSize}
 
 -- a node has bytes of its own
-pub own-some : (list : Bool) → (1 ≤ ownSize list) × (1 ≤ storedSize list)
-own-some true = (omega arith, omega arith)
-own-some false = (omega arith, omega arith)
-
--- a node that is no list and has no children
-pub leaf-known : (list : Bool) (k : ℕ) → not list && eqb k 0 ≡ true → (list ≡ false) × (k ≡ 0)
-leaf-known true k e = absurd (true≢false (sym e))
-leaf-known false k e = (refl, eqb-true k 0 e)
+pub own-some : (list : Bool) → (1 ≤ ownSize list) × (1 ≤ storedSize list) × (lengthBytes list ≤ storedSize list)
+own-some true = (omega arith, omega arith, omega arith)
+own-some false = (omega arith, omega arith, omega arith)
 
 -- the bytes of a length are passed over
 past-length : (table s : List ℕ) → stripped table s 2 ≡ stripped table (drop 2 s) 0
@@ -69,13 +63,13 @@ module _ {table s out₀ out : List ℕ} {to at : ℕ} (g : Stripping table s ou
     pub strip-other : isList table (getD s at 0) ≡ false → (out₁ : List ℕ) → out₁ ≡ set out to (getD s at 0) → Stripping table s out₀ out₁ (to + 1) (at + 1)
     unfolding stripped
     strip-other l out₁ o =
-        goes-on (getD s at 0 ∷ []) 1 out₁ (rw (drop-next s at h, l) refl) (omega arith) (omega arith) o (ap length o ∙ length-set out to (getD s at 0) ∙ g .kept)
+        goes-on (getD s at 0 ∷ []) 1 out₁ (rw (next-at s at h, l) refl) (omega arith) (omega arith) o (ap length o ∙ length-set out to (getD s at 0) ∙ g .kept)
 
     module _ (l : isList table (getD s at 0) ≡ true) where
       pub strip-cut : length s ≤ at + 1 → (out₁ : List ℕ) → out₁ ≡ set out to (getD s at 0)
           → (to + 1 ≡ length (stripped table s 0)) × (out₁ ≡ sets out₀ 0 (stripped table s 0))
       unfolding stripped
-      strip-cut k out₁ o = let e = ends (getD s at 0 ∷ []) (rw (drop-next s at h, l, drop-of-length-le s k) refl) in (e .0, o ∙ e .1)
+      strip-cut k out₁ o = let e = ends (getD s at 0 ∷ []) (rw (next-at s at h, l, drop-of-length-le s k) refl) in (e .0, o ∙ e .1)
 
       pub strip-list : at + 1 < length s → (out₁ out₂ : List ℕ) → out₁ ≡ set out to (getD s at 0) → out₂ ≡ set out₁ (to + 1) (getD s (at + 1) 0)
           → Stripping table s out₀ out₂ (to + 2) (at + 2 + 2)
@@ -85,7 +79,7 @@ module _ {table s out₀ out : List ℕ} {to at : ℕ} (g : Stripping table s ou
           let y : at + 4 ≡ at + 2 + 2 = omega arith in
           let d : drop 2 (drop (at + 2) s) ≡ drop (at + 4) s = drop-drop 2 (at + 2) s ∙ ap (λ (i : ℕ). drop i s) (sym y) in
           let e : stripped table (drop at s) 0 ≡ (getD s at 0 ∷ getD s (at + 1) 0 ∷ []) ++ stripped table (drop (at + 4) s) 0 =
-          rw (drop-next s at h, l, drop-next s (at + 1) k, z)
+          rw (next-at s at h, l, next-at s (at + 1) k, z)
           (ap (λ (x : List ℕ). getD s at 0 ∷ getD s (at + 1) 0 ∷ x) (past-length table (drop (at + 2) s) ∙ ap (λ (x : List ℕ). stripped table x 0) d)) in
           rw (← y)
           (goes-on (getD s at 0 ∷ getD s (at + 1) 0 ∷ []) 4 out₂ e (omega arith) (omega arith) (rw (p, o, add-one to) refl)
@@ -109,7 +103,7 @@ module _ {table s : List ℕ} {size : ℕ} {counting : Bool} {i : ℕ} (g : Stre
     stretch-by : (n : ℕ) → n ≡ cond next 3 1 → n ≤ 3 → Stretching table s (size + n) next (i + 1)
     unfolding stretched
     stretch-by n e l =
-        let d : stretched table (drop i s) counting ≡ n + stretched table (drop (i + 1) s) next = rw (drop-next s i h, ← is, e) in
+        let d : stretched table (drop i s) counting ≡ n + stretched table (drop (i + 1) s) next = rw (next-at s i h, ← is, e) in
         record { within = omega arith; most = omega (arith, g .most); counted = omega (arith, g .counted, d) }
 
     pub stretch-list : next ≡ true → Stretching table s (size + 1 + 2) next (i + 1)

@@ -1,36 +1,44 @@
--- The loop of `read_trees`: what is shown of the reader's steps, and the trees that are still to come.
+-- The loop of `read_tree`: what is shown of the reader's steps, and the trees that are still to come.
 use Prim.Native.Nat.{ℕ, zero, suc, _+_, _-_, _≤_, _<_}
 use native.Mathlib.Omega.{arith}
 use native.Mathlib.Numerals.{sub-one}
 use mathlib.Core.Path.{_≡_, refl, sym, ap, subst, _∙_}
-use mathlib.Core.List.{List}
-use mathlib.Core.Bool.{Bool, true, false, cond}
-use lib.ListN.{length, getD, drop, take, length-drop}
+use mathlib.Core.List.{List, [], _∷_}
+use mathlib.Core.Bool.{Bool, true, false, cond, _||_}
+use lib.Dec.{ltb}
+use lib.ListN.{length, getD, set, drop, take, length-drop}
 use lib.Seq.{drop-drop, getD-drop}
+use Rattle.term.proofs.Lists.{rest-part}
 use Rattle.term.specs.Code.{codeIn}
-use Rattle.term.specs.Limits.{Octets}
-use Rattle.term.specs.Tree.{Tree, Trees}
+use Rattle.term.specs.Limits.{nesting, Octets}
+use Rattle.term.specs.Tree.{Trees}
 use Rattle.term.specs.declared.Code.{Code}
 use Rattle.term.specs.declared.Refusal.{Refusal}
 use Rattle.term.specs.declared.Refusal.the-variants.{Length}
-use Rattle.reader.specs.Reading.{Answer, refused, read, shown, readAll, grow, enter, HandsOn}
+use Rattle.reader.specs.Frame.{frame}
+use Rattle.reader.specs.Reading.{Parsed, refused, read, shown, readAll, grow, enter, HandsOn}
+use Rattle.reader.specs.declared.Frame.{Frame}
 use Rattle.reader.specs.declared.Node.{Node}
 use Rattle.reader.specs.declared.Node.the-variants.{Open}
 use Rattle.reader.specs.declared.Read.{Read}
 use Rattle.reader.specs.declared.Read.the-variants.{Ends}
 use Rattle.reader.proofs.Answers.{Got, opened-at, ends-shown}
-use Rattle.reader.proofs.Steps.{plus, andThen, shown-chain, rest-part, all-none, all-more}
-use Rattle.stored.specs.Reading.{lengthBytes, storedNode, toldLength, agrees, agreed, readNode, readTree}
-use Rattle.stored.specs.Passes.{Tells}
-use Rattle.stored.proofs.Forms.{stores-length}
-use Rattle.stored.proofs.Inverse.{NodeReads, node-reads, TreesSound, sound-trees}
+use Rattle.reader.proofs.Frames.{restOf, none}
+use Rattle.reader.proofs.Steps.{plus, andThen, shown-chain, all-none, all-more}
+use Rattle.sheet.specs.Word.{wordAt}
+use Rattle.stored.specs.Reading.{storedNode, toldLength, agrees, agreed, readNode, readStoredTree}
+use Rattle.stored.specs.Passes.{storedSize, agreesAt}
+use Rattle.stored.proofs.Forms.{store-length}
+use Rattle.stored.proofs.Frames.{levels, Standing, standing-starts, depth-within, next-leaf, next-level, next-around, leaf-known}
+use Rattle.stored.proofs.Passing.{own-some}
+use Rattle.stored.proofs.Inverse.{NodeReads, node-reads, stored-size, TreeSound, sound}
 
 -- a node's own bytes and its children, unless the length that it tells is wrong
 abbrev pub closing : Bool → ℕ → ℕ → Read → Read
 closing list told size (Read.Refused r) = Read.Refused r
 closing list told size (Ends n) = cond (agrees list told n) (Ends (size + n)) (Read.Refused Length)
 
-shown-closing : (c : Code) (size : ℕ) (list : Bool) (told : ℕ) (a : Answer Trees) → shown (grow c size (agreed list told a)) ≡ closing list told size (shown a)
+shown-closing : (c : Code) (size : ℕ) (list : Bool) (told : ℕ) (a : Parsed Trees) → shown (grow c size (agreed list told a)) ≡ closing list told size (shown a)
 unfolding shown grow agreed
 shown-closing c size list told (refused r) = refl
 shown-closing c size list told (read ts n) = by (agrees list told n)
@@ -41,8 +49,8 @@ shown-closing c size list told (read ts n) = by (agrees list told n)
 
 module _ (table : List ℕ) where
   -- a node that is refused refuses its tree
-  tree-refused : (left : ℕ) (s : List ℕ) (r : Refusal) → storedNode table left s ≡ Node.Refused r → shown (readTree table left s) ≡ Read.Refused r
-  unfolding readTree readNode enter shown
+  tree-refused : (left : ℕ) (s : List ℕ) (r : Refusal) → storedNode table left s ≡ Node.Refused r → shown (readStoredTree table left s) ≡ Read.Refused r
+  unfolding readStoredTree readNode enter shown
   tree-refused zero s r e = rw e
   tree-refused (suc left) s r e = rw e
 
@@ -50,136 +58,179 @@ module _ (table : List ℕ) where
     reads : NodeReads table left s size k list low
     reads = opened-at (NodeReads table left s) (node-reads table left s) e
 
-    pub node-below : low < left
+    node-below : low < left
     node-below = let n = reads .node false in omega (arith, n .levels, n .is-low)
 
-    tells : (l : Bool) → list ≡ l → Tells list s
-    tells true h = let n = reads .node false in rw h (omega (arith, reads .is-size ∙ ap (λ (b : Bool). reads .own-bytes + lengthBytes b) h, reads .within, n .long ∙ ap (λ (b : Bool). cond b 2 1) (sym (n .is-list) ∙ h)))
-    tells false h = let n = reads .node false in rw h (omega (arith, reads .is-size, reads .within, n .long ∙ ap (λ (b : Bool). cond b 2 1) (sym (n .is-list) ∙ h)))
-
-    pub node-tells : Tells list s
-    node-tells = tells list refl
-
-    pub node-within : size ≤ length s
-    node-within = reads .within
+    node-size : (size ≤ length s) × (size ≡ storedSize list)
+    node-size =
+        let n = reads .node false in
+        (reads .within, omega (arith, stored-size list (reads .own-bytes) size 0 0 (n .long ∙ ap (λ (b : Bool). cond b 2 1) (sym (n .is-list))) (reads .is-size) refl))
 
   -- a node that is open goes on with its children
   tree-open : (left : ℕ) (s : List ℕ) {size k : ℕ} {list : Bool} {low : ℕ} → storedNode table left s ≡ Open size k list low
-      → shown (readTree table left s) ≡ closing list (toldLength s) size (shown (readAll (readTree table low) k (drop size s)))
-  unfolding readTree readNode enter
+      → shown (readStoredTree table left s) ≡ closing list (toldLength s) size (shown (readAll (readStoredTree table low) k (drop size s)))
+  unfolding readStoredTree readNode enter
   tree-open zero s e = absurd (omega (arith, node-below zero s e))
   tree-open (suc left) s {size} {k} {list} {low} e =
       let l : low ≡ left = reads (suc left) s e .node false .is-low ∙ sub-one (suc left) in
-      rw (e, l) (shown-closing (codeIn true (getD s 0 0)) size list (toldLength s) (readAll (readTree table left) k (drop size s)))
+      rw (e, l) (shown-closing (codeIn true (getD s 0 0)) size list (toldLength s) (readAll (readStoredTree table left) k (drop size s)))
 
 -- what is read lies within the bytes
-pub trees-end : (table : List ℕ) (left k : ℕ) (s : List ℕ) (n : ℕ) → Octets s → shown (readAll (readTree table left) k s) ≡ Ends n → n ≤ length s
-trees-end table left k s n o d =
-    let g = ends-shown (readAll (readTree table left) k s) n d in
-    let t : TreesSound table left s k (g .0) n = subst (Got (TreesSound table left s k)) (g .1) (sound-trees table left k s) in
-    omega (arith, t .long, ap length (t .bytes o) ∙ stores-length table (g .0) (drop n s))
+pub tree-ends : (table : List ℕ) (left : ℕ) (s : List ℕ) (n : ℕ) → Octets s → shown (readStoredTree table left s) ≡ Ends n → n ≤ length s
+tree-ends table left s n o d =
+    let g = ends-shown (readStoredTree table left s) n d in
+    let t : TreeSound table left s (g .0) n = subst (Got (TreeSound table left s)) (g .1) (sound table left s) in
+    omega (arith, t .long, ap length (t .bytes o) ∙ store-length table (g .0) (drop n s))
 
-plus-none : (r : Read) → plus 0 r ≡ r
-plus-none (Read.Refused r) = refl
-plus-none (Ends n) = ap Ends (omega arith)
+-- From a place on, what follows from where it ends
 
-plus-plus : (m n : ℕ) (r : Read) → plus m (plus n r) ≡ plus (m + n) r
-plus-plus m n (Read.Refused r) = refl
-plus-plus m n (Ends k) = ap Ends (omega arith)
+abbrev onward : ℕ → Read → (ℕ → Read) → Read
+onward at (Read.Refused r) g = Read.Refused r
+onward at (Ends n) g = g (at + n)
 
-module _ (table : List ℕ) (left count : ℕ) (s : List ℕ) where
-  -- what the trees from here on come to
-  abbrev ToCome : ℕ → ℕ → Read
-  ToCome at trees = shown (readAll (readTree table left) trees (drop at s))
+onward-plus : (at n : ℕ) (r : Read) (g : ℕ → Read) → onward at (plus n r) g ≡ onward (at + n) r g
+onward-plus at n (Read.Refused r) g = refl
+onward-plus at n (Ends m) g = let z : at + (n + m) ≡ at + n + m = omega arith in ap g z
 
-  pub record Reading (at trees : ℕ) : Type 0 where
+module _ (s : List ℕ) (at : ℕ) (list : Bool) (size : ℕ) where
+  -- the length that a list tells stands in front of its children
+  told-there : size ≡ storedSize list → (n : ℕ) → agreesAt s list (at + size) (at + size + n) ≡ agrees list (toldLength (drop at s)) n
+  unfolding agreesAt wordAt
+  told-there e n = by list e
+    where
+      by : (l : Bool) → size ≡ storedSize l → agreesAt s l (at + size) (at + size + n) ≡ agrees l (toldLength (drop at s)) n
+      by true e =
+          let a : at + size - 2 ≡ at + 2 = omega arith in
+          let b : at + size + n - (at + size) ≡ n = omega arith in
+          let c : at + 2 + 1 ≡ at + 3 = omega arith in
+          rw (a, b, c, getD-drop at s 2 0, getD-drop at s 3 0)
+      by false e = refl
+
+  -- a node's children, the trees after the node, and then what follows
+  after-node : (h : List ℕ → Read) (g : ℕ → Read) → size ≡ storedSize list → (a : Read)
+      → onward at (andThen (closing list (toldLength (drop at s)) size a) (λ n. h (drop n (drop at s)))) g
+      ≡ onward (at + size) a (λ m. cond (agreesAt s list (at + size) m) (onward m (h (drop m s)) g) (Read.Refused Length))
+  after-node h g e (Read.Refused r) = refl
+  after-node h g e (Ends n) = rw (told-there e n) (by (agrees list (toldLength (drop at s)) n))
+    where
+      by : (b : Bool) → onward at (andThen (cond b (Ends (size + n)) (Read.Refused Length)) (λ n. h (drop n (drop at s)))) g
+          ≡ cond b (onward (at + size + n) (h (drop (at + size + n) s)) g) (Read.Refused Length)
+      by true =
+          let z : at + (size + n) ≡ at + size + n = omega arith in
+          onward-plus at (size + n) (h (drop (size + n) (drop at s))) g ∙ rw (drop-drop (size + n) at s, z)
+      by false = refl
+
+module _ (table s : List ℕ) where
+  -- a level that ends, and then the others
+  abbrev ended : Frame × ℕ → (ℕ → Read) → ℕ → Read
+  ended l g m = cond (agreesAt s (l .0 .list) (l .1) m) (g m) (Read.Refused Length)
+
+  -- the trees of all levels, one level after the other
+  unfoldable pub resume : List (Frame × ℕ) → ℕ → Read
+  resume [] at = Ends at
+  resume (l ∷ ls) at = onward at (shown (readAll (readStoredTree table (l .0 .left)) (l .0 .count) (drop at s))) (ended l (resume ls))
+
+  module _ (l : Frame × ℕ) (ls : List (Frame × ℕ)) (at : ℕ) where
+    resume-none : l .0 .count ≡ 0 → resume (l ∷ ls) at ≡ ended l (resume ls) at
+    unfolding resume
+    resume-none e =
+        let z : at + 0 ≡ at = omega arith in
+        ap (λ (a : Read). onward at a (ended l (resume ls))) (all-none (readStoredTree table (l .0 .left)) (l .0 .count) (drop at s) e) ∙ ap (ended l (resume ls)) z
+
+    module _ (some : l .0 .count ≡ 0 → ⊥) where
+      -- the first tree, and then the others
+      first : {a : Read} → shown (readStoredTree table (l .0 .left) (drop at s)) ≡ a
+          → resume (l ∷ ls) at ≡ onward at (andThen a (λ n. shown (readAll (readStoredTree table (l .0 .left)) (l .0 .count - 1) (drop n (drop at s))))) (ended l (resume ls))
+      unfolding resume
+      first e =
+          let t = readStoredTree table (l .0 .left) in
+          ap (λ (a : Read). onward at a (ended l (resume ls)))
+          (ap shown (all-more t (l .0 .count) (drop at s) some) ∙ shown-chain (t (drop at s)) (λ n. readAll t (l .0 .count - 1) (drop n (drop at s)))
+          ∙ ap (λ (a : Read). andThen a (λ n. shown (readAll t (l .0 .count - 1) (drop n (drop at s))))) e)
+
+      resume-refused : (r : Refusal) → storedNode table (l .0 .left) (drop at s) ≡ Node.Refused r → resume (l ∷ ls) at ≡ Read.Refused r
+      resume-refused r e = first (tree-refused table (l .0 .left) (drop at s) r e)
+
+      resume-open : {size k : ℕ} {list : Bool} {low : ℕ} → storedNode table (l .0 .left) (drop at s) ≡ Open size k list low
+          → resume (l ∷ ls) at ≡ resume ((frame k low list, at + size) ∷ (restOf (l .0), l .1) ∷ ls) (at + size)
+      unfolding resume
+      resume-open {size} {k} {list} {low} e =
+          first (tree-open table (l .0 .left) (drop at s) e)
+          ∙ after-node s at list size (λ x. shown (readAll (readStoredTree table (l .0 .left)) (l .0 .count - 1) x)) (ended l (resume ls))
+          (node-size table (l .0 .left) (drop at s) e .1) (shown (readAll (readStoredTree table low) k (drop size (drop at s))))
+          ∙ rw (drop-drop size at s)
+
+  -- The loop of `read_tree`
+
+  abbrev pub ToCome : ℕ → List (Frame × ℕ) → Type 0
+  ToCome at ls = shown (readStoredTree table nesting s) ≡ resume ls at
+
+  pub record Reading (around : List Frame) (starts : List ℕ) (depth : ℕ) (top : Frame) (at : ℕ) : Type 0 where
     pub within : at ≤ length s
-    pub to-come : shown (readAll (readTree table left) count s) ≡ plus at (ToCome at trees)
+    pub standing : Standing (ToCome at) around starts depth top at
 
-  pub reading-starts : Reading 0 count
-  reading-starts = record { within = omega arith; to-come = sym (plus-none (shown (readAll (readTree table left) count s))) }
+  whole-to-come : ToCome 0 ((frame 1 nesting false, 0) ∷ [])
+  unfolding resume readAll shown agreesAt
+  whole-to-come =
+      let t = readStoredTree table nesting in
+      sym (ap (λ (a : Read). onward 0 a Ends) (shown-chain (t s) (λ n. readAll t 0 (drop n s))) ∙ by (shown (t s)))
+    where
+      by : (a : Read) → onward 0 (andThen a (λ n. Ends 0)) Ends ≡ a
+      by (Read.Refused r) = refl
+      by (Ends n) = ap Ends (omega arith)
 
-  pub reading-ends : {at trees : ℕ} → Reading at trees → trees ≤ 0 → Ends at ≡ shown (readAll (readTree table left) count s)
-  reading-ends {at} {trees} i z =
-      sym (i .to-come ∙ ap (plus at) (all-none (readTree table left) trees (drop at s) (omega arith)) ∙ ap Ends (omega arith))
+  pub reading-starts : (around : List Frame) (starts : List ℕ) (top : Frame) → length around ≡ nesting → length starts ≡ nesting + 1 → getD starts 0 0 ≡ 0 → top ≡ frame 1 nesting false
+      → Reading around starts 0 top 0
+  reading-starts around starts top a b z e = record { within = omega arith; standing = standing-starts around starts top a b z e whole-to-come }
 
-module _ {table : List ℕ} {left count : ℕ} {s : List ℕ} {at trees : ℕ} (i : Reading table left count s at trees) (some : 0 < trees)
-    {n : Node} (is : n ≡ storedNode table left (take (length s - at) (drop at s))) where
-  -- the first of them, and then the others
-  next : {a : Read} → shown (readTree table left (drop at s)) ≡ a
-      → shown (readAll (readTree table left) count s) ≡ plus at (andThen a (λ m. shown (readAll (readTree table left) (trees - 1) (drop m (drop at s)))))
-  next {a} e =
-      let f = readTree table left in
-      i .to-come
-      ∙ ap (plus at)
-      (ap shown (all-more f trees (drop at s) (λ z. omega arith)) ∙ shown-chain (f (drop at s)) (λ m. readAll f (trees - 1) (drop m (drop at s)))
-      ∙ ap (λ (x : Read). andThen x (λ m. shown (readAll f (trees - 1) (drop m (drop at s))))) e)
+module _ {table s : List ℕ} {around : List Frame} {starts : List ℕ} {depth : ℕ} {top : Frame} {at : ℕ} (i : Reading table s around starts depth top at) where
+  -- after the last tree of a level
+  module _ (none-left : top .count ≡ 0) {b : Bool} (is : b ≡ agreesAt s (top .list) (getD starts depth 0) at) where
+    closes : shown (readStoredTree table nesting s) ≡ cond b (resume table s (levels depth around starts) at) (Read.Refused Length)
+    closes = i .standing .to-go ∙ resume-none table s (top, getD starts depth 0) (levels depth around starts) at none-left ∙ rw (is)
 
-  pub node-refuses : {r : Refusal} {a : Read} → n ≡ Node.Refused r → HandsOn n a → a ≡ shown (readAll (readTree table left) count s)
-  node-refuses {r} e h =
-      (rw (e) at h) ∙ sym (next (tree-refused table left (drop at s) r (rw (rest-part at s) at (sym is ∙ e))))
+    pub disagrees : b ≡ false → Read.Refused Length ≡ shown (readStoredTree table nesting s)
+    disagrees e = sym (closes ∙ rw (e))
 
-  module _ {size k : ℕ} {list : Bool} {low : ℕ} (e : n ≡ Open size k list low) where
-    opens : storedNode table left (drop at s) ≡ Open size k list low
-    opens = rw (rest-part at s) at (sym is ∙ e)
+    pub no-more : b ≡ true → depth ≡ 0 → Ends at ≡ shown (readStoredTree table nesting s)
+    unfolding resume
+    no-more e d = sym (closes ∙ rw (e, d))
 
-    pub node-ends : at + size ≤ length s
-    node-ends = omega (arith, node-within table left (drop at s) opens, length-drop at s, i .within)
+    pub read-around : b ≡ true → (depth ≡ 0 → ⊥) → Reading table s around starts (depth - 1) (getD around (depth - 1) none) at
+    read-around e d = record { within = i .within; standing = next-around (i .standing) d (closes ∙ rw (e)) }
 
-    pub low-below : low < left
-    low-below = node-below table left (drop at s) opens
+  module _ (some : top .count ≡ 0 → ⊥) {n : Node} (is : n ≡ storedNode table (top .left) (take (length s - at) (drop at s))) where
+    pub node-refuses : {r : Refusal} {a : Read} → n ≡ Node.Refused r → HandsOn n a → a ≡ shown (readStoredTree table nesting s)
+    node-refuses {r} e h =
+        (rw (e) at h) ∙ sym (i .standing .to-go ∙ resume-refused table s (top, getD starts depth 0) (levels depth around starts) at some r (rw (rest-part at s) at (sym is ∙ e)))
 
-    pub tells-there : Tells list (take (length s - at) (drop at s))
-    tells-there = rw (rest-part at s) (node-tells table left (drop at s) opens)
+    module _ {size k : ℕ} {list : Bool} {low : ℕ} (e : n ≡ Open size k list low) where
+      opens : storedNode table (top .left) (drop at s) ≡ Open size k list low
+      opens = rw (rest-part at s) at (sym is ∙ e)
 
-    module _ {m : Read} (children : m ≡ shown (readAll (readTree table low) k (take (length s - (at + size)) (drop (at + size) s)))) where
-      at-children : shown (readAll (readTree table low) k (drop size (drop at s))) ≡ m
-      at-children = ap (λ (x : List ℕ). shown (readAll (readTree table low) k x)) (drop-drop size at s ∙ sym (rest-part (at + size) s)) ∙ sym children
+      pub node-ends : (at + size ≤ length s) × (0 < size)
+      node-ends =
+          let z = node-size table (top .left) (drop at s) opens in
+          (omega (arith, z, length-drop at s, i .within), omega (arith, z, own-some list))
 
-      closes : shown (readTree table left (drop at s)) ≡ closing list (toldLength (take (length s - at) (drop at s))) size m
-      closes = tree-open table left (drop at s) opens ∙ rw (at-children, rest-part at s)
+      pub place-free : depth < nesting
+      place-free = omega (arith, depth-within (i .standing), node-below table (top .left) (drop at s) opens)
 
-      pub children-refuse : {r : Refusal} → m ≡ Read.Refused r → m ≡ shown (readAll (readTree table left) count s)
-      children-refuse h = h ∙ sym (next (closes ∙ ap (closing list (toldLength (take (length s - at) (drop at s))) size) h))
+      opened : ToCome table s (at + size) ((frame k low list, at + size) ∷ (restOf top, getD starts depth 0) ∷ levels depth around starts)
+      opened = i .standing .to-go ∙ resume-open table s (top, getD starts depth 0) (levels depth around starts) at some opens
 
-      module _ {x : ℕ} (h : m ≡ Ends x) where
-        pub children-end : Octets s → at + size + x ≤ length s
-        children-end o =
-            let d : shown (readAll (readTree table low) k (drop (at + size) s)) ≡ Ends x =
-            ap (λ (y : List ℕ). shown (readAll (readTree table low) k y)) (sym (rest-part (at + size) s)) ∙ sym children ∙ h in
-            omega (arith, node-ends, length-drop (at + size) s, trees-end table low k (drop (at + size) s) x (λ j. rw (getD-drop (at + size) s j 0) (o (at + size + j))) d)
+      pub read-leaf : list || ltb 0 k ≡ false → Reading table s around starts depth (restOf top) (at + size)
+      unfolding agreesAt
+      read-leaf h =
+          let l = leaf-known list k h in
+          record {
+            within = node-ends .0;
+            standing = next-leaf (i .standing) (at + size) (omega arith)
+                (opened ∙ resume-none table s (frame k low list, at + size) ((restOf top, getD starts depth 0) ∷ levels depth around starts) (at + size) (l .1) ∙ rw (l .0));
+          }
 
-        closed : {b : Bool} → agrees list (toldLength (take (length s - at) (drop at s))) x ≡ b
-            → shown (readTree table left (drop at s)) ≡ cond b (Ends (size + x)) (Read.Refused Length)
-        closed q = closes ∙ rw (h, q)
-
-        pub disagrees : agrees list (toldLength (take (length s - at) (drop at s))) x ≡ false → Read.Refused Length ≡ shown (readAll (readTree table left) count s)
-        disagrees q = sym (next (closed q))
-
-        pub next-tree : Octets s → agrees list (toldLength (take (length s - at) (drop at s))) x ≡ true → Reading table left count s (at + size + x) (trees - 1)
-        next-tree o q =
-            let f = readTree table left in
-            let z : at + (size + x) ≡ at + size + x = omega arith in
-            record {
-              within = children-end o;
-              to-come = next (closed q)
-                  ∙ plus-plus at (size + x) (shown (readAll f (trees - 1) (drop (size + x) (drop at s))))
-                  ∙ ap (λ (y : List ℕ). plus (at + (size + x)) (shown (readAll f (trees - 1) y))) (drop-drop (size + x) at s)
-                  ∙ ap (λ (y : ℕ). plus y (shown (readAll f (trees - 1) (drop y s)))) z;
-            }
-
-    -- a node without children that is no list
-    pub next-leaf : list ≡ false → k ≡ 0 → Octets s → Reading table left count s (at + size) (trees - 1)
-    next-leaf l z o =
-        let e : at + size + 0 ≡ at + size = omega arith in
-        rw (← e)
-        (next-tree {m = Ends 0} (sym (all-none (readTree table low) k (take (length s - (at + size)) (drop (at + size) s)) z)) refl o (rw l refl))
-
--- one tree alone
-pub one-tree : (f : List ℕ → Answer Tree) (s : List ℕ) → shown (readAll f 1 s) ≡ shown (f s)
-unfolding readAll shown
-one-tree f s = shown-chain (f s) (λ n. readAll f 0 (drop n s)) ∙ by (shown (f s))
-  where
-    by : (a : Read) → andThen a (λ n. Ends 0) ≡ a
-    by (Read.Refused r) = refl
-    by (Ends n) = ap Ends (omega arith)
+      pub read-level : (g : Frame) → g ≡ frame k low list → Reading table s (set around depth (restOf top)) (set starts (depth + 1) (at + size)) (depth + 1) g (at + size)
+      read-level g q = record {
+        within = node-ends .0;
+        standing = next-level (i .standing) (at + size) g q (node-below table (top .left) (drop at s) opens) (omega arith) (omega (arith, own-some list, node-size table (top .left) (drop at s) opens)) opened;
+      }

@@ -6,11 +6,12 @@ use mathlib.Core.Logic.{_↔_}
 use mathlib.Core.Bool.{true}
 use lib.ListN.{length}
 use Rattle.term.specs.Limits.{TermAccepted}
-use Rattle.reader.specs.Reading.{Answer, read}
+use Rattle.reader.specs.Reading.{Parsed, read}
 use Rattle.term.specs.Table.{tableAccepted}
 use Rattle.term.specs.Term.{Term, termBytes}
-use Rattle.sheet.specs.Demands.{Shows}
+use Rattle.sheet.specs.Demands.{Writes}
 use Rattle.stored.specs.Form.{storedBytes, longestStored}
+use Rattle.stored.specs.Move.{storing, restoring}
 
 -- an accepted record of a term
 pub record RecordOf (table : List ℕ) (t : Term) (s : List ℕ) : Type 0 where
@@ -26,13 +27,20 @@ pub record StoredOf (table : List ℕ) (t : Term) (s : List ℕ) : Type 0 where
   pub short : length s ≤ longestStored
 
 -- of a move of s that shows this number and length and leaves `after` in the output, where `before` was
-pub record Demanded (Of To : Term → List ℕ → Type 0) (back : List ℕ → Answer (List ℕ)) (s before : List ℕ) (number size : ℕ) (after : List ℕ) : Type 0 where
+pub record Demanded (Of To : Term → List ℕ → Type 0) (back : List ℕ → Parsed (List ℕ)) (s before : List ℕ) (number size : ℕ) (after : List ℕ) : Type 0 where
   -- the bytes are those of one term
   pub one-term : (t u : Term) → Of t s → Of u s → t ≡ u
   -- "There and back gives the old bytes for every accepted record, and back and there the new bytes for every accepted stored record."
   -- The other form is written where the output has the room
   pub there-and-back : (t : Term) → Of t s
-      → (bs : List ℕ) × To t bs × (back bs ≡ read s (length bs)) × (length bs ≤ length before → Shows before number size after bs)
+      → (bs : List ℕ) × To t bs × (back bs ≡ read s (length bs)) × (length bs ≤ length before → Writes before number size after bs)
   -- refused exactly if s is not accepted or the output too short
   pub refused-exactly : (0 < number) ↔ ((t : Term) (bs : List ℕ) → Of t s → To t bs → length before < length bs)
   pub untouched : 0 < number → (size ≡ 0) × (after ≡ before)
+
+-- of the move of a record to its stored form, and back
+abbrev pub StoreDemanded : List ℕ → List ℕ → List ℕ → ℕ → ℕ → List ℕ → Type 0
+StoreDemanded table s before number size after = Demanded (RecordOf table) (StoredOf table) (restoring table) s before number size after
+
+abbrev pub RestoreDemanded : List ℕ → List ℕ → List ℕ → ℕ → ℕ → List ℕ → Type 0
+RestoreDemanded table s before number size after = Demanded (StoredOf table) (RecordOf table) (storing table) s before number size after

@@ -8,7 +8,7 @@ use lib.Dec.{leb}
 use Rattle.term.specs.Refusal.{numberOf}
 use Rattle.term.specs.Table.{tableAccepted}
 use Rattle.term.specs.Term.{Term, termBytes}
-use Rattle.reader.specs.Reading.{Answer, refused, read, readRecord}
+use Rattle.reader.specs.Reading.{Parsed, refused, read, readRecord}
 use Rattle.term.specs.declared.Refusal.the-variants.{Table, Full}
 use Rattle.stored.specs.Form.{storedBytes}
 use Rattle.stored.specs.Reading.{readStored}
@@ -25,21 +25,21 @@ moveLength (Written n) = n
 moveLength (Move.Refused r) = 0
 
 -- the bytes to be written, or why there are none
-unfoldable pub bytesBy : (Term → List ℕ) → Answer Term → Answer (List ℕ)
+unfoldable pub bytesBy : (Term → List ℕ) → Parsed Term → Parsed (List ℕ)
 bytesBy f (refused r) = refused r
 bytesBy f (read t n) = read (f t) n
 
-unfoldable pub storing : List ℕ → List ℕ → Answer (List ℕ)
+unfoldable pub storing : List ℕ → List ℕ → Parsed (List ℕ)
 storing table s = cond (tableAccepted table) (bytesBy (λ t. storedBytes table t []) (readRecord table s)) (refused Table)
 
-unfoldable pub restoring : List ℕ → List ℕ → Answer (List ℕ)
+unfoldable pub restoring : List ℕ → List ℕ → Parsed (List ℕ)
 restoring table s = cond (tableAccepted table) (bytesBy (λ t. termBytes table t []) (readStored table s)) (refused Table)
 
 -- what is shown of a move into so much room, and the output after it
-unfoldable pub moved : Answer (List ℕ) → ℕ → Move
+unfoldable pub moved : Parsed (List ℕ) → ℕ → Move
 moved (refused r) room = Move.Refused r
 moved (read bs n) room = cond (leb (length bs) room) (Written (length bs)) (Move.Refused Full)
 
-unfoldable pub outputAfter : Answer (List ℕ) → List ℕ → List ℕ
+unfoldable pub outputAfter : Parsed (List ℕ) → List ℕ → List ℕ
 outputAfter (refused r) out = out
 outputAfter (read bs n) out = cond (leb (length bs) (length out)) (bs ++ drop (length bs) out) out

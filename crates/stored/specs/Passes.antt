@@ -1,18 +1,19 @@
 -- What the passes over the bytes do, which only the contracts of private functions cite.
-use Prim.Native.Nat.{ℕ, zero, suc, _+_, _≤_}
+use Prim.Native.Nat.{ℕ, zero, suc, _+_, _-_, _≤_}
 use mathlib.Core.Path.{_≡_}
 use mathlib.Core.List.{List, [], _∷_}
 use mathlib.Core.Bool.{Bool, true, false, cond, _||_}
 use lib.ListN.{length, getD}
 use lib.Dec.{eqb}
 use lib.Seq.{sets}
+use Rattle.term.specs.Limits.{nesting}
 use Rattle.term.specs.Table.{isList}
 use Rattle.term.specs.Same.{countNext}
 use Rattle.term.specs.Tree.{Trees, empty}
-use Rattle.reader.specs.Reading.{Answer, refused, read, readAll, readTree}
-use Rattle.sheet.specs.Word.{word}
+use Rattle.reader.specs.Reading.{Parsed, refused, read, readAll, readTree}
+use Rattle.sheet.specs.Word.{word, wordBytes, wordAt}
 use Rattle.stored.specs.Form.{stores, longestStored}
-use Rattle.stored.specs.declared.Put.{Put}
+use Rattle.stored.specs.Reading.{lengthBytes, agrees}
 
 -- the length of the stored form, byte by byte of the old one; `counting` where the next byte is a list's number of children
 unfoldable pub stretched : List ℕ → List ℕ → Bool → ℕ
@@ -34,33 +35,23 @@ stripped table [] k = []
 stripped table (b ∷ s) k = cond (isKept k) (b ∷ stripped table s (behind table k b)) (stripped table s (behind table k b))
 
 -- so many trees of a record, with so much nesting left
-unfoldable pub recordTrees : List ℕ → ℕ → ℕ → List ℕ → Answer Trees
+unfoldable pub recordTrees : List ℕ → ℕ → ℕ → List ℕ → Parsed Trees
 recordTrees table left count s = readAll (readTree table true left false) count s
 
--- the stored bytes of trees that were read, and how many bytes they are read from
-abbrev pub treesOf : Answer Trees → Trees
+-- the stored bytes of trees that were read
+abbrev pub treesOf : Parsed Trees → Trees
 treesOf (refused r) = empty
 treesOf (read ts n) = ts
 
-abbrev pub sizeOf : Answer Trees → ℕ
-sizeOf (refused r) = 0
-sizeOf (read ts n) = n
-
-unfoldable pub storedTrees : List ℕ → Answer Trees → List ℕ
+unfoldable pub storedTrees : List ℕ → Parsed Trees → List ℕ
 storedTrees table a = stores table (treesOf a) []
 
-abbrev pub put : ℕ → ℕ → Put
-put from to = record { from = from; to = to }
-
-unfoldable pub putOf : List ℕ → Answer Trees → Put
-putOf table a = put (sizeOf a) (length (storedTrees table a))
-
--- trees that can be put at a place: they are read, and the output has the room
-pub record Putting (table : List ℕ) (left count : ℕ) (s : List ℕ) (room at : ℕ) : Type 0 where
+-- a record that can be put: it is read, and the output has the room
+pub record Putting (table s : List ℕ) (room : ℕ) : Type 0 where
   pub trees : Trees
   pub bytes : ℕ
-  pub are-read : recordTrees table left count s ≡ read trees bytes
-  pub has-room : at + length (stores table trees []) ≤ room
+  pub are-read : recordTrees table nesting 1 s ≡ read trees bytes
+  pub has-room : length (stores table trees []) ≤ room
   pub short : length (stores table trees []) ≤ longestStored
 
 -- the bytes of a node's own: its symbol and, for a list, its number of children
@@ -74,10 +65,16 @@ ownSize list = cond list 2 1
 abbrev pub storedSize : Bool → ℕ
 storedSize list = cond list 4 1
 
--- a list's length in its place, behind the symbol and the number of children; other nodes tell none
-unfoldable pub withTold : Bool → List ℕ → ℕ → ℕ → List ℕ
-withTold list out at n = cond list (sets out (at + 2) (word n)) out
+-- children that start and end at these places, and before them a list's length
+pub record Stands (list : Bool) (start end size : ℕ) : Type 0 where
+  pub behind : lengthBytes list ≤ start
+  pub before : start ≤ end
+  pub within : end ≤ size
 
--- a list that tells its length has four bytes or more
-abbrev pub Tells : Bool → List ℕ → Type 0
-Tells list s = storedSize list ≤ length s
+-- whether that is their length; other nodes tell none
+unfoldable pub agreesAt : List ℕ → Bool → ℕ → ℕ → Bool
+agreesAt s list start end = agrees list (wordAt s (start - wordBytes)) (end - start)
+
+-- their length in its place; other nodes tell none
+unfoldable pub withTold : Bool → List ℕ → ℕ → ℕ → List ℕ
+withTold list out start end = cond list (sets out (start - wordBytes) (word (end - start))) out

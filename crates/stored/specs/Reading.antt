@@ -10,7 +10,7 @@ use Rattle.term.specs.Tree.{Tree, Trees, encode}
 use Rattle.term.specs.Term.{Term, termOf}
 use Rattle.term.specs.Limits.{longestRecord, nesting}
 use Rattle.reader.specs.Node.{nodeAt}
-use Rattle.reader.specs.Reading.{Answer, refused, read, readAll, enter, whole, mapAnswer}
+use Rattle.reader.specs.Reading.{Parsed, refused, read, readAll, enter, unlessSpare, mapParsed}
 use Rattle.reader.specs.declared.Node.{Node}
 use Rattle.reader.specs.declared.Node.the-variants.{Open}
 use Rattle.term.specs.declared.Refusal.the-variants.{Short, Deep, Long, Length}
@@ -40,29 +40,29 @@ agrees true told n = eqb told n
 agrees false told n = true
 
 -- "17 (length) where the stated length is wrong, at that node after its own children were read"
-unfoldable pub agreed : Bool → ℕ → Answer Trees → Answer Trees
+unfoldable pub agreed : Bool → ℕ → Parsed Trees → Parsed Trees
 agreed list told (refused r) = refused r
 agreed list told (read ts n) = cond (agrees list told n) (read ts n) (refused Length)
 
 -- a node, and its children by a reader of one tree
-unfoldable pub readNode : (List ℕ → Answer Tree) → List ℕ → ℕ → List ℕ → Answer Tree
+unfoldable pub readNode : (List ℕ → Parsed Tree) → List ℕ → ℕ → List ℕ → Parsed Tree
 readNode child table left s =
     enter (codeIn true (getD s 0 0)) (storedNode table left s)
     (λ size k list low. agreed list (toldLength s) (readAll child k (drop size s)))
 
 -- the tree at the start of s, with so much nesting left. A node with none left is refused, so none of its children is read
-unfoldable pub readTree : List ℕ → ℕ → List ℕ → Answer Tree
-readTree table zero s = readNode (λ r. refused Deep) table zero s
-readTree table (suc left) s = readNode (readTree table left) table (suc left) s
+unfoldable pub readStoredTree : List ℕ → ℕ → List ℕ → Parsed Tree
+readStoredTree table zero s = readNode (λ r. refused Deep) table zero s
+readStoredTree table (suc left) s = readNode (readStoredTree table left) table (suc left) s
 
 -- "A stored record whose old form is over 4,096 bytes is 6, after 3"
-unfoldable pub unlessLong : List ℕ → Answer Tree → Answer Tree
+unfoldable pub unlessLong : List ℕ → Parsed Tree → Parsed Tree
 unlessLong table (refused r) = refused r
 unlessLong table (read t n) = cond (leb (length (encode table t [])) longestRecord) (read t n) (refused Long)
 
 -- the whole of s as one tree, but for that check
-unfoldable pub readForm : List ℕ → List ℕ → Answer Tree
-readForm table s = cond (leb (length s) longestStored) (whole s (readTree table nesting s)) (refused Long)
+unfoldable pub readForm : List ℕ → List ℕ → Parsed Tree
+readForm table s = cond (leb (length s) longestStored) (unlessSpare s (readStoredTree table nesting s)) (refused Long)
 
-unfoldable pub readStored : List ℕ → List ℕ → Answer Term
-readStored table s = mapAnswer termOf (unlessLong table (readForm table s))
+unfoldable pub readStored : List ℕ → List ℕ → Parsed Term
+readStored table s = mapParsed termOf (unlessLong table (readForm table s))

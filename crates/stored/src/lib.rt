@@ -1,6 +1,9 @@
 // The stored form of records, in which lists tell their length: the move from the old form to it and back.
+use reader::FRAMES;
+use reader::Frame;
 use reader::Node;
 use reader::Read;
+use term::NESTING;
 use term::Refusal;
 ghost use mathlib.Core.Path.{_≡_};
 ghost use mathlib.Core.Bool.{false};
@@ -8,13 +11,14 @@ ghost use Prim.Native.Nat.{_+_, _≤_};
 ghost use lib.ListN.{length, set};
 ghost use lib.Seq.{sets};
 ghost use Rattle.term.specs.Moment.{old, new};
-ghost use Rattle.term.specs.Limits.{longestRecord};
-ghost use Rattle.reader.specs.Reading.{shown, readAll};
+ghost use Rattle.term.specs.Limits.{nesting, longestRecord};
+ghost use Rattle.reader.specs.Frame.{frame};
+ghost use Rattle.reader.specs.Reading.{shown};
 ghost use Rattle.stored.specs.Form.{longestStored};
-ghost use Rattle.stored.specs.Reading.{storedNode, toldLength, agrees, readTree, readForm};
+ghost use Rattle.stored.specs.Reading.{storedNode, readStoredTree, readForm};
 ghost use Rattle.stored.specs.Move.{moveNumber, moveLength, storing, restoring, moved, outputAfter};
-ghost use Rattle.stored.specs.Passes.{stretched, stripped, ownOf, ownSize, storedSize, withTold, Tells, recordTrees, storedTrees, putOf, Putting};
-ghost use Rattle.stored.specs.Demands.{RecordOf, StoredOf, Demanded};
+ghost use Rattle.stored.specs.Passes.{stretched, stripped, ownOf, ownSize, storedSize, Stands, agreesAt, withTold, recordTrees, storedTrees, Putting};
+ghost use Rattle.stored.specs.Demands.{StoreDemanded, RestoreDemanded};
 
 // The most bytes of a stored record.
 pub const LONGEST_STORED: usize = 8192;
@@ -25,16 +29,13 @@ const WORD: usize = 2;
 // A list's length stands behind its symbol and its number of children.
 const BEFORE: usize = 2;
 
+// The most nodes whose children are read at once: those of the frames around, and of the innermost.
+const OPEN: usize = FRAMES + 1;
+
 // What a move shows: the length of what was written, or why it is refused.
 pub enum Move {
     Written(usize),
     Refused(Refusal),
-}
-
-// Trees that were put in the stored form: the bytes that they were read from, and the bytes that were written.
-struct Put {
-    from: usize,
-    to: usize,
 }
 
 impl Move {
@@ -87,27 +88,49 @@ fn stored_node(table: &[u8], s: &[u8], left: u8) -> Node
     }
 }
 
-// Whether the node at the start of s tells the length of its children, if it is a list.
-fn agrees(s: &[u8], list: bool, n: usize) -> bool
-    requires { ⌜ Tells list (now s) ⌝ }
-    ensures { λ r. ⌜ r ≡ agrees list (toldLength (old s)) n ⌝ }
+// Whether a list tells the length of its children, which start and end at these places; other nodes tell none.
+fn agrees(s: &[u8], list: bool, start: usize, end: usize) -> bool
+    requires { ⌜ Stands list start end (length (now s)) ⌝ }
+    ensures { λ r. ⌜ r ≡ agreesAt (old s) list start end ⌝ }
 {
     if list {
-        let low = s[BEFORE] as usize;
-        let high = s[BEFORE + 1] as usize;
-        return low + 256 * high == n;
+        let low = s[start - WORD] as usize;
+        let high = s[start - 1] as usize;
+        return low + 256 * high == end - start;
     }
     true
 }
 
-// So many trees of the stored form, one after the other.
-fn read_trees(table: &[u8], s: &[u8], left: u8, count: u8) -> Read
-    ensures { λ r. ⌜ r ≡ shown (readAll (readTree (old table) left) count (old s)) ⌝ }
+// A whole record: one tree, with all the nesting left.
+fn root() -> Frame
+    ensures { λ r. ⌜ r ≡ frame 1 nesting false ⌝ }
 {
+    Frame::of(1, NESTING, false)
+}
+
+// The tree of the stored form at the start of s. Still to be read are the trees of `top`, and then those of the frames around it, the innermost
+// first; beside each frame stands where its first tree starts. A leaf takes no frame.
+fn read_tree(table: &[u8], s: &[u8]) -> Read
+    ensures { λ r. ⌜ r ≡ shown (readStoredTree (old table) nesting (old s)) ⌝ }
+{
+    let mut around = [Frame::EMPTY; FRAMES];
+    let mut starts = [0usize; OPEN];
+    let mut depth: usize = 0;
+    let mut top = root();
     let mut at: usize = 0;
-    let mut trees = count;
-    while 0 < trees {
-        let node = stored_node(table, &s[at..], left);
+    loop {
+        if top.count == 0 {
+            if !agrees(s, top.list, starts[depth], at) {
+                return Read::Refused(Refusal::Length);
+            }
+            if depth == 0 {
+                return Read::Ends(at);
+            }
+            depth = depth - 1;
+            top = around[depth];
+            continue;
+        }
+        let node = stored_node(table, &s[at..], top.left);
         let Node::Open {
             size,
             kids,
@@ -117,23 +140,15 @@ fn read_trees(table: &[u8], s: &[u8], left: u8, count: u8) -> Read
         else {
             return reader::node_refusal(node);
         };
-        let start = at + size;
-        if !list & (kids == 0) {
-            at = start;
-            trees = trees - 1;
-            continue;
+        at = at + size;
+        top.count = top.count - 1;
+        if list | (0 < kids) {
+            around[depth] = top;
+            top = Frame::of(kids, low, list);
+            depth = depth + 1;
+            starts[depth] = at;
         }
-        let read = read_trees(table, &s[start..], low, kids);
-        let Read::Ends(n) = read else {
-            return read;
-        };
-        if !agrees(&s[at..], list, n) {
-            return Read::Refused(Refusal::Length);
-        }
-        at = start + n;
-        trees = trees - 1;
     }
-    Read::Ends(at)
 }
 
 // The whole of s as one tree of the stored form.
@@ -143,7 +158,7 @@ fn read_form(table: &[u8], s: &[u8]) -> Read
     if LONGEST_STORED < s.len() {
         return Read::Refused(Refusal::Long);
     }
-    let read = read_trees(table, s, term::NESTING, 1);
+    let read = read_tree(table, s);
     let Read::Ends(n) = read else {
         return read;
     };
@@ -201,7 +216,7 @@ fn old_length(table: &[u8], s: &[u8]) -> usize
 pub fn restore(table: &[u8], stored: &[u8], output: &mut [u8]) -> Move
     ensures answer { λ r. ⌜ r ≡ moved (restoring (old table) (old stored)) (length (old output)) ⌝ }
     ensures contents { λ _. ⌜ new output ≡ outputAfter (restoring (old table) (old stored)) (old output) ⌝ }
-    ensures demand { λ r. ⌜ Demanded (StoredOf (old table)) (RecordOf (old table)) (storing (old table)) (old stored) (old output) (moveNumber r) (moveLength r) (new output) ⌝ }
+    ensures demand { λ r. ⌜ RestoreDemanded (old table) (old stored) (old output) (moveNumber r) (moveLength r) (new output) ⌝ }
 {
     if !term::check_table(table) {
         return Move::Refused(Refusal::Table);
@@ -241,49 +256,54 @@ fn stored_length(table: &[u8], s: &[u8]) -> usize
     size
 }
 
-// Puts the symbol of a node and, for a list, its number of children.
-fn put_own(s: &[u8], list: bool, output: &mut [u8], at: usize)
+// Puts the symbol of a node and, for a list, its number of children; answers where its children come, behind a list's length.
+fn put_own(s: &[u8], list: bool, output: &mut [u8], at: usize) -> usize
     requires { ⌜ (ownSize list ≤ length (now s)) × (at + storedSize list ≤ length (now output)) ⌝ }
-    ensures { λ _. ⌜ new output ≡ sets (old output) at (ownOf list (old s)) ⌝ }
+    ensures end { λ r. ⌜ r ≡ at + storedSize list ⌝ }
+    ensures contents { λ _. ⌜ new output ≡ sets (old output) at (ownOf list (old s)) ⌝ }
 {
     output[at] = s[0];
     if list {
         output[at + 1] = s[1];
+        return at + BEFORE + WORD;
     }
+    at + 1
 }
 
-// Puts the length of a list behind them, and answers how many bytes all that is.
-fn put_length(list: bool, output: &mut [u8], at: usize, n: usize)
-    requires { ⌜ (at + storedSize list ≤ length (now output)) × (n ≤ longestStored) ⌝ }
-    ensures { λ _. ⌜ new output ≡ withTold list (old output) at n ⌝ }
+// Puts the length of a list's children, which start and end at these places, in front of them; other nodes tell none.
+fn put_length(list: bool, output: &mut [u8], start: usize, end: usize)
+    requires { ⌜ Stands list start end (length (now output)) × (end ≤ longestStored) ⌝ }
+    ensures { λ _. ⌜ new output ≡ withTold list (old output) start end ⌝ }
 {
     if list {
-        output[at + BEFORE] = (n % 256) as u8;
-        output[at + BEFORE + 1] = (n / 256) as u8;
+        let n = end - start;
+        output[start - WORD] = (n % 256) as u8;
+        output[start - 1] = (n / 256) as u8;
     }
 }
 
-// A node's bytes in front of its children.
-fn stored_size(list: bool) -> usize
-    ensures { λ r. ⌜ r ≡ storedSize list ⌝ }
+// Puts a record in the stored form: a node's own bytes, its children, and then, for a list, their length. The frames are those of the reader.
+fn put_tree(table: &[u8], s: &[u8], output: &mut [u8])
+    requires { ⌜ Putting (now table) (now s) (length (now output)) ⌝ }
+    ensures { λ _. ⌜ new output ≡ sets (old output) 0 (storedTrees (old table) (recordTrees (old table) nesting 1 (old s))) ⌝ }
 {
-    if list {
-        return BEFORE + WORD;
-    }
-    1
-}
-
-// Puts so many trees at the start of s in the stored form; the length of a list when its children are done.
-fn put_trees(table: &[u8], s: &[u8], left: u8, count: u8, output: &mut [u8], at: usize) -> Put
-    requires { ⌜ Putting (now table) left count (now s) (length (now output)) at ⌝ }
-    ensures is { λ r. ⌜ r ≡ putOf (old table) (recordTrees (old table) left count (old s)) ⌝ }
-    ensures contents { λ _. ⌜ new output ≡ sets (old output) at (storedTrees (old table) (recordTrees (old table) left count (old s))) ⌝ }
-{
-    let mut from: usize = 0;
-    let mut to = at;
-    let mut trees = count;
-    while 0 < trees {
-        let node = reader::node_at(table, &s[from..], true, false, left);
+    let mut around = [Frame::EMPTY; FRAMES];
+    let mut starts = [0usize; OPEN];
+    let mut depth: usize = 0;
+    let mut top = root();
+    let mut at: usize = 0;
+    let mut end: usize = 0;
+    loop {
+        if top.count == 0 {
+            put_length(top.list, output, starts[depth], end);
+            if depth == 0 {
+                return;
+            }
+            depth = depth - 1;
+            top = around[depth];
+            continue;
+        }
+        let node = reader::node_at(table, &s[at..], true, false, top.left);
         let Node::Open {
             size,
             kids,
@@ -291,20 +311,17 @@ fn put_trees(table: &[u8], s: &[u8], left: u8, count: u8, output: &mut [u8], at:
             low,
         } = node
         else {
-            return Put { from: from, to: 0 };
+            return;
         };
-        put_own(&s[from..], list, output, to);
-        let start = to + stored_size(list);
-        from = from + size;
-        let inside = put_trees(table, &s[from..], low, kids, output, start);
-        put_length(list, output, to, inside.to);
-        from = from + inside.from;
-        to = start + inside.to;
-        trees = trees - 1;
-    }
-    Put {
-        from: from,
-        to: to - at,
+        end = put_own(&s[at..], list, output, end);
+        at = at + size;
+        top.count = top.count - 1;
+        if list | (0 < kids) {
+            around[depth] = top;
+            top = Frame::of(kids, low, list);
+            depth = depth + 1;
+            starts[depth] = end;
+        }
     }
 }
 
@@ -312,7 +329,7 @@ fn put_trees(table: &[u8], s: &[u8], left: u8, count: u8, output: &mut [u8], at:
 pub fn store(table: &[u8], record: &[u8], output: &mut [u8]) -> Move
     ensures answer { λ r. ⌜ r ≡ moved (storing (old table) (old «record»)) (length (old output)) ⌝ }
     ensures contents { λ _. ⌜ new output ≡ outputAfter (storing (old table) (old «record»)) (old output) ⌝ }
-    ensures demand { λ r. ⌜ Demanded (RecordOf (old table)) (StoredOf (old table)) (restoring (old table)) (old «record») (old output) (moveNumber r) (moveLength r) (new output) ⌝ }
+    ensures demand { λ r. ⌜ StoreDemanded (old table) (old «record») (old output) (moveNumber r) (moveLength r) (new output) ⌝ }
 {
     if !term::check_table(table) {
         return Move::Refused(Refusal::Table);
@@ -325,6 +342,6 @@ pub fn store(table: &[u8], record: &[u8], output: &mut [u8]) -> Move
     if output.len() < size {
         return Move::Refused(Refusal::Full);
     }
-    put_trees(table, record, term::NESTING, 1, output, 0);
+    put_tree(table, record, output);
     Move::Written(size)
 }

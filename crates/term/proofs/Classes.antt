@@ -4,18 +4,14 @@ use native.Mathlib.Omega.{arith}
 use native.Mathlib.Numerals.{add-one}
 use mathlib.Core.Path.{_≡_, refl, sym, ap, _∙_, subst}
 use mathlib.Core.Logic.{_↔_}
-use mathlib.Core.List.{List, [], _∷_}
+use mathlib.Core.List.{List, []}
 use mathlib.Core.Bool.{Bool, true, false, _&&_, and-false}
 use lib.ListN.{length, getD, List·getD-eq-default}
 use lib.Dec.{leb, ltb, eqb}
 use borrow.Author.Tests.{eqb-true, eq-eqb, ne-eqb, leb-true, le-leb, lt-leb, ltb-true, ltb-false}
+use Rattle.term.proofs.Lists.{getD-any}
 use Rattle.term.specs.Class.{classOf, ClassList, entryClassed, entriesClassed, classesAccepted, Alike}
 use Rattle.term.proofs.SameParts.{and-true}
-
-pub getD-any : (l : List ℕ) (i d e : ℕ) → i < length l → getD l i d ≡ getD l i e
-getD-any [] i d e h = absurd (omega arith)
-getD-any (x ∷ xs) zero d e h = refl
-getD-any (x ∷ xs) (suc i) d e h = getD-any xs i d e (omega arith)
 
 module _ (classes : List ℕ) (s : ℕ) where
   pub class-entry : s < length classes → classOf classes s ≡ getD classes s 0

@@ -5,13 +5,13 @@ use mathlib.Core.Path.{_≡_, refl, ap, _∙_}
 use mathlib.Core.List.{List, []}
 use mathlib.Core.Bool.{Bool, false}
 use lib.ListN.{length, getD, drop}
+use Rattle.term.proofs.Lists.{front}
 use Rattle.term.specs.Code.{decodeOf, byteOf}
 use Rattle.term.specs.Tree.{Tree, branch, empty, listCode, own, encode}
 use Rattle.term.specs.Term.{Term, Terms, nil, _::_, _⧺_, single, size, sizes, termTrees, termBytes, termsBytes}
 use Rattle.term.specs.Limits.{Fits, FitAll}
 use Rattle.term.specs.declared.Code.{Code}
 use Rattle.term.proofs.Codes.{code-back}
-use Rattle.term.proofs.Sizes.{front}
 
 module _ (table : List ℕ) where
   pub bytes-join : (us ts : Terms) (bs : List ℕ) → termsBytes table (us ⧺ ts) bs ≡ termsBytes table us (termsBytes table ts bs)

@@ -252,15 +252,6 @@ module _ (table : List ℕ) (ts us : Terms) (left left′ : ℕ) (inList inList�
   pub run-of-bytes : termsBytes table ts [] ≡ termsBytes table us [] → ts ≡ us
   run-of-bytes e = trees-terms ts us (whole-run table true (termTrees ts) (termTrees us) left left′ inList inList′ g h e)
 
-  -- in front of other bytes, with the same number of elements or of bytes
-  pub run-of-count : (bs cs : List ℕ) → count ts ≡ count us → termsBytes table ts bs ≡ termsBytes table us cs → ts ≡ us
-  run-of-count bs cs n e =
-      trees-terms ts us
-      (one-run table true (termTrees ts) (termTrees us) left left′ inList inList′ bs cs g h (number-terms ts ∙ n ∙ sym (number-terms us)) e .0)
-
-  pub run-of-size : (bs cs : List ℕ) → sizes table ts ≡ sizes table us → termsBytes table ts bs ≡ termsBytes table us cs → ts ≡ us
-  run-of-size bs cs n e = run-of-bytes (sym (take-terms table ts bs) ∙ ap₂ take n e ∙ take-terms table us cs)
-
 -- Bytes of runs are the same exactly if the runs are, up to class
 
 module _ (table classes : List ℕ) (k : Alike table classes) where

@@ -1,11 +1,12 @@
 -- The bytes of trees, terms and patterns: how they join, how many there are, and what lies past them.
-use Prim.Native.Nat.{ℕ, zero, suc, _+_, _<_}
+use Prim.Native.Nat.{ℕ, zero, suc, _+_}
 use native.Mathlib.Omega.{arith}
-use mathlib.Core.Path.{_≡_, refl, sym, ap, _∙_}
+use mathlib.Core.Path.{_≡_, refl, ap, _∙_}
 use mathlib.Core.List.{List, [], _∷_, _++_}
 use mathlib.Core.Bool.{Bool, true, false, cond}
-use lib.ListN.{length, getD, take, drop, length-append, length-drop}
-use lib.Seq.{drop-drop, drop-at, take-at, getD-drop}
+use lib.ListN.{length, take, drop, length-append}
+use lib.Seq.{take-at}
+use Rattle.term.proofs.Lists.{past-front}
 use Rattle.term.specs.Code.{byteOf}
 use Rattle.term.specs.Table.{isList, width}
 use Rattle.term.specs.Tree.{Tree, Trees, branch, empty, more, number, listCode, own, encode, encodes}
@@ -37,16 +38,6 @@ abbrev pub childrenBytes : List ℕ → Children → List ℕ → List ℕ
 childrenBytes table qs bs = encodes table (childTrees qs) bs
 
 -- a front of some bytes
-
--- the byte that stands at a place
-pub front : (l : List ℕ) (n b : ℕ) (bs : List ℕ) → drop n l ≡ b ∷ bs → (n < length l) × (getD l n 0 ≡ b)
-front l n b bs h =
-    let i : length (drop n l) ≡ suc (length bs) = ap length h in
-    let z : n + 0 ≡ n = omega arith in
-    (omega (arith, length-drop n l), ap (λ (k : ℕ). getD l k 0) (sym z) ∙ sym (getD-drop n l 0 0) ∙ ap (λ (x : List ℕ). getD x 0 0) h)
-
-pub past-front : (l : List ℕ) (a n : ℕ) (p bs : List ℕ) → drop a l ≡ p ++ bs → length p ≡ n → drop (a + n) l ≡ bs
-past-front l a n p bs h k = sym (drop-drop n a l) ∙ ap (drop n) h ∙ drop-at p bs n k
 
 -- a node's own bytes
 
@@ -89,9 +80,6 @@ module _ (table : List ℕ) where
   pub past-tree : (l : List ℕ) (a : ℕ) (t : Tree) (bs : List ℕ) → drop a l ≡ encode table t bs → drop (a + length (encode table t [])) l ≡ bs
   past-tree l a t bs h = past-front l a (length (encode table t [])) (encode table t []) bs (h ∙ encode-append t [] bs) refl
 
-  pub past-trees : (l : List ℕ) (a : ℕ) (ts : Trees) (bs : List ℕ) → drop a l ≡ encodes table ts bs → drop (a + length (encodes table ts [])) l ≡ bs
-  past-trees l a ts bs h = past-front l a (length (encodes table ts [])) (encodes table ts []) bs (h ∙ encodes-append ts [] bs) refl
-
   -- terms
 
   pub node-bytes : (s : ℕ) (ts : Terms) (bs : List ℕ)
@@ -109,9 +97,6 @@ module _ (table : List ℕ) where
     terms-sizes nil = refl
     terms-sizes (t :: ts) = more-length (termTree t) (termTrees ts) ∙ omega (arith, term-size t, terms-sizes ts)
 
-  pub term-length : (t : Term) (bs : List ℕ) → length (termBytes table t bs) ≡ size table t + length bs
-  term-length t bs = encode-length (termTree t) bs ∙ ap (λ (n : ℕ). n + length bs) (term-size t)
-
   pub terms-length : (ts : Terms) (bs : List ℕ) → length (termsBytes table ts bs) ≡ sizes table ts + length bs
   terms-length ts bs = encodes-length (termTrees ts) bs ∙ ap (λ (n : ℕ). n + length bs) (terms-sizes ts)
 
@@ -120,9 +105,6 @@ module _ (table : List ℕ) where
 
   pub past-terms : (l : List ℕ) (a : ℕ) (ts : Terms) (bs : List ℕ) → drop a l ≡ termsBytes table ts bs → drop (a + sizes table ts) l ≡ bs
   past-terms l a ts bs h = past-front l a (sizes table ts) (termsBytes table ts []) bs (h ∙ encodes-append (termTrees ts) [] bs) (terms-sizes ts)
-
-  pub take-term : (t : Term) (bs : List ℕ) → take (size table t) (termBytes table t bs) ≡ termBytes table t []
-  take-term t bs = ap (take (size table t)) (encode-append (termTree t) [] bs) ∙ take-at (termBytes table t []) bs (size table t) (term-size t)
 
   pub take-terms : (ts : Terms) (bs : List ℕ) → take (sizes table ts) (termsBytes table ts bs) ≡ termsBytes table ts []
   take-terms ts bs =

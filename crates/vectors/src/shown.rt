@@ -9,7 +9,7 @@ use sheet::Place;
 use stored::Move;
 
 // The numbers of an entry, the entries of an answer, and those of the buffer around it.
-const ENTRY: usize = search::ENTRY_WIDTH;
+const ENTRY: usize = parts::ENTRY_WIDTH;
 
 const ANSWER: usize = term::VARIABLES;
 

@@ -458,22 +458,29 @@ fn stored() -> Vec<Workload> {
     let bytes = [256, 1_024, 4_096];
     let mut all = Vec::new();
     all.extend(bytes.map(|n| store("store, lists within a list", full(n))));
-    all.extend(bytes.map(|n| store("store, nesting 32", nested(n))));
+    all.extend(bytes.map(|n| store("store, nesting 2", lists(n, false))));
+    all.extend(bytes.map(|n| store("store, nesting 32", lists(n, true))));
     all.extend(bytes.map(|n| restore("restore, lists within a list", full(n))));
-    all.extend(bytes.map(|n| restore("restore, nesting 32", nested(n))));
+    all.extend(bytes.map(|n| restore("restore, nesting 2", lists(n, false))));
+    all.extend(bytes.map(|n| restore("restore, nesting 32", lists(n, true))));
     all
 }
 
-/// A record of n bytes, of 31 lists each within the one before, with as many leaves in each.
-fn nested(n: usize) -> Vec<u8> {
+/// A record of n bytes, of 31 lists with as many leaves in each: each within the one before, or
+/// all others within the first.
+fn lists(n: usize, nested: bool) -> Vec<u8> {
     let table = symbols().table().to_vec();
     let list = table.iter().position(|&children| children == LIST).expect("there is a list") as u8;
     let (lists, leaves) = (31, n - 2 * 31);
     let mut record = Vec::new();
     for level in 0..lists {
         let own = leaves / lists + usize::from(level < leaves % lists);
-        let last = usize::from(level + 1 == lists);
-        record.extend([list, (own + 1 - last) as u8]);
+        let within = match (nested, level) {
+            (true, _) => usize::from(level + 1 < lists),
+            (false, 0) => lists - 1,
+            (false, _) => 0,
+        };
+        record.extend([list, (own + within) as u8]);
         record.extend(vec![0; own]);
     }
     record

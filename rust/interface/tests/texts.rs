@@ -3,9 +3,20 @@
 use interface::*;
 use std::{fs, path::Path};
 
+const ROOT: &str = concat!(env!("CARGO_MANIFEST_DIR"), "/../..");
+
 fn read(file: &str) -> String {
-    let root = Path::new(concat!(env!("CARGO_MANIFEST_DIR"), "/../.."));
-    fs::read_to_string(root.join(file)).unwrap_or_else(|error| panic!("{file}: {error}"))
+    let path = Path::new(ROOT).join(file);
+    fs::read_to_string(path).unwrap_or_else(|error| panic!("{file}: {error}"))
+}
+
+/// The code of a proved crate: all files of its `src`, by name.
+fn code_of(name: &str) -> String {
+    let folder = format!("crates/{name}/src");
+    let files = fs::read_dir(Path::new(ROOT).join(&folder)).unwrap();
+    let mut names: Vec<_> = files.map(|file| file.unwrap().file_name()).collect();
+    names.sort();
+    names.iter().map(|name| read(&format!("{folder}/{}", name.to_str().unwrap()))).collect()
 }
 
 /// The code of the proved crates, without comments.
@@ -13,6 +24,7 @@ fn rattle() -> String {
     let crates = [
         "term",
         "reader",
+        "parts",
         "search",
         "matcher",
         "plain",
@@ -22,7 +34,7 @@ fn rattle() -> String {
         "rules",
         "qonveshir",
     ];
-    let code = crates.map(|name| read(&format!("crates/{name}/src/lib.rt"))).concat();
+    let code = crates.map(code_of).concat();
     let lines = code.lines().filter(|line| !line.trim_start().starts_with("//"));
     lines.map(|line| format!("{line}\n")).collect()
 }

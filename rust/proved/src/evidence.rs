@@ -15,8 +15,10 @@ pub struct Evidence {
 }
 
 /// The crates below the interface.
-const CRATES: [&str; 10] =
-    ["term", "reader", "skips", "search", "matcher", "plain", "cost", "sheet", "stored", "rules"];
+const CRATES: [&str; 12] = [
+    "term", "reader", "skips", "parts", "steps", "search", "matcher", "plain", "cost", "sheet",
+    "stored", "rules",
+];
 
 /// Finds the proved library in the running program. An error says why it is not there, or that
 /// the archive was built anew since the program was linked.
@@ -41,9 +43,8 @@ fn found_in(program: &[u8]) -> Result<(String, Vec<String>), String> {
     };
     let function = |text: &[u8]| {
         let text = std::str::from_utf8(text).ok()?;
-        let (own, name) = text.split_once("::")?;
-        let plain = name.bytes().all(|byte| byte.is_ascii_lowercase() || byte == b'_');
-        (CRATES.contains(&own) && plain).then(|| text.to_owned())
+        let (own, path) = text.split_once("::")?;
+        (CRATES.contains(&own) && path.split("::").all(is_name)).then(|| text.to_owned())
     };
     let texts = || program.split(|&byte| byte == 0);
     let logic =
@@ -53,6 +54,11 @@ fn found_in(program: &[u8]) -> Result<(String, Vec<String>), String> {
         true => Ok((logic, functions)),
         false => Err("this program holds no function of the proved search".into()),
     }
+}
+
+/// Whether a text is the name of a module or a function.
+fn is_name(text: &str) -> bool {
+    !text.is_empty() && text.bytes().all(|byte| byte.is_ascii_lowercase() || byte == b'_')
 }
 
 impl fmt::Display for Evidence {
@@ -77,10 +83,24 @@ mod tests {
     #[test]
     fn another_program_does_not_hold_it() {
         let mark = format!("{} logic={}", "rattle", "0a".repeat(32));
-        let whole = format!("\0{mark}\0term::decode\0search::level\0rattle logic=0\0");
+        let whole = format!("\0{mark}\0term::decode\0search::level::level\0rattle logic=0\0");
         let (logic, functions) = found_in(whole.as_bytes()).unwrap();
-        assert_eq!((logic.len(), functions.len()), (64, 2));
+        assert_eq!(logic.len(), 64);
+        assert_eq!(functions, ["term::decode", "search::level::level"]);
         assert!(found_in(whole.replace("search", "reference").as_bytes()).is_err());
         assert!(found_in(whole.replace("0a0a", "0g0g").as_bytes()).is_err());
+    }
+
+    #[test]
+    fn only_a_path_of_names_is_a_function() {
+        let mark = format!("{} logic={}", "rattle", "0a".repeat(32));
+        let found = |name: &str| found_in(format!("{mark}\0{name}\0").as_bytes()).is_ok();
+        assert!(found("search::search") && found("search::level::level"));
+        for name in ["search", "search::", "search::level::", "search::::level"] {
+            assert!(!found(name), "{name}");
+        }
+        for name in ["search::level::Outcome", "reference::search::level", "a search::level"] {
+            assert!(!found(name), "{name}");
+        }
     }
 }

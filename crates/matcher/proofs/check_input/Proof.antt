@@ -1,42 +1,18 @@
 -- `matcher::check_input` meets its contract.
 use mathlib.Core.Path.{sym, _∙_}
-use borrow.Author.Tests.{not-true, not-false}
-use Rattle.call.proofs.Checks.{narrow-fails, table-fails, class-fails}
-use Rattle.matcher.specs.Call.{checkOf}
-use Rattle.matcher.proofs.Checks.{pattern-fails, record-fails, all-pass}
 use borrow.Author.Needs.{needs}
+use Rattle.matcher.proofs.Checks.{first-fails, record-fails, all-pass}
 use Rattle.matcher.proofs.check_input.Statement.{statement}
 use Rattle.matcher.proofs.check_input.Tie as tie
 
+check-rule-requires : tie.Need-check-rule-requires
+check-rule-requires c κs = search needs
+
+enum-known-rule : tie.Need-enum-known-rule
+enum-known-rule c = search needs
+
 returns : tie.Need-returns
-returns c = narrow-fails _ _ _ _ checkOf (c .if1 .taken)
-
-check-table-requires : tie.Need-check-table-requires
-check-table-requires c κs = search needs
-
-returns-2 : tie.Need-returns-2
-returns-2 c = table-fails _ _ _ _ checkOf (c .before .before .if1 .left) (sym (c .before .check-table .ensures) ∙ not-true _ (c .if2 .taken))
-
-accepts-classes-requires : tie.Need-accepts-classes-requires
-accepts-classes-requires c κs = search needs
-
-returns-3 : tie.Need-returns-3
-returns-3 c =
-    class-fails _ _ _ _ checkOf (c .before .before .before .before .if1 .left) (sym (c .before .before .before .check-table .ensures) ∙ not-false _ (c .before .before .if2 .left))
-    (sym (c .before .accepts-classes .ensures) ∙ not-true _ (c .if3 .taken))
-
-read-pattern-requires : tie.Need-read-pattern-requires
-read-pattern-requires c κs = search needs
-
-enum-known-p : tie.Need-enum-known-p
-enum-known-p c = search needs
-
-returns-4 : tie.Need-returns-4
-returns-4 c =
-    pattern-fails _ _ _ _ _ (c .before .before .before .before .before .before .before .before .if1 .left)
-    (sym (c .before .before .before .before .before .before .before .check-table .ensures) ∙ not-false _ (c .before .before .before .before .before .before .if2 .left))
-    (sym (c .before .before .before .before .before .accepts-classes .ensures) ∙ not-false _ (c .before .before .before .before .if3 .left)) _
-    (sym (c .before .before .before .read-pattern .ensures) ∙ c .before .p .given .1)
+returns c = first-fails _ _ _ _ _ _ (sym (c .before .rule .given .1) ∙ c .before .before .before .check-rule .ensures)
 
 enum-told : tie.Need-enum-told
 enum-told c = search needs
@@ -47,40 +23,29 @@ read-record-requires c κs = search needs
 enum-known-s : tie.Need-enum-known-s
 enum-known-s c = search needs
 
-returns-5 : tie.Need-returns-5
-returns-5 c =
-    record-fails _ _ _ _ _ (c .before .before .before .before .before .before .before .before .before .before .before .if1 .left)
-    (sym (c .before .before .before .before .before .before .before .before .before .before .check-table .ensures) ∙ not-false _ (c .before .before .before .before .before .before .before .before .before .if2 .left))
-    (sym (c .before .before .before .before .before .before .before .before .accepts-classes .ensures) ∙ not-false _ (c .before .before .before .before .before .before .before .if3 .left)) _
-    (sym (c .before .before .before .before .before .before .read-pattern .ensures) ∙ c .before .before .before .before .enum-told .given .1) _
+returns-2 : tie.Need-returns-2
+returns-2 c =
+    record-fails _ _ _ _ _ (sym (c .before .before .before .before .enum-told .given .1) ∙ c .before .before .before .before .before .before .check-rule .ensures) _
     (sym (c .before .before .before .read-record .ensures) ∙ c .before .s .given .1)
 
 enum-told-2 : tie.Need-enum-told-2
 enum-told-2 c = search needs
 
-returns-6 : tie.Need-returns-6
-returns-6 c =
-    all-pass _ _ _ _ _ (c .before .before .before .before .before .before .before .before .before .before .if1 .left)
-    (sym (c .before .before .before .before .before .before .before .before .before .check-table .ensures) ∙ not-false _ (c .before .before .before .before .before .before .before .before .if2 .left))
-    (sym (c .before .before .before .before .before .before .before .accepts-classes .ensures) ∙ not-false _ (c .before .before .before .before .before .before .if3 .left)) _
-    (sym (c .before .before .before .before .before .read-pattern .ensures) ∙ c .before .before .before .enum-told .given .1) _
+returns-3 : tie.Need-returns-3
+returns-3 c =
+    all-pass _ _ _ _ _ (sym (c .before .before .before .enum-told .given .1) ∙ c .before .before .before .before .before .check-rule .ensures) _
     (sym (c .before .before .read-record .ensures) ∙ c .enum-told2 .given .1)
 
 pub check-input-spec : {M : Type 1} → statement M
 check-input-spec =
     tie.close
     (tie.spec
+    check-rule-requires
+    enum-known-rule
     returns
-    check-table-requires
-    returns-2
-    accepts-classes-requires
-    returns-3
-    read-pattern-requires
-    enum-known-p
-    returns-4
     enum-told
     read-record-requires
     enum-known-s
-    returns-5
+    returns-2
     enum-told-2
-    returns-6)
+    returns-3)

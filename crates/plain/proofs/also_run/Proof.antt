@@ -3,8 +3,6 @@ use Rattle.plain.proofs.Among.{also-is}
 use borrow.Author.Needs.{needs}
 use Rattle.plain.proofs.also_run.Statement.{statement}
 use Rattle.plain.proofs.also_run.Tie as tie
-use Rattle.plain.proofs.also_run.Reads as reads
-use Rattle.plain.proofs.also_run.Lts as lts
 
 -- src/lib.rt:86:28
 enum-told : tie.Need-enum-told

@@ -3,9 +3,6 @@ use Rattle.plain.proofs.Nodes.{list-short, list-cut, list-equal, list-n
 use borrow.Author.Needs.{needs}
 use Rattle.plain.proofs.list_step.Statement.{statement}
 use Rattle.plain.proofs.list_step.Tie as tie
-use Rattle.plain.proofs.list_step.Reads as reads
-use Rattle.plain.proofs.list_step.Lts as lts
-use Rattle.plain.proofs.runs_among.Reads as runs-among-reads
 
 -- src/lib.rt:192:9
 returns : tie.Need-returns

@@ -1,14 +1,9 @@
 -- `plain::look_at` meets its contract.
 use mathlib.Core.Path.{refl}
-use Rattle.plain.proofs.Nodes.{name-below, run-below, look-by}
+use Rattle.plain.proofs.Nodes.{name-below, run-below, look-by, variable-within}
 use borrow.Author.Needs.{needs}
 use Rattle.plain.proofs.look_at.Statement.{statement}
 use Rattle.plain.proofs.look_at.Tie as tie
-use Rattle.plain.proofs.look_at.Reads as reads
-use Rattle.plain.proofs.look_at.Lts as lts
-use Rattle.plain.proofs.look_symbol.Reads as look-symbol-reads
-use Rattle.plain.proofs.look_variable.Reads as look-variable-reads
-use Rattle.term.proofs.decode.Reads as decode-reads
 
 -- src/lib.rt:159:29
 shared-slice-read-decode : tie.Need-shared-slice-read-decode
@@ -52,23 +47,29 @@ enum-told-2 c = search needs
 
 -- src/lib.rt:154:1
 returns : tie.Need-returns
-returns c = look-by _ _ _ _ _ (c .before .before .before .before .decode .ensures) (c .before .before .code .given .1) _ (c .look-symbol .ensures)
+returns c = (λ h. look-by _ _ _ _ _ (c .before .before .before .before .decode .ensures) (c .before .before .code .given .1) _ (c .look-symbol .ensures .0 h), c .look-symbol .ensures .1)
 
 -- src/lib.rt:154:1
 returns-2 : tie.Need-returns-2
-returns-2 c = look-by _ _ _ _ _ (c .before .before .before .before .decode .ensures) (c .before .before .code2 .given .1) _ (c .look-variable .ensures)
+returns-2 c = (
+  λ h. look-by _ _ _ _ _ (c .before .before .before .before .decode .ensures) (c .before .before .code2 .given .1) _ (c .look-variable .ensures),
+  variable-within _ (c .before .before .before .before .before .before .before .before .args .seen) (c .before .before .code2 .given .0 .0) (c .before .before .before .before .before .before .before .before .pre) _ (c .look-variable .ensures),
+)
 
 -- src/lib.rt:154:1
 returns-3 : tie.Need-returns-3
-returns-3 c = look-by _ _ _ _ _ (c .before .before .before .before .decode .ensures) (c .before .before .code3 .given .1) _ (c .look-variable2 .ensures)
+returns-3 c = (
+  λ h. look-by _ _ _ _ _ (c .before .before .before .before .decode .ensures) (c .before .before .code3 .given .1) _ (c .look-variable2 .ensures),
+  variable-within _ (c .before .before .before .before .before .before .before .before .args .seen) (c .before .before .code3 .given .0 .0) (c .before .before .before .before .before .before .before .before .pre) _ (c .look-variable2 .ensures),
+)
 
 -- src/lib.rt:154:1
 returns-4 : tie.Need-returns-4
-returns-4 c = look-by _ _ _ _ _ (c .before .before .decode .ensures) (c .enum-told .given .1) _ refl
+returns-4 c = (λ h. look-by _ _ _ _ _ (c .before .before .decode .ensures) (c .enum-told .given .1) _ refl, tt)
 
 -- src/lib.rt:154:1
 returns-5 : tie.Need-returns-5
-returns-5 c = look-by _ _ _ _ _ (c .before .before .decode .ensures) (c .enum-told2 .given .1) _ refl
+returns-5 c = (λ h. look-by _ _ _ _ _ (c .before .before .decode .ensures) (c .enum-told2 .given .1) _ refl, tt)
 
 pub look-at-spec : {M : Type 1} → statement M
 look-at-spec =

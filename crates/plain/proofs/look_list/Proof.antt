@@ -1,18 +1,16 @@
 -- `plain::look_list` meets its contract.
 use Rattle.plain.proofs.Nodes.{look-short, look-seldom, look-many, look-few}
+use native.Mathlib.Omega.{arith}
 use borrow.Author.Needs.{needs}
 use Rattle.plain.proofs.look_list.Statement.{statement}
 use Rattle.plain.proofs.look_list.Tie as tie
-use Rattle.plain.proofs.look_list.Reads as reads
-use Rattle.plain.proofs.look_list.Lts as lts
-use Rattle.plain.proofs.runs_among.Reads as runs-among-reads
 
 -- src/lib.rt:124:9
 returns : tie.Need-returns
-returns c = look-short _ _ _ (c .if1 .taken)
+returns c = (λ h. look-short _ _ _ (c .if1 .taken), tt)
 
 returns-2 : tie.Need-returns-2
-returns-2 c = look-seldom _ _ _ (c .before .if1 .left) _ (c .before .before .before .before .pre) (c .if2 .taken)
+returns-2 c = (λ h. look-seldom _ _ _ (c .before .if1 .left) _ h (c .if2 .taken), (omega arith, omega arith, c .before .if1 .left))
 
 -- src/lib.rt:126:34
 sub-runs-among : tie.Need-sub-runs-among
@@ -35,10 +33,12 @@ runs-among-requires : tie.Need-runs-among-requires
 runs-among-requires c κs = search needs
 
 returns-3 : tie.Need-returns-3
-returns-3 c = look-many _ _ _ (c .before .before .before .before .before .before .if1 .left) _ (c .before .before .runs-among .ensures .0) (c .if3 .taken)
+returns-3 c = (λ h. look-many _ _ _ (c .before .before .before .before .before .before .if1 .left) _ (c .before .before .runs-among .ensures .0) (c .if3 .taken), tt)
 
 returns-4 : tie.Need-returns-4
-returns-4 c = look-few _ _ _ (c .before .before .before .before .before .before .if1 .left) _ (c .before .before .runs-among .ensures .0) (c .if3 .left)
+returns-4 c =
+    let wide = c .before .before .before .before .before .before .if1 .left in
+    (λ h. look-few _ _ _ wide _ (c .before .before .runs-among .ensures .0) (c .if3 .left), (omega arith, omega arith, wide))
 
 pub look-list-spec : {M : Type 1} → statement M
 look-list-spec =

@@ -2,10 +2,6 @@
 use borrow.Author.Needs.{needs}
 use Rattle.plain.proofs.look_variable.Statement.{statement}
 use Rattle.plain.proofs.look_variable.Tie as tie
-use Rattle.plain.proofs.look_variable.Reads as reads
-use Rattle.plain.proofs.look_variable.Lts as lts
-use Rattle.plain.proofs.has.Reads as has-reads
-use Rattle.plain.proofs.with.Reads as with-reads
 
 -- src/lib.rt:147:8
 has-requires : tie.Need-has-requires

@@ -4,10 +4,6 @@ use Rattle.plain.proofs.Demanded.{ended-fails, ended-fits}
 use borrow.Author.Needs.{needs}
 use Rattle.plain.proofs.match_checked.Statement.{statement}
 use Rattle.plain.proofs.match_checked.Tie as tie
-use Rattle.plain.proofs.match_checked.Reads as reads
-use Rattle.plain.proofs.match_checked.Lts as lts
-use Rattle.plain.proofs.tier.Reads as tier-reads
-use Rattle.search.proofs.show.Reads as show-reads
 
 -- src/lib.rt:393:9
 tier-requires : tie.Need-tier-requires

@@ -3,8 +3,6 @@ use Rattle.plain.proofs.Nodes.{symbol-may-hold}
 use borrow.Author.Needs.{needs}
 use Rattle.plain.proofs.may_hold.Statement.{statement}
 use Rattle.plain.proofs.may_hold.Tie as tie
-use Rattle.plain.proofs.may_hold.Reads as reads
-use Rattle.plain.proofs.may_hold.Lts as lts
 
 enum-known-code : tie.Need-enum-known-code
 enum-known-code c = search needs

@@ -3,8 +3,6 @@ use Rattle.plain.proofs.Nodes.{root-no-pattern, root-no-record, root-by
 use borrow.Author.Needs.{needs}
 use Rattle.plain.proofs.root_may_hold.Statement.{statement}
 use Rattle.plain.proofs.root_may_hold.Tie as tie
-use Rattle.plain.proofs.root_may_hold.Reads as reads
-use Rattle.plain.proofs.root_may_hold.Lts as lts
 
 returns : tie.Need-returns
 returns c = root-no-pattern _ _ _ (c .if1 .taken)

@@ -3,23 +3,19 @@ use Prim.Native.Nat.{_-_}
 use native.Mathlib.Omega.{arith}
 use lib.ListN.{length}
 use borrow.Author.Needs.{needs}
-use Rattle.plain.proofs.Among.{Tallied, here-once, bytes-length, tallied-first, tallied-next, tallied-end}
+use Rattle.plain.specs.Bytes.{runCode}
+use Rattle.plain.proofs.Among.{Summed, here-once, summed-first, summed-next, summed-end}
 use Rattle.plain.proofs.run_bytes.Statement.{statement}
 use Rattle.plain.proofs.run_bytes.Tie as tie
-use Rattle.plain.proofs.run_bytes.Reads as reads
-use Rattle.plain.proofs.run_bytes.Lts as lts
 
 abbrev Inv-loop : tie.InvT-loop
-Inv-loop s found₀ at₀ found at = Tallied s found at
+Inv-loop s found₀ at₀ found at = Summed runCode 1 here-once s found at
 
 abbrev μ-loop : tie.MeasureT-loop
 μ-loop s found₀ at₀ found at = length s - at
 
-returns : tie.Need-returns Inv-loop μ-loop
-returns c = bytes-length _
-
 loop-holds : tie.Need-loop-holds Inv-loop μ-loop
-loop-holds c = tallied-first _
+loop-holds c = summed-first runCode 1 here-once _
 
 shared-slice-read-decode : tie.Need-shared-slice-read-decode Inv-loop μ-loop
 shared-slice-read-decode c = omega (arith, c .before .loop-test .taken)
@@ -32,7 +28,7 @@ run-here-requires c κs = search needs
 
 add-found : tie.Need-add-found Inv-loop μ-loop
 add-found c =
-    omega (arith, c .before .before .before .before .before .if1 .left, c .before .before .before .before .loop .inv .few, c .before .before .before .loop-test .taken, c .run-here .ensures, here-once (c .before .decode .result))
+    omega (arith, c .before .before .before .before .loop .inv .few, c .before .before .before .loop-test .taken, c .run-here .ensures, here-once (c .before .decode .result))
 
 add-at : tie.Need-add-at Inv-loop μ-loop
 add-at c = omega (arith, c .before .before .before .loop-test .taken)
@@ -42,14 +38,11 @@ loop-less c = omega (arith, c .before .before .before .loop-test .taken)
 
 loop-again : tie.Need-loop-again Inv-loop μ-loop
 loop-again c =
-    tallied-next _ _ _ (c .before .before .before .before .loop .inv) (c .before .before .before .loop-test .taken) _ (c .before .decode .ensures) _
+    summed-next runCode 1 here-once _ _ _ (c .before .before .before .before .loop .inv) (c .before .before .before .loop-test .taken) _ (c .before .decode .ensures) _
     (c .run-here .ensures)
 
-cast-result : tie.Need-cast-result Inv-loop μ-loop
-cast-result c = search needs
-
-returns-2 : tie.Need-returns-2 Inv-loop μ-loop
-returns-2 c = tallied-end _ _ _ (c .before .loop .inv) (c .loop-test .left)
+returns : tie.Need-returns Inv-loop μ-loop
+returns c = (summed-end runCode 1 here-once _ _ _ (c .before .loop .inv) (c .loop-test .left), omega (arith, c .before .loop .inv .few, c .before .loop .inv .within))
 
 pub run-bytes-spec : {M : Type 1} → statement M
 run-bytes-spec =
@@ -57,7 +50,6 @@ run-bytes-spec =
     (tie.spec
     Inv-loop
     μ-loop
-    returns
     loop-holds
     shared-slice-read-decode
     decode-requires
@@ -66,5 +58,4 @@ run-bytes-spec =
     add-at
     loop-less
     loop-again
-    cast-result
-    returns-2)
+    returns)

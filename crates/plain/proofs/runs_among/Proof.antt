@@ -1,20 +1,16 @@
 -- `plain::runs_among` meets its contract. The invariant: the run names are those found so far and those among the children left.
 use Prim.Native.Nat.{_+_, _≤_}
 use native.Mathlib.Omega.{arith}
-use mathlib.Core.Path.{_∙_, ap}
+use mathlib.Core.Path.{sym, _∙_, ap}
 use lib.ListN.{length}
 use borrow.Author.Needs.{needs}
+use Rattle.term.proofs.Lists.{rest-length}
 use Rattle.term.specs.declared.Code.{Code}
-use Rattle.skips.proofs.Passing.{rest-length}
-use Rattle.plain.specs.Bytes.{alsoRun}
+use Rattle.plain.specs.Bytes.{alsoRun, isLeaf}
 use Rattle.plain.proofs.Among.{Among, among-first, among-short, among-end, among-next}
+use Rattle.plain.proofs.Holding.{among-leaf}
 use Rattle.plain.proofs.runs_among.Statement.{statement}
 use Rattle.plain.proofs.runs_among.Tie as tie
-use Rattle.plain.proofs.runs_among.Reads as reads
-use Rattle.plain.proofs.runs_among.Lts as lts
-use Rattle.plain.proofs.also_run.Reads as also-run-reads
-use Rattle.term.proofs.decode.Reads as decode-reads
-use Rattle.plain.proofs.tree_bytes.Reads as tree-bytes-reads
 
 abbrev Inv-loop : tie.InvT-loop
 Inv-loop table s n found₀ at₀ left₀ found at left = Among table s n found at left
@@ -22,78 +18,66 @@ Inv-loop table s n found₀ at₀ left₀ found at left = Among table s n found 
 abbrev μ-loop : tie.MeasureT-loop
 μ-loop table s n found₀ at₀ left₀ found at left = left
 
--- src/lib.rt:108:5
 loop-holds : tie.Need-loop-holds Inv-loop μ-loop
 loop-holds c = among-first _ _ _
 
--- src/lib.rt:110:13
 returns : tie.Need-returns Inv-loop μ-loop
 returns c = among-short _ _ _ _ _ _ (c .before .before .loop .inv) (c .if1 .taken)
 
--- src/lib.rt:112:39
+sub-left : tie.Need-sub-left Inv-loop μ-loop
+sub-left c = omega (arith, c .before .loop-test .taken)
+
 shared-slice-read-decode : tie.Need-shared-slice-read-decode Inv-loop μ-loop
 shared-slice-read-decode c = omega (arith, c .before .if1 .left)
 
--- src/lib.rt:112:26
 decode-requires : tie.Need-decode-requires Inv-loop μ-loop
 decode-requires c κs = search needs
 
--- src/lib.rt:112:9
+is-leaf-requires : tie.Need-is-leaf-requires Inv-loop μ-loop
+is-leaf-requires c κs = search needs
+
+add-at : tie.Need-add-at Inv-loop μ-loop
+add-at c = omega (arith, c .before .before .before .before .if1 .left)
+
+loop-less : tie.Need-loop-less Inv-loop μ-loop
+loop-less c = omega (arith, c .before .before .before .before .before .loop-test .taken)
+
+loop-again : tie.Need-loop-again Inv-loop μ-loop
+loop-again c =
+    among-leaf _ _ _ _ _ _ (c .before .before .before .before .before .before .loop .inv) (c .before .before .before .before .before .loop-test .taken) (c .before .before .before .before .if1 .left)
+    (ap (isLeaf (c .before .before .before .before .before .before .before .before .before .args .table .now)) (sym (c .before .before .decode .ensures)) ∙ sym (c .before .is-leaf .ensures) ∙ c .if2 .taken)
+
 also-run-requires : tie.Need-also-run-requires Inv-loop μ-loop
-also-run-requires c κs = omega (arith, c .before .before .before .before .loop .inv .few, c .before .before .before .loop-test .taken, c .before .before .before .before .before .before .before .fits .n)
+also-run-requires c κs = omega (arith, c .before .before .before .before .before .before .loop .inv .few, c .before .before .before .before .before .loop-test .taken, c .before .before .before .before .before .before .before .before .before .fits .n)
 
--- src/lib.rt:113:39
 sub-tree-bytes : tie.Need-sub-tree-bytes Inv-loop μ-loop
-sub-tree-bytes c = c .before .before .before .before .before .loop .inv .within
+sub-tree-bytes c = c .before .before .before .before .before .before .before .loop .inv .within
 
--- src/lib.rt:113:39
 part-tree-bytes-start : tie.Need-part-tree-bytes-start Inv-loop μ-loop
-part-tree-bytes-start c = c .before .before .before .before .before .loop .inv .within
+part-tree-bytes-start c = c .before .before .before .before .before .before .before .loop .inv .within
 
--- src/lib.rt:113:39
 part-tree-bytes-end : tie.Need-part-tree-bytes-end Inv-loop μ-loop
 part-tree-bytes-end c = omega arith
 
--- src/lib.rt:113:19
 tree-bytes-requires : tie.Need-tree-bytes-requires Inv-loop μ-loop
-tree-bytes-requires c κs =
-    omega (
-      arith,
-      c .before .before .before .before .if1 .left,
-      rest-length (c .before .before .before .before .before .before .loop .at) (c .before .before .before .before .before .before .before .before .before .args .s .now),
-    )
+tree-bytes-requires c κs = omega (arith, c .before .before .before .before .before .before .if1 .left, rest-length (c .before .before .before .before .before .before .before .before .loop .at) (c .before .before .before .before .before .before .before .before .before .before .before .args .s .now))
 
 -- one tree more stays within s
-grows : (c : lts.After-tree-bytes (decode-reads.Asked, decode-reads.Learnt, also-run-reads.Asked, also-run-reads.Learnt, tree-bytes-reads.Asked, tree-bytes-reads.Learnt) reads.Pre reads.Post Inv-loop μ-loop)
-    → c .before .before .before .before .before .before .before .loop .at + c .tree-bytes .result ≤ length (c .before .before .before .before .before .before .before .before .before .before .args .s .now)
-grows c =
-    omega (
-      arith,
-      c .before .before .before .before .before .before .before .loop .inv .within,
-      c .tree-bytes .ensures .1,
-      rest-length (c .before .before .before .before .before .before .before .loop .at) (c .before .before .before .before .before .before .before .before .before .before .args .s .now),
-    )
+grows : (c : tie.After-tree-bytes Inv-loop μ-loop) → c .before .before .before .before .before .before .before .before .before .loop .at + c .tree-bytes .result ≤ length (c .before .before .before .before .before .before .before .before .before .before .before .before .args .s .now)
+grows c = omega (arith, c .before .before .before .before .before .before .before .before .before .loop .inv .within, c .tree-bytes .ensures .1, rest-length (c .before .before .before .before .before .before .before .before .before .loop .at) (c .before .before .before .before .before .before .before .before .before .before .before .before .args .s .now))
 
-add-at : tie.Need-add-at Inv-loop μ-loop
-add-at c = omega (arith, grows c)
+add-at-2 : tie.Need-add-at-2 Inv-loop μ-loop
+add-at-2 c = omega (arith, grows c)
 
--- src/lib.rt:114:16
-sub-left : tie.Need-sub-left Inv-loop μ-loop
-sub-left c = omega (arith, c .before .before .before .before .before .before .loop-test .taken)
+loop-less-2 : tie.Need-loop-less-2 Inv-loop μ-loop
+loop-less-2 c = omega (arith, c .before .before .before .before .before .before .before .before .loop-test .taken)
 
--- src/lib.rt:108:5
-loop-less : tie.Need-loop-less Inv-loop μ-loop
-loop-less c = omega (arith, c .before .before .before .before .before .before .loop-test .taken)
+loop-again-2 : tie.Need-loop-again-2 Inv-loop μ-loop
+loop-again-2 c =
+    let turn = c .before .before .before .before .before .before .before .before .before .loop in
+    among-next _ _ _ _ _ _ (turn .inv) (c .before .before .before .before .before .before .before .before .loop-test .taken) (c .before .before .before .before .before .before .before .if1 .left) _ (c .tree-bytes .ensures .0) (grows c) _
+    (c .before .before .also-run .ensures ∙ ap (λ (x : Code). alsoRun x (turn .found)) (c .before .before .before .before .before .decode .ensures))
 
--- src/lib.rt:108:5
-loop-again : tie.Need-loop-again Inv-loop μ-loop
-loop-again c =
-    let turn = c .before .before .before .before .before .before .before .loop in
-    among-next _ _ _ _ _ _ (turn .inv) (c .before .before .before .before .before .before .loop-test .taken)
-    (omega (arith, c .before .before .before .before .before .if1 .left)) _ (c .tree-bytes .ensures .0) (grows c) _
-    (c .before .before .also-run .ensures ∙ ap (λ (x : Code). alsoRun x (turn .found)) (c .before .before .before .decode .ensures))
-
--- src/lib.rt:98:1
 returns-2 : tie.Need-returns-2 Inv-loop μ-loop
 returns-2 c = among-end _ _ _ _ _ _ (c .before .loop .inv) (omega (arith, c .loop-test .left))
 
@@ -105,15 +89,19 @@ runs-among-spec =
     μ-loop
     loop-holds
     returns
+    sub-left
     shared-slice-read-decode
     decode-requires
+    is-leaf-requires
+    add-at
+    loop-less
+    loop-again
     also-run-requires
     sub-tree-bytes
     part-tree-bytes-start
     part-tree-bytes-end
     tree-bytes-requires
-    add-at
-    sub-left
-    loop-less
-    loop-again
+    add-at-2
+    loop-less-2
+    loop-again-2
     returns-2)

@@ -1,11 +1,10 @@
 -- `plain::span` meets its contract.
 use Prim.Native.Nat.{_+_, _-_, _≤_}
 use native.Mathlib.Omega.{arith}
-use mathlib.Core.Path.{_≡_}
 use lib.ListN.{length}
 use borrow.Author.Needs.{needs}
+use Rattle.term.proofs.Lists.{rest-length}
 use Rattle.search.proofs.Givens.{Behind, behind-first, behind-next, behind-end}
-use Rattle.skips.proofs.Passing.{rest-length}
 use Rattle.plain.proofs.span.Statement.{statement}
 use Rattle.plain.proofs.span.Tie as tie
 use Rattle.plain.proofs.span.Reads as reads

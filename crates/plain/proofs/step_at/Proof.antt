@@ -1,15 +1,10 @@
 -- `plain::step_at` meets its contract.
 use mathlib.Core.Path.{refl, ap}
-use Rattle.plain.specs.declared.Step.the-variants.{TakesNode}
+use Rattle.plain.specs.declared.Turn.the-variants.{TakesNode}
 use Rattle.plain.proofs.Nodes.{name-below, run-below, step-by}
 use borrow.Author.Needs.{needs}
 use Rattle.plain.proofs.step_at.Statement.{statement}
 use Rattle.plain.proofs.step_at.Tie as tie
-use Rattle.plain.proofs.step_at.Reads as reads
-use Rattle.plain.proofs.step_at.Lts as lts
-use Rattle.plain.proofs.symbol_step.Reads as symbol-step-reads
-use Rattle.term.proofs.decode.Reads as decode-reads
-use Rattle.term.proofs.extent.Reads as extent-reads
 
 -- src/lib.rt:236:29
 shared-slice-read-decode : tie.Need-shared-slice-read-decode

@@ -5,11 +5,6 @@ use Rattle.plain.proofs.Nodes.{symbol-none, symbol-differs, symbol-list
 use borrow.Author.Needs.{needs}
 use Rattle.plain.proofs.symbol_step.Statement.{statement}
 use Rattle.plain.proofs.symbol_step.Tie as tie
-use Rattle.plain.proofs.symbol_step.Reads as reads
-use Rattle.plain.proofs.symbol_step.Lts as lts
-use Rattle.plain.proofs.list_step.Reads as list-step-reads
-use Rattle.term.proofs.entry_of.Reads as entry-of-reads
-use Rattle.term.proofs.same_symbol.Reads as same-symbol-reads
 
 -- src/lib.rt:219:9
 returns : tie.Need-returns

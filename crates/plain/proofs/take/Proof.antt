@@ -2,12 +2,6 @@
 use borrow.Author.Needs.{needs}
 use Rattle.plain.proofs.take.Statement.{statement}
 use Rattle.plain.proofs.take.Tie as tie
-use Rattle.plain.proofs.take.Reads as reads
-use Rattle.plain.proofs.take.Lts as lts
-use Rattle.plain.proofs.wide.Reads as wide-reads
-use Rattle.plain.proofs.with.Reads as with-reads
-use Rattle.search.proofs.packed.Reads as packed-reads
-use Rattle.term.proofs.Part.bound.Reads as bound-reads
 
 -- src/lib.rt:275:9
 wide-requires : tie.Need-wide-requires

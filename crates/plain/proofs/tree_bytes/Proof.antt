@@ -4,10 +4,6 @@ use Rattle.plain.proofs.Among.{leaf-bytes}
 use borrow.Author.Needs.{needs}
 use Rattle.plain.proofs.tree_bytes.Statement.{statement}
 use Rattle.plain.proofs.tree_bytes.Tie as tie
-use Rattle.plain.proofs.tree_bytes.Reads as reads
-use Rattle.plain.proofs.tree_bytes.Lts as lts
-use Rattle.term.proofs.entry_of.Reads as entry-of-reads
-use Rattle.term.proofs.extent.Reads as extent-reads
 
 -- src/lib.rt:104:30
 shared-slice-read-entry-of : tie.Need-shared-slice-read-entry-of

@@ -2,12 +2,10 @@
 use native.Mathlib.Omega.{arith}
 use mathlib.Core.Path.{ap}
 use lib.Bits.{bitOr}
-use Rattle.search.proofs.Masks.{power-fits}
+use Rattle.parts.proofs.Masks.{power-fits}
 use borrow.Author.Needs.{needs}
 use Rattle.plain.proofs.with.Statement.{statement}
 use Rattle.plain.proofs.with.Tie as tie
-use Rattle.plain.proofs.with.Reads as reads
-use Rattle.plain.proofs.with.Lts as lts
 
 -- src/lib.rt:77:13
 shl-result : tie.Need-shl-result

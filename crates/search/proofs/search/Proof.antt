@@ -8,7 +8,8 @@ use Rattle.term.specs.Limits.{longestRecord, longestPattern}
 use Rattle.term.specs.Code.{variables}
 use Rattle.term.specs.Part.{absent}
 use Rattle.search.specs.Level.{startOf}
-use Rattle.search.specs.Inner.Memory.{partPlaces, Sized}
+use Rattle.parts.specs.Packed.{partPlaces}
+use Rattle.search.specs.Inner.Memory.{Sized}
 use Rattle.search.specs.Inner.Replies.{Decides}
 use Rattle.search.proofs.Kept.{first-holds}
 use Rattle.search.proofs.Levels.{search-within}
@@ -38,8 +39,8 @@ first-pair-requires c κs = search needs
 enum-known-first : tie.Need-enum-known-first
 enum-known-first c = search needs
 
-show-absent-requires : tie.Need-show-absent-requires
-show-absent-requires c κs = search needs
+show-unassigned-requires : tie.Need-show-unassigned-requires
+show-unassigned-requires c κs = search needs
 
 sub-t21 : tie.Need-sub-t21
 sub-t21 c =
@@ -54,7 +55,7 @@ returns-3 c =
     at-once-shows _ _ _ _ _ _ _ _ (omega arith) (omega arith)
     (subst (Decides _ _ _ _ _ _) (c .before .before .before .before .before .first .given .1)
     (c .before .before .before .before .before .before .before .first-pair .ensures))
-    (c .before .before .show-absent .ensures)
+    (c .before .before .show-unassigned .ensures)
 
 enum-told : tie.Need-enum-told
 enum-told c = search needs
@@ -68,8 +69,8 @@ start-level-requires c κs = rw (c .start .ensures) (
   record { of-pattern = omega arith; of-record = omega arith },
 )
 
-show-requires : tie.Need-show-requires
-show-requires c κs = search needs
+show-found-requires : tie.Need-show-found-requires
+show-found-requires c κs = search needs
 
 same-length-2 : tie.Need-same-length-2
 same-length-2 c = search needs
@@ -78,8 +79,8 @@ returns-4 : tie.Need-returns-4
 returns-4 c =
     let entered = c .before .before .before .before .before in
     let tested = entered .before .before .before .before .before .before .before .before .before in
-    within-shows _ _ _ _ _ _ _ _ _ _ _ (c .before .before .show .ensures)
-    (search-within _ _ _ _ _ _ _ (omega (arith, tested .before .if1 .left)) (omega (arith, tested .if2 .left)) sized (entered .before .start .ensures) (entered .start-level .ensures))
+    within-shows _ _ _ _ _ _ _ _ _ _ _ (c .before .before .show-found .ensures)
+    (search-within _ _ _ _ _ (omega (arith, tested .before .if1 .left)) (omega (arith, tested .if2 .left)) sized (entered .before .start .ensures) (entered .start-level .ensures))
 
 pub search-spec : {M : Type 1} → statement M
 search-spec =
@@ -89,13 +90,13 @@ search-spec =
     returns-2
     first-pair-requires
     enum-known-first
-    show-absent-requires
+    show-unassigned-requires
     sub-t21
     same-length
     returns-3
     enum-told
     start-requires
     start-level-requires
-    show-requires
+    show-found-requires
     same-length-2
     returns-4)

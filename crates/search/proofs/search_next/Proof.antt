@@ -8,7 +8,8 @@ use Rattle.term.specs.Limits.{longestPattern, longestRecord}
 use Rattle.term.specs.Code.{variables}
 use Rattle.term.specs.Part.{absent}
 use Rattle.search.specs.Level.{startOf}
-use Rattle.search.specs.Inner.Memory.{partPlaces, Sized}
+use Rattle.parts.specs.Packed.{partPlaces}
+use Rattle.search.specs.Inner.Memory.{Sized}
 use Rattle.search.proofs.Kept.{first-holds}
 use Rattle.search.proofs.Nexts.{next-over, next-uneven, next-known}
 use Rattle.search.proofs.search_next.Statement.{statement}
@@ -62,7 +63,7 @@ returns-4 c =
     let args = c .before .before .before .before .before .before .before .before .before .before .before .before .before .before .before .before .before .before .before .before .before .before .before .before .args in
     rw (c .left-of .ensures)
     (next-known (args .table .now) (args .classes .now) (args .pattern .now) (args .«record» .now) (args .given .now) (args .answer .now) (args .allowance)
-    (omega (arith, c .before .before .before .before .before .before .before .before .before .before .before .before .before .before .before .before .before .if1 .left)) (omega (arith, c .before .before .before .before .before .before .before .before .before .before .before .before .before .before .before .before .if2 .left)) (c .before .before .before .before .before .before .before .before .before .before .before .before .before .before .spread .ensures) (not-false _ (c .before .before .before .before .before .before .before .before .before .before .before .before .before .if3 .left)) _ _ sized _ _ _ _ _
+    (omega (arith, c .before .before .before .before .before .before .before .before .before .before .before .before .before .before .before .before .before .if1 .left)) (omega (arith, c .before .before .before .before .before .before .before .before .before .before .before .before .before .before .before .before .if2 .left)) (c .before .before .before .before .before .before .before .before .before .before .before .before .before .before .spread .ensures) (not-false _ (c .before .before .before .before .before .before .before .before .before .before .before .before .before .if3 .left)) _ _ sized _
     (rw (c .before .before .before .before .before .before .before .start .ensures) at (c .before .before .before .before .before .before .given-rest .ensures)) _ (c .before .before .before .show-known .ensures))
 
 pub search-next-spec : {M : Type 1} → statement M

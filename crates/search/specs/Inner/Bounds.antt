@@ -7,12 +7,13 @@ use lib.ListN.{length}
 use Rattle.term.specs.Code.{variables}
 use Rattle.term.specs.Limits.{longestRecord, longestPattern}
 use Rattle.search.specs.State.{State, walked, turns, walkOf}
-use Rattle.search.specs.Inner.Memory.{bit, Holds, Kept}
-use Rattle.search.specs.declared.Place.{Place}
-use Rattle.search.specs.declared.Marks.{Marks}
-use Rattle.search.specs.declared.Stop.{Stop}
-use Rattle.search.specs.declared.Stop.the-variants.{Failure, NoAllowance, NoPair, RunName}
-use Rattle.search.specs.declared.Reached.{Reached}
+use Rattle.parts.specs.Packed.{bit}
+use Rattle.search.specs.Inner.Lent.{Handed, Lent, lentOf, Held, Keeps}
+use Rattle.search.specs.declared.place.Place.{Place}
+use Rattle.search.specs.declared.marks.Marks.{Marks}
+use Rattle.steps.specs.declared.Stop.{Stop}
+use Rattle.steps.specs.declared.Stop.the-variants.{Failure, NoAllowance, NoPair, RunName}
+use Rattle.search.specs.declared.walk.Reached.{Reached}
 
 -- pattern and record keep document 01's limits
 pub record Short (pattern bytes : List ℕ) : Type 0 where
@@ -42,22 +43,29 @@ Unassigned assigned NoAllowance = Unit {0}
 Unassigned assigned NoPair = Unit {0}
 Unassigned assigned (RunName v) = bit assigned v ≡ false
 
--- the walk from the state s ends in another, which the buffers then hold
-pub record WalkIs (table classes pattern bytes : List ℕ) (assigned left : ℕ) (parts stack : List ℕ) (m : Marks) (p : Place)
-    (parts′ stack′ : List ℕ) (r : Reached) (s : State) : Type 0 where
+-- further on: the buffers hold a state of the level there, and what was in use stays
+pub record Moved (i : Handed) (e : Lent) (m : Marks) (p : Place) (x : Lent) (k : Marks) (q : Place) (s : State) : Type 0 where
+  pub holds : Held i x k q s
+  pub kept : Keeps e m x
+  pub still : (v : ℕ) → bit (e .assigned) v ≡ true → bit (x .assigned) v ≡ true
+  pub more-frames : m .frames ≤ k .frames
+  pub more-waiting : m .waiting ≤ k .waiting
+  pub same-first : k .first ≡ m .first
+  pub further : p .at ≤ q .at
+
+-- the pairs stop in a state of which something is so
+pub record Reaches (i : Handed) (e : Lent) (m : Marks) (p : Place) (parts stack : List ℕ) (r : Reached) (So : State → Type 0) : Type 0 where
   pub end : State
-  pub is : walkOf turns table classes pattern bytes s left ≡ walked (r .stop) (r .left) end
-  pub holds : Holds (length pattern) (length bytes) (r .assigned) parts′ stack′ (r .marks) (r .place) end
-  pub kept : Kept assigned m parts stack parts′ stack′
-  pub still : (v : ℕ) → bit assigned v ≡ true → bit (r .assigned) v ≡ true
-  pub more-frames : m .frames ≤ r .marks .frames
-  pub more-waiting : m .waiting ≤ r .marks .waiting
-  pub same-first : r .marks .first ≡ m .first
-  pub further : p .at ≤ r .place .at
-  pub stops : StopsAt (length pattern) (r .place) (r .stop)
+  pub so : So end
+  pub moved : Moved i e m p (lentOf (r .assigned) (r .left) parts stack) (r .marks) (r .place) end
+  pub stops : StopsAt (length (i .pattern)) (r .place) (r .stop)
   pub unassigned : Unassigned (r .assigned) (r .stop)
 
-abbrev pub Walks : List ℕ → List ℕ → List ℕ → List ℕ → ℕ → ℕ → List ℕ → List ℕ → Marks → Place → List ℕ → List ℕ → Reached → Type 0
-Walks table classes pattern bytes assigned left parts stack m p parts′ stack′ r =
-    (s : State) → Holds (length pattern) (length bytes) assigned parts stack m p s
-    → WalkIs table classes pattern bytes assigned left parts stack m p parts′ stack′ r s
+-- that the walk from the state s ends there
+abbrev pub WalkIs : Handed → Lent → Marks → Place → List ℕ → List ℕ → Reached → State → Type 0
+WalkIs i e m p parts stack r s =
+    Reaches i e m p parts stack r
+    (λ end. walkOf turns (i .table) (i .classes) (i .pattern) (i .bytes) s (e .left) ≡ walked (r .stop) (r .left) end)
+
+abbrev pub Walks : Handed → Lent → Marks → Place → List ℕ → List ℕ → Reached → Type 0
+Walks i e m p parts stack r = (s : State) → Held i e m p s → WalkIs i e m p parts stack r s

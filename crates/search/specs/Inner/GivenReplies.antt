@@ -1,19 +1,19 @@
 -- What the functions of the next answer reply.
-use Prim.Native.Nat.{ℕ, suc, _-_, _≤_}
+use Prim.Native.Nat.{ℕ, _-_}
 use mathlib.Core.Path.{_≡_}
 use mathlib.Core.List.{List}
 use mathlib.Core.Bool.{Bool, true, false}
 use lib.ListN.{length}
 use lib.Dec.{eqb}
 use Rattle.search.specs.State.{State}
-use Rattle.search.specs.Level.{failed, levelOf, levels}
+use Rattle.search.specs.Level.{failed, levels}
 use Rattle.search.specs.Given.{Pass, ends, unknown, furtherOf, givenBy, givenOf}
 use Rattle.search.specs.Spread.{freeIn, spreadTo}
-use Rattle.search.specs.Inner.Memory.{Holds, Kept}
-use Rattle.search.specs.Inner.Replies.{replyOf}
-use Rattle.search.specs.declared.Place.{Place}
-use Rattle.search.specs.declared.Marks.{Marks}
-use Rattle.search.specs.declared.Stop.{Stop}
+use Rattle.search.specs.Inner.Lent.{Handed, Lent, Change, levelsIn, levelIn}
+use Rattle.search.specs.Inner.Replies.{replyOf, replyIn, Replies}
+use Rattle.search.specs.declared.place.Place.{Place}
+use Rattle.search.specs.declared.marks.Marks.{Marks}
+use Rattle.steps.specs.declared.Stop.{Stop}
 use Rattle.search.specs.declared.Outcome.{Outcome}
 use Rattle.search.specs.declared.Outcome.the-variants.{Found, Failed, Spent}
 use Rattle.search.specs.declared.Known.{Known}
@@ -38,25 +38,25 @@ abbrev pub leftBy : Known → ℕ → ℕ → ℕ
 leftBy (Ended outcome) left allowance = left
 leftBy Unknown left allowance = allowance
 
+abbrev pub passIn : Known → Lent → Pass
+passIn known x = passBy known (x .left) (x .assigned) (x .parts)
+
+abbrev pub givenIn : Handed → List ℕ → ℕ → State → ℕ → Pass
+givenIn i g n = givenOf n (i .table) (i .classes) (i .bytes) (i .pattern) g
+
 -- the lengths after n, which has so many bytes
-pub record FurtherIs (table classes pattern bytes : List ℕ) (assigned left : ℕ) (parts stack : List ℕ) (v n size : ℕ) (m : Marks) (p : Place)
-    (outcome : Outcome) (assigned′ left′ : ℕ) (parts′ stack′ : List ℕ) : Type 0 where
-  pub replies : (s : State) → Holds (length pattern) (length bytes) assigned parts stack m p s → (k : ℕ) → levels pattern (p .at) ≤ suc k
-      → replyOf outcome left′ assigned′ parts′ ≡ furtherOf (levelOf k table classes bytes pattern) table bytes v s (p .elements - n) n size left
-  pub kept : Kept assigned m parts stack parts′ stack′
+abbrev pub FurtherIs : Handed → Change → ℕ → ℕ → ℕ → Marks → Place → Outcome → Type 0
+FurtherIs i c v n size m p outcome =
+    Replies replyIn i c m p outcome (levels (i .pattern) (p .at) - 1)
+    (λ s k. furtherOf (levelIn i k) (i .table) (i .bytes) v s (p .elements - n) n size (c .before .left))
 
-pub record GivenFollows (table classes pattern bytes g : List ℕ) (assigned left : ℕ) (parts stack : List ℕ) (stop : Stop) (m : Marks) (p : Place)
-    (known : Known) (assigned′ left′ : ℕ) (parts′ stack′ : List ℕ) : Type 0 where
-  pub replies : (s : State) → Holds (length pattern) (length bytes) assigned parts stack m p s → (k : ℕ) → levels pattern (p .at) ≤ suc k
-      → passBy known left′ assigned′ parts′
-      ≡ givenBy stop (givenOf k table classes bytes pattern g) (levelOf k table classes bytes) table pattern bytes g s left
-  pub kept : Kept assigned m parts stack parts′ stack′
+abbrev pub GivenFollows : Handed → List ℕ → Change → Stop → Marks → Place → Known → Type 0
+GivenFollows i g c stop m p known =
+    Replies passIn i c m p known (levels (i .pattern) (p .at) - 1)
+    (λ s k. givenBy stop (givenIn i g k) (levelsIn i k) (i .table) (i .pattern) (i .bytes) g s (c .before .left))
 
-pub record GivenIs (table classes pattern bytes g : List ℕ) (assigned left : ℕ) (parts stack : List ℕ) (m : Marks) (p : Place)
-    (known : Known) (assigned′ left′ : ℕ) (parts′ stack′ : List ℕ) : Type 0 where
-  pub replies : (s : State) → Holds (length pattern) (length bytes) assigned parts stack m p s → (k : ℕ) → levels pattern (p .at) ≤ k
-      → passBy known left′ assigned′ parts′ ≡ givenOf k table classes bytes pattern g s left
-  pub kept : Kept assigned m parts stack parts′ stack′
+abbrev pub GivenIs : Handed → List ℕ → Change → Marks → Place → Known → Type 0
+GivenIs i g c m p known = Replies passIn i c m p known (levels (i .pattern) (p .at)) (λ s k. givenIn i g k s (c .before .left))
 
 -- whether there is one for each, and if so they are put
 pub record SpreadIs (table pattern given out out′ : List ℕ) (r : Bool) : Type 0 where

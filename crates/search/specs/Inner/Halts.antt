@@ -7,15 +7,21 @@ use lib.ListN.{length, getD, set}
 use lib.Dec.{ltb}
 use Rattle.term.specs.Code.{variables}
 use Rattle.term.specs.Part.{boundPart}
-use Rattle.search.specs.State.{place}
-use Rattle.search.specs.Inner.Memory.{marks, packed, unpacked, Holding}
+use Rattle.search.specs.State.{place, placeFrom}
+use Rattle.parts.specs.Packed.{packed, unpacked}
+use Rattle.search.specs.Inner.Memory.{marks, marksOf, Holding}
+use Rattle.search.specs.Inner.Lent.{Handed, Lent, Change, lentOf, _⇒_}
 use Rattle.search.specs.Inner.Bounds.{reached, Walks}
 use Rattle.search.specs.Inner.Replies.{failure, Free, runStart, LevelIs, RestIs}
-use Rattle.search.specs.declared.Place.{Place}
-use Rattle.search.specs.declared.Marks.{Marks}
-use Rattle.search.specs.declared.Reached.{Reached}
-use Rattle.search.specs.declared.Stop.{Stop}
-use Rattle.search.specs.declared.Stop.the-variants.{Failure, NoAllowance, NoPair, RunName}
+use Rattle.search.specs.declared.place.Place.{Place}
+use Rattle.search.specs.declared.marks.Marks.{Marks}
+use Rattle.search.specs.declared.marks.Nodes.{Nodes}
+use Rattle.search.specs.declared.marks.Queue.{Queue}
+use Rattle.search.specs.declared.place.Remaining.{Remaining}
+use Rattle.search.specs.declared.place.Next.{Next}
+use Rattle.search.specs.declared.walk.Reached.{Reached}
+use Rattle.steps.specs.declared.Stop.{Stop}
+use Rattle.steps.specs.declared.Stop.the-variants.{Failure, NoAllowance, NoPair, RunName}
 use Rattle.search.specs.declared.Outcome.{Outcome}
 use Rattle.search.specs.declared.Outcome.the-variants.{Found, Failed, Spent}
 
@@ -65,27 +71,24 @@ Told true r parts outcome assigned′ parts′ = (outcome ≡ Failed) × (parts�
 Told false r parts outcome assigned′ parts′ = (assigned′ ≡ r .assigned) × Reports parts (r .stop) (r .marks) (r .place) outcome parts′
 
 -- what the walk reached, with these parts, and what is told of it
-pub record Halts (table classes pattern bytes : List ℕ) (assigned left : ℕ) (parts stack : List ℕ) (m : Marks) (p : Place)
-    (outcome : Outcome) (assigned′ left′ : ℕ) (parts′ stack′ : List ℕ) : Type 0 where
+pub record Halts (i : Handed) (c : Change) (m : Marks) (p : Place) (outcome : Outcome) : Type 0 where
   pub reached : Reached
-  pub parts₁ : List ℕ
-  pub walks : Walks table classes pattern bytes assigned left parts stack m p parts₁ stack′ reached
-  pub same-left : left′ ≡ reached .left
-  pub told : Told (failure (reached .stop)) reached parts₁ outcome assigned′ parts′
+  pub parts : List ℕ
+  pub walks : Walks i (c .before) m p parts (c .after .stack) reached
+  pub same-left : c .after .left ≡ reached .left
+  pub told : Told (failure (reached .stop)) reached parts outcome (c .after .assigned) (c .after .parts)
+
+-- or the level goes on
+pub record HaltsOr (halts : Bool) (i : Handed) (c : Change) (m : Marks) (p : Place) (outcome : Outcome) (Going : Type 0) : Type 0 where
+  pub halted : halts ≡ true → Halts i c m p outcome
+  pub going : halts ≡ false → Going
+
+abbrev pub RestBy : Bool → Handed → Change → Marks → Place → Outcome → Type 0
+RestBy halts i c m p outcome = HaltsOr halts i c m p outcome (RestIs i c m p outcome)
 
 -- one that halts gives no variable any element
 pub record Halting (halts : Bool) (v first most size : ℕ) : Type 0 where
   pub none : halts ≡ true → (v ≡ variables) × (first ≡ 0) × (most ≡ 0) × (size ≡ 0)
-
-pub record RestBy (halts : Bool) (table classes pattern bytes : List ℕ) (assigned left : ℕ) (parts stack : List ℕ) (m : Marks) (p : Place)
-    (outcome : Outcome) (assigned′ left′ : ℕ) (parts′ stack′ : List ℕ) : Type 0 where
-  pub halted : halts ≡ true → Halts table classes pattern bytes assigned left parts stack m p outcome assigned′ left′ parts′ stack′
-  pub going : halts ≡ false → RestIs table classes pattern bytes assigned left parts stack m p outcome assigned′ left′ parts′ stack′
-
-pub record LevelBy (halts : Bool) (table classes pattern bytes : List ℕ) (assigned left : ℕ) (parts stack : List ℕ) (v first size most : ℕ) (m : Marks) (p : Place)
-    (outcome : Outcome) (assigned′ left′ : ℕ) (parts′ stack′ : List ℕ) : Type 0 where
-  pub halted : halts ≡ true → Halts table classes pattern bytes assigned left parts stack m p outcome assigned′ left′ parts′ stack′
-  pub going : halts ≡ false → LevelIs table classes pattern bytes assigned left parts stack v first size most m p outcome assigned′ left′ parts′ stack′
 
 -- the place is behind the first of the lengths that v is given, v has them as its part, and they end where `least` elements are left
 pub record Begun (codes bytes assigned : ℕ) (parts stack : List ℕ) (v : ℕ) (halts : Bool) (least : ℕ) (m : Marks) (p : Place) : Type 0 where
@@ -104,18 +107,25 @@ pub record Begun (codes bytes assigned : ℕ) (parts stack : List ℕ) (v : ℕ)
   pub written : v < variables → getD parts v 0 ≡ packed (boundPart from (p .node - from) first)
   pub halting : Halting halts v first most (p .node - from)
 
+-- the same where marks and place are handed in halves
+abbrev pub BegunAt : ℕ → ℕ → ℕ → List ℕ → List ℕ → ℕ → Bool → ℕ → Nodes → Queue → Remaining → Next → Type 0
+BegunAt codes bytes assigned parts stack v halts least nodes queue remaining next =
+    Begun codes bytes assigned parts stack v halts least (marksOf nodes queue) (placeFrom remaining next)
+
 -- the level from there
-pub record Levels (table classes pattern bytes : List ℕ) (assigned left : ℕ) (parts stack : List ℕ) (v : ℕ) (halts : Bool) (least : ℕ) (m : Marks) (p : Place)
-    (outcome : Outcome) (assigned′ left′ : ℕ) (parts′ stack′ : List ℕ) : Type 0 where
-  pub from : (b : Begun (length pattern) (length bytes) assigned parts stack v halts least m p)
-      → LevelBy halts table classes pattern bytes assigned left parts stack v (b .first) (p .node - b .from) (b .most) m (runStart (b .first) (b .from) p)
-      outcome assigned′ left′ parts′ stack′
+pub record Levels (i : Handed) (c : Change) (v : ℕ) (halts : Bool) (least : ℕ) (m : Marks) (p : Place) (outcome : Outcome) : Type 0 where
+  pub from : (b : Begun (length (i .pattern)) (length (i .bytes)) (c .before .assigned) (c .before .parts) (c .before .stack) v halts least m p)
+      → HaltsOr halts i c m (runStart (b .first) (b .from) p) outcome
+      (LevelIs i c v (b .first) (p .node - b .from) (b .most) m (runStart (b .first) (b .from) p) outcome)
+
+abbrev pub LevelsAt : Handed → Change → ℕ → Bool → ℕ → Nodes → Queue → Remaining → Next → Outcome → Type 0
+LevelsAt i c v halts least nodes queue remaining next outcome =
+    Levels i c v halts least (marksOf nodes queue) (placeFrom remaining next) outcome
 
 -- what is read of a level that halts
-pub record PairsAre (table classes pattern bytes : List ℕ) (assigned left : ℕ) (parts stack : List ℕ) (m : Marks) (p : Place)
-    (parts′ stack′ : List ℕ) (r : Reached) : Type 0 where
+pub record PairsAre (i : Handed) (e : Lent) (m : Marks) (p : Place) (parts stack : List ℕ) (r : Reached) : Type 0 where
   pub outcome : Outcome
-  pub assigned₁ : ℕ
-  pub left₁ : ℕ
-  pub halts : Halts table classes pattern bytes assigned left parts stack m p outcome assigned₁ left₁ parts′ stack′
-  pub is : r ≡ reportedBy parts′ outcome left₁ assigned₁ (m .first)
+  pub assigned : ℕ
+  pub left : ℕ
+  pub halts : Halts i (e ⇒ lentOf assigned left parts stack) m p outcome
+  pub is : r ≡ reportedBy parts outcome left assigned (m .first)

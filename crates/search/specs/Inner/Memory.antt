@@ -1,39 +1,21 @@
 -- What the search keeps in the buffers that are lent to it, a part for each variable and a stack, and what a call leaves there. Nothing is undone:
 -- an entry that is still in use lies within the marks of every call that can change the buffers, or belongs to a variable that is assigned before it.
-use Prim.Native.Nat.{ℕ, suc, _+_, _-_, _*_, _/_, _%_, _^_, _<_, _≤_}
+use Prim.Native.Nat.{ℕ, suc, _+_, _-_, _/_, _%_, _<_, _≤_}
 use mathlib.Core.Path.{_≡_}
 use mathlib.Core.List.{List, [], _∷_}
-use mathlib.Core.Bool.{Bool, true, false, cond}
+use mathlib.Core.Bool.{true, false}
 use lib.ListN.{length, getD, set}
-use lib.Dec.{eqb}
 use Rattle.term.specs.Code.{variables}
 use Rattle.term.specs.Limits.{longestPattern}
-use Rattle.term.specs.Part.{part, absent, isAbsent}
-use Rattle.term.specs.declared.Part.{Part}
-use Rattle.search.specs.State.{Frame, PutBy, State, frame, putBy, partAt}
-use Rattle.search.specs.declared.Place.{Place}
-use Rattle.search.specs.declared.Marks.{Marks}
-use Rattle.search.specs.declared.Nodes.{Nodes}
-use Rattle.search.specs.declared.Queue.{Queue}
-
--- Variables: whether one is assigned is a bit of one number, its part is a number
-
-abbrev pub bit : ℕ → ℕ → Bool
-bit assigned v = eqb (assigned / 2 ^ v % 2) 1
-
-abbrev pub packed : Part → ℕ
-packed p = p .offset + 65536 * p .length + 4294967296 * p .elements
-
-abbrev pub unpacked : ℕ → Part
-unpacked x = part (x % 65536) (x / 65536 % 65536) (x / 4294967296 % 256)
-
-abbrev pub partIn : ℕ → List ℕ → ℕ → Part
-partIn assigned parts v = cond (bit assigned v) (unpacked (getD parts v 0)) absent
+use Rattle.term.specs.Part.{isAbsent}
+use Rattle.parts.specs.Packed.{bit, partIn, partPlaces}
+use Rattle.search.specs.State.{Frame, PutBy, State, frame, putBy, partInState}
+use Rattle.search.specs.declared.place.Place.{Place}
+use Rattle.search.specs.declared.marks.Marks.{Marks}
+use Rattle.search.specs.declared.marks.Nodes.{Nodes}
+use Rattle.search.specs.declared.marks.Queue.{Queue}
 
 -- The buffers: a part for each variable and three for where a level halts; a place in the stack for each byte of the longest pattern
-
-abbrev pub partPlaces : ℕ
-partPlaces = variables + 3
 
 abbrev pub stackPlaces : ℕ
 stackPlaces = longestPattern
@@ -124,12 +106,12 @@ pub record Sized (parts stack : List ℕ) : Type 0 where
 
 -- The invariant: the buffers hold the state s of a level, whose pattern has so many bytes, on a record of so many; every byte of the pattern that
 -- is left has room in the stack
-pub record Holds (codes bytes assigned : ℕ) (parts stack : List ℕ) (m : Marks) (p : Place) (s : State) : Type 0 where
+pub record LiesIn (codes bytes assigned : ℕ) (parts stack : List ℕ) (m : Marks) (p : Place) (s : State) : Type 0 where
   pub sized : Sized parts stack
   pub place : s .place ≡ p
   pub all-variables : length (s .parts) ≡ variables
-  pub shown : (v : ℕ) → v < variables → partAt s v ≡ partIn assigned parts v
-  pub present : (v : ℕ) → v < variables → bit assigned v ≡ true → isAbsent (partAt s v) ≡ false
+  pub shown : (v : ℕ) → v < variables → partInState s v ≡ partIn assigned parts v
+  pub present : (v : ℕ) → v < variables → bit assigned v ≡ true → isAbsent (partInState s v) ≡ false
   pub linked : Linked stack (m .inner) (s .frames)
   pub innermost : m .inner ≤ m .frames
   pub queued : Queued stack (m .first) (m .waiting) (s .waiting)
@@ -140,7 +122,7 @@ pub record Holds (codes bytes assigned : ℕ) (parts stack : List ℕ) (m : Mark
 
 pub record Holding (codes bytes assigned : ℕ) (parts stack : List ℕ) (m : Marks) (p : Place) : Type 0 where
   pub state : State
-  pub holds : Holds codes bytes assigned parts stack m p state
+  pub holds : LiesIn codes bytes assigned parts stack m p state
 
 -- The frame condition: what a call with these marks leaves alone
 pub record Kept (assigned : ℕ) (m : Marks) (parts stack parts′ stack′ : List ℕ) : Type 0 where

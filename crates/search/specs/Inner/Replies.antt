@@ -1,26 +1,28 @@
 -- What the functions of the search of levels reply, and what they ask for.
-use Prim.Native.Nat.{ℕ, zero, suc, _+_, _-_, _*_, _<_, _≤_}
+use Prim.Native.Nat.{ℕ, zero, suc, _+_, _-_, _<_, _≤_}
 use mathlib.Core.Path.{_≡_}
-use mathlib.Core.List.{List, [], _∷_}
+use mathlib.Core.List.{List}
 use mathlib.Core.Bool.{Bool, true, false, cond}
-use lib.ListN.{length, getD, drop, set}
+use lib.ListN.{length, getD, take, drop, set}
 use lib.Dec.{eqb}
 use Rattle.term.specs.Code.{variables}
 use Rattle.term.specs.Extent.{extentOf}
 use Rattle.term.specs.Part.{part, boundPart}
 use Rattle.term.specs.declared.Part.{Part}
 use Rattle.search.specs.State.{PutBy, State, place, state}
-use Rattle.search.specs.Level.{Reply, reply, failedAt, spentAt, startOf, orElse, insideOf, complementsOf, stopBy, levelOf, levels, endOf}
-use Rattle.search.specs.Shown.{entryWidth}
-use Rattle.search.specs.Inner.Memory.{bit, partIn, Holds, Holding, Kept}
-use Rattle.search.specs.declared.Place.{Place}
-use Rattle.search.specs.declared.Marks.{Marks}
-use Rattle.search.specs.declared.Stop.{Stop}
-use Rattle.search.specs.declared.Stop.the-variants.{Failure, NoAllowance, NoPair, RunName}
+use Rattle.search.specs.Level.{Reply, reply, failedAt, spentAt, startOf, orElse, complementsOf, stopBy, levelOf, levels, endOf}
+use Rattle.parts.specs.Packed.{bit, partIn, partsIn}
+use Rattle.search.specs.Inner.Memory.{Holding}
+use Rattle.search.specs.Inner.Lent.{Handed, Lent, Change, inputOf, Held, Keeps, levelsIn, levelIn}
+use Rattle.search.specs.declared.place.Place.{Place}
+use Rattle.search.specs.declared.marks.Marks.{Marks}
+use Rattle.steps.specs.declared.Stop.{Stop}
+use Rattle.steps.specs.declared.Stop.the-variants.{Failure, NoAllowance, NoPair, RunName}
 use Rattle.search.specs.declared.Outcome.{Outcome}
 use Rattle.search.specs.declared.Outcome.the-variants.{Found, Failed, Spent}
-use Rattle.search.specs.declared.First.{First}
-use Rattle.search.specs.declared.First.the-variants.{Decided, Unsure}
+use Rattle.search.specs.declared.Ended.{Ended}
+use Rattle.search.specs.declared.first.First.{First}
+use Rattle.search.specs.declared.first.First.the-variants.{Decided, Unsure}
 
 abbrev pub failure : Stop → Bool
 failure Failure = true
@@ -37,15 +39,6 @@ abbrev pub turned : Outcome → Outcome
 turned Found = Failed
 turned Failed = Found
 turned Spent = Spent
-
--- the parts of k variables from v on
-unfoldable pub partsIn : ℕ → List ℕ → ℕ → ℕ → List Part
-partsIn assigned parts v zero = []
-partsIn assigned parts v (suc k) = partIn assigned parts v ∷ partsIn assigned parts (v + 1) k
-
--- an entry written over the one of a variable
-abbrev pub setEntry : List ℕ → ℕ → Part → List ℕ
-setEntry l v p = set (set (set l (entryWidth * v) (p .offset)) (entryWidth * v + 1) (p .length)) (entryWidth * v + 2) (p .elements)
 
 -- the reply that outcome, allowance and parts shown stand for
 abbrev pub replyWith : Outcome → ℕ → List Part → Reply
@@ -121,37 +114,53 @@ abbrev pub DecidesInside : List ℕ → List ℕ → List ℕ → List ℕ → �
 DecidesInside table classes pattern bytes assigned parts node left (Decided outcome) = EndsInside table classes pattern bytes assigned parts node left outcome
 DecidesInside table classes pattern bytes assigned parts node left Unsure = Unit {0}
 
--- The replies: the definition's, with any number of levels that is enough, and what is left alone
+-- The replies
 
-pub record LevelIs (table classes pattern bytes : List ℕ) (assigned left : ℕ) (parts stack : List ℕ) (v first size most : ℕ) (m : Marks) (p : Place)
-    (outcome : Outcome) (assigned′ left′ : ℕ) (parts′ stack′ : List ℕ) : Type 0 where
-  pub replies : (s : State) → Holds (length pattern) (length bytes) assigned parts stack m p s → (n : ℕ) → levels pattern (p .at) ≤ n
-      → replyOf outcome left′ assigned′ parts′ ≡ triesOf (levelOf n table classes bytes pattern) table bytes v s (most - first) first size left
-  pub kept : Kept assigned m parts stack parts′ stack′
+-- a call that ends so replies what the definition says of whatever state the buffers hold before it, with any number of levels that is enough;
+-- and what is in use stays
+pub record Replies {E X : Type 0} (stands : E → Lent → X) (i : Handed) (c : Change) (m : Marks) (p : Place) (end : E) (enough : ℕ)
+    (means : State → ℕ → X) : Type 0 where
+  pub replies : (s : State) → Held i (c .before) m p s → (n : ℕ) → enough ≤ n → stands end (c .after) ≡ means s n
+  pub kept : Keeps (c .before) m (c .after)
 
-pub record RestIs (table classes pattern bytes : List ℕ) (assigned left : ℕ) (parts stack : List ℕ) (m : Marks) (p : Place)
-    (outcome : Outcome) (assigned′ left′ : ℕ) (parts′ stack′ : List ℕ) : Type 0 where
-  pub replies : (s : State) → Holds (length pattern) (length bytes) assigned parts stack m p s → (n : ℕ) → levels pattern (p .at) ≤ n
-      → replyOf outcome left′ assigned′ parts′ ≡ levelOf n table classes bytes pattern s left
-  pub kept : Kept assigned m parts stack parts′ stack′
+abbrev pub replyIn : Outcome → Lent → Reply
+replyIn outcome x = replyOf outcome (x .left) (x .assigned) (x .parts)
 
-pub record FollowIs (table classes pattern bytes : List ℕ) (assigned left : ℕ) (parts stack : List ℕ) (stop : Stop) (m : Marks) (p : Place)
-    (outcome : Outcome) (assigned′ left′ : ℕ) (parts′ stack′ : List ℕ) : Type 0 where
-  pub replies : (s : State) → Holds (length pattern) (length bytes) assigned parts stack m p s → (n : ℕ) → levels pattern (p .at) ≤ suc n
-      → replyOf outcome left′ assigned′ parts′ ≡ stopBy stop (levelOf n table classes bytes) table pattern bytes s left
-  pub kept : Kept assigned m parts stack parts′ stack′
+-- of a level whose variable v has its first elements, of so many bytes, and may have more
+abbrev pub LevelIs : Handed → Change → ℕ → ℕ → ℕ → ℕ → Marks → Place → Outcome → Type 0
+LevelIs i c v first size most m p outcome =
+    Replies replyIn i c m p outcome (levels (i .pattern) (p .at))
+    (λ s n. triesOf (levelIn i n) (i .table) (i .bytes) v s (most - first) first size (c .before .left))
 
-pub record ComplementIs (table classes pattern bytes : List ℕ) (assigned left : ℕ) (parts stack : List ℕ) (c : PutBy) (m : Marks)
-    (outcome : Outcome) (left′ : ℕ) (parts′ stack′ : List ℕ) : Type 0 where
-  pub replies : (shown : List Part)
-      → Holds (c .size) (length bytes) assigned parts stack (inside m) (place 1 1 0 (c .node)) (startOf shown (c .node))
-      → (n : ℕ) → levels pattern (length pattern) ≤ suc n
-      → (outcome ≡ turned (insideOf (levelOf n table classes bytes) pattern shown c left .outcome)) × (left′ ≡ insideOf (levelOf n table classes bytes) pattern shown c left .left)
-  pub kept : Kept assigned m parts stack parts′ stack′
+-- of the rest of a level
+abbrev pub RestIs : Handed → Change → Marks → Place → Outcome → Type 0
+RestIs i c m p outcome = Replies replyIn i c m p outcome (levels (i .pattern) (p .at)) (λ s n. levelIn i n s (c .before .left))
 
-pub record ComplementsAre (table classes pattern bytes : List ℕ) (assigned left : ℕ) (parts stack : List ℕ) (m : Marks)
-    (outcome : Outcome) (assigned′ left′ : ℕ) (parts′ stack′ : List ℕ) : Type 0 where
-  pub replies : (p : Place) (s : State) → Holds (length pattern) (length bytes) assigned parts stack m p s
-      → (n : ℕ) → levels pattern (length pattern) ≤ suc n
-      → replyOf outcome left′ assigned′ parts′ ≡ complementsOf (levelOf n table classes bytes) pattern (s .parts) (s .waiting) left
-  pub kept : Kept assigned m parts stack parts′ stack′
+-- of what follows where the pairs stop
+abbrev pub followIn : Handed → Stop → ℕ → State → ℕ → Reply
+followIn i stop n s left = stopBy stop (levelsIn i n) (i .table) (i .pattern) (i .bytes) s left
+
+abbrev pub FollowIs : Handed → Change → Stop → Marks → Place → Outcome → Type 0
+FollowIs i c stop m p outcome =
+    Replies replyIn i c m p outcome (levels (i .pattern) (p .at) - 1) (λ s n. followIn i stop n s (c .before .left))
+
+-- of a complement: how its inside ends, turned
+abbrev pub insideIn : Handed → PutBy → Handed
+insideIn i c = inputOf (i .table) (i .classes) (take (c .size) (drop (c .at + 1) (i .pattern))) (i .bytes)
+
+abbrev pub endIn : Outcome → Lent → Ended
+endIn outcome x = record { outcome = outcome; left = x .left }
+
+abbrev pub oppositeOf : Reply → Ended
+oppositeOf r = record { outcome = turned (r .outcome); left = r .left }
+
+abbrev pub ComplementIs : Handed → Change → PutBy → Marks → Outcome → Type 0
+ComplementIs i c d m outcome =
+    Replies endIn (insideIn i d) c (inside m) (place 1 1 0 (d .node)) outcome (levels (i .pattern) (length (i .pattern)) - 1)
+    (λ s n. oppositeOf (levelIn (insideIn i d) n s (c .before .left)))
+
+-- of those put by, wherever the pairs stopped
+abbrev pub ComplementsAre : Handed → Change → Marks → Outcome → Type 0
+ComplementsAre i c m outcome =
+    (p : Place) → Replies replyIn i c m p outcome (levels (i .pattern) (length (i .pattern)) - 1)
+    (λ s n. complementsOf (levelsIn i n) (i .pattern) (s .parts) (s .waiting) (c .before .left))

@@ -7,10 +7,11 @@ use mathlib.Core.Path.{_≡_, refl, sym, ap, _∙_}
 use lib.Seq.{length-take-le}
 use lib.ListN.{length, getD, take, drop, length-drop}
 use borrow.Author.Needs.{needs}
+use Rattle.term.proofs.Lists.{rest-part}
 use Rattle.sheet.specs.Writing.{split, sum}
 use Rattle.sheet.specs.Contents.{checkEach}
 use Rattle.sheet.proofs.Writings.{records-refused, records-read, records-end}
-use Rattle.sheet.proofs.Lengths.{sum-next, rest-part}
+use Rattle.sheet.proofs.Lengths.{sum-next}
 use Rattle.sheet.proofs.check_each.Statement.{statement}
 use Rattle.sheet.proofs.check_each.Tie as tie
 
@@ -77,7 +78,7 @@ loop-again c =
     let rest = turn .rest .now in
     let n = getD ns (turn .i) 0 in
     let more : length (take (length rest - n) (drop n rest)) ≡ sum (drop (turn .i + 1) ns) =
-    omega (arith, ap length (rest-part rest n), length-drop n rest, sum-next ns (turn .i) (c .before .before .before .before .before .before .loop-test .taken)) in
+    omega (arith, ap length (rest-part n rest), length-drop n rest, sum-next ns (turn .i) (c .before .before .before .before .before .before .loop-test .taken)) in
     let e = sym (c .before .before .before .read-entry .ensures) ∙ c .before .enum-told .given .1 in
     (omega arith, more, turn .inv .2 ∙ records-read (args .table .now) rest ns (turn .i) _ (c .before .before .before .before .before .before .loop-test .taken) e)
 

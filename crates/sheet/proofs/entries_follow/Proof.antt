@@ -6,14 +6,14 @@ use native.Mathlib.Omega.{arith}
 use mathlib.Core.Path.{_≡_, sym, _∙_}
 use lib.ListN.{length}
 use Rattle.sheet.specs.Sheet.{pastPairs}
-use Rattle.sheet.specs.Check.{followed}
+use Rattle.sheet.specs.Check.{entriesFollow}
 use Rattle.sheet.proofs.Words.{largestWord}
 use Rattle.sheet.proofs.Checks.{follow-apart, follow-empty, follow-next, follow-end}
 use Rattle.sheet.proofs.entries_follow.Statement.{statement}
 use Rattle.sheet.proofs.entries_follow.Tie as tie
 
 abbrev Inv-loop : tie.InvT-loop
-Inv-loop sheet n at₀ i₀ at i = (i ≤ n) × (at ≤ length sheet + largestWord + largestWord) × (followed sheet n 0 (pastPairs n) ≡ followed sheet (n - i) i at)
+Inv-loop sheet n at₀ i₀ at i = (i ≤ n) × (at ≤ length sheet + largestWord + largestWord) × (entriesFollow sheet n 0 (pastPairs n) ≡ entriesFollow sheet (n - i) i at)
 
 abbrev μ-loop : tie.MeasureT-loop
 μ-loop sheet n at₀ i₀ at i = n - i

@@ -23,17 +23,26 @@ add-output c = search needs
 slice-write-output-2 : tie.Need-slice-write-output-2
 slice-write-output-2 c = let h = rw (c .before .if1 .taken) at (c .before .before .before .pre .1) in rw length-set (omega (arith, h))
 
+add-result : tie.Need-add-result
+add-result c = search needs
+
+add-result-2 : tie.Need-add-result-2
+add-result-2 c = search needs
+
 same-length : tie.Need-same-length
 same-length c = search needs
 
 returns : tie.Need-returns
-returns c = rw (c .before .if1 .taken, add-one) refl
+returns c = rw (c .before .if1 .taken, add-one) (omega arith, refl)
+
+add-result-3 : tie.Need-add-result-3
+add-result-3 c = search needs
 
 same-length-2 : tie.Need-same-length-2
 same-length-2 c = search needs
 
 returns-2 : tie.Need-returns-2
-returns-2 c = rw (c .if1 .left) refl
+returns-2 c = rw (c .if1 .left) (refl, refl)
 
 pub put-own-spec : {M : Type 1} → statement M
 put-own-spec =
@@ -44,7 +53,10 @@ put-own-spec =
     shared-slice-read-output-2
     add-output
     slice-write-output-2
+    add-result
+    add-result-2
     same-length
     returns
+    add-result-3
     same-length-2
     returns-2)

@@ -32,14 +32,14 @@ stored-length-requires c κs = storable (c .before .before .before .before .befo
 returns-3 : tie.Need-returns-3
 returns-3 c = let o = storable (c .before .before .before .before .before .before .before .before .before .before .args .table .now) (c .before .before .before .before .before .before .before .before .before .before .args .record .now) (λ i. omega (arith, c .before .before .before .before .before .before .before .before .shared-slice-known2 .given i)) _ 0 (sym (c .before .before .before .before .before .before .check-table .ensures) ∙ not-false _ (c .before .before .before .before .before .if1 .left)) (sym (c .before .before .before .before .read-record .ensures) ∙ c .before .before .enum-told .given .1) in is-full (c .before .before .before .before .before .before .before .before .before .before .args .output .now) (store-ties (c .before .before .before .before .before .before .before .before .before .before .args .table .now) (c .before .before .before .before .before .before .before .before .before .before .args .record .now) (λ i. omega (arith, c .before .before .before .before .before .before .before .before .shared-slice-known2 .given i))) _ _ (o .is-stored) (omega (arith, c .if2 .taken, c .before .stored-length .ensures, o .size))
 
-put-trees-requires : tie.Need-put-trees-requires
-put-trees-requires c κs = let o = storable (c .before .before .before .before .before .before .before .before .before .before .before .args .table .now) (c .before .before .before .before .before .before .before .before .before .before .before .args .record .now) (λ i. omega (arith, c .before .before .before .before .before .before .before .before .before .shared-slice-known2 .given i)) _ _ (sym (c .before .before .before .before .before .before .before .check-table .ensures) ∙ not-false _ (c .before .before .before .before .before .before .if1 .left)) (sym (c .before .before .before .before .before .read-record .ensures) ∙ c .before .before .before .enum-told .given .1) in o .puts (omega (arith, c .before .if2 .left, c .before .before .stored-length .ensures, o .size))
+put-tree-requires : tie.Need-put-tree-requires
+put-tree-requires c κs = let o = storable (c .before .before .before .before .before .before .before .before .before .before .before .args .table .now) (c .before .before .before .before .before .before .before .before .before .before .before .args .record .now) (λ i. omega (arith, c .before .before .before .before .before .before .before .before .before .shared-slice-known2 .given i)) _ _ (sym (c .before .before .before .before .before .before .before .check-table .ensures) ∙ not-false _ (c .before .before .before .before .before .before .if1 .left)) (sym (c .before .before .before .before .before .read-record .ensures) ∙ c .before .before .before .enum-told .given .1) in o .puts (omega (arith, c .before .if2 .left, c .before .before .stored-length .ensures, o .size))
 
 same-length : tie.Need-same-length
 same-length c = search needs
 
 returns-4 : tie.Need-returns-4
-returns-4 c = let o = storable (c .before .before .before .before .before .before .before .before .before .before .before .before .before .before .args .table .now) (c .before .before .before .before .before .before .before .before .before .before .before .before .before .before .args .record .now) (λ i. omega (arith, c .before .before .before .before .before .before .before .before .before .before .before .before .shared-slice-known2 .given i)) _ 0 (sym (c .before .before .before .before .before .before .before .before .before .before .check-table .ensures) ∙ not-false _ (c .before .before .before .before .before .before .before .before .before .if1 .left)) (sym (c .before .before .before .before .before .before .before .before .read-record .ensures) ∙ c .before .before .before .before .before .before .enum-told .given .1) in is-written (c .before .before .before .before .before .before .before .before .before .before .before .before .before .before .args .output .now) (store-ties (c .before .before .before .before .before .before .before .before .before .before .before .before .before .before .args .table .now) (c .before .before .before .before .before .before .before .before .before .before .before .before .before .before .args .record .now) (λ i. omega (arith, c .before .before .before .before .before .before .before .before .before .before .before .before .shared-slice-known2 .given i))) _ _ (o .is-stored) _ _ (c .before .before .before .before .before .stored-length .ensures ∙ o .size) (c .before .before .before .before .if2 .left) (c .before .before .put-trees .ensures .1 ∙ ap (sets (c .before .before .before .before .before .before .before .before .before .before .before .before .before .before .args .output .now) 0) (o .put))
+returns-4 c = let o = storable (c .before .before .before .before .before .before .before .before .before .before .before .before .before .before .args .table .now) (c .before .before .before .before .before .before .before .before .before .before .before .before .before .before .args .record .now) (λ i. omega (arith, c .before .before .before .before .before .before .before .before .before .before .before .before .shared-slice-known2 .given i)) _ 0 (sym (c .before .before .before .before .before .before .before .before .before .before .check-table .ensures) ∙ not-false _ (c .before .before .before .before .before .before .before .before .before .if1 .left)) (sym (c .before .before .before .before .before .before .before .before .read-record .ensures) ∙ c .before .before .before .before .before .before .enum-told .given .1) in is-written (c .before .before .before .before .before .before .before .before .before .before .before .before .before .before .args .output .now) (store-ties (c .before .before .before .before .before .before .before .before .before .before .before .before .before .before .args .table .now) (c .before .before .before .before .before .before .before .before .before .before .before .before .before .before .args .record .now) (λ i. omega (arith, c .before .before .before .before .before .before .before .before .before .before .before .before .shared-slice-known2 .given i))) _ _ (o .is-stored) _ _ (c .before .before .before .before .before .stored-length .ensures ∙ o .size) (c .before .before .before .before .if2 .left) (c .before .before .put-tree .ensures ∙ ap (sets (c .before .before .before .before .before .before .before .before .before .before .before .before .before .before .args .output .now) 0) (o .put))
 
 pub store-spec : {M : Type 1} → statement M
 store-spec =
@@ -53,6 +53,6 @@ store-spec =
     enum-told
     stored-length-requires
     returns-3
-    put-trees-requires
+    put-tree-requires
     same-length
     returns-4)

@@ -1,0 +1,3 @@
+-- The laws of masks, packed parts and what is shown.
+pub mod Masks
+pub mod Shown

@@ -1,0 +1,3 @@
+-- What each variable is assigned, as numbers, and what is shown of it.
+pub mod Packed
+pub mod Shown

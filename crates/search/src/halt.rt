@@ -1,0 +1,99 @@
+// A level that halts reports where its pairs stop, as the numbers of three parts.
+use crate::Outcome;
+use crate::marks::Marks;
+use crate::place::Place;
+use crate::walk::Reached;
+use crate::walk::wide;
+use parts::PARTS;
+use parts::packed;
+use parts::unpacked;
+use steps::Stop;
+use term::Part;
+use term::VARIABLES;
+ghost use mathlib.Core.Path.{_≡_};
+ghost use Rattle.term.specs.Moment.{old, new};
+ghost use Rattle.search.specs.Inner.Halts.{haltedAs, runOf, stopIn, reportedBy, Reports};
+
+// The outcome of a level that halts.
+fn halted(stop: Stop) -> Outcome
+    ensures { λ r. ⌜ r ≡ haltedAs stop ⌝ }
+{
+    match stop {
+        Stop::Failure => Outcome::Failed,
+        Stop::NoAllowance => Outcome::Spent,
+        Stop::NoPair => Outcome::Found,
+        Stop::RunName(_) => Outcome::Found,
+    }
+}
+
+// The run name of a stop, or `VARIABLES` for none.
+fn run_of(stop: Stop) -> usize
+    ensures { λ r. ⌜ r ≡ runOf stop ⌝ }
+{
+    match stop {
+        Stop::Failure => VARIABLES,
+        Stop::NoAllowance => VARIABLES,
+        Stop::NoPair => VARIABLES,
+        Stop::RunName(v) => wide(v),
+    }
+}
+
+// Where a level halts, as the numbers of three parts.
+pub(crate) fn report(parts: &mut [u64; PARTS], stop: Stop, marks: Marks, place: Place) -> Outcome
+    ensures { λ r. ⌜ Reports (old parts) stop marks place r (new parts) ⌝ }
+{
+    parts[VARIABLES + 2] = packed(Part::bound(marks.waiting, run_of(stop), 0));
+    parts[VARIABLES + 1] = packed(Part::bound(marks.inner, marks.frames, place.children));
+    parts[VARIABLES] = packed(Part::bound(place.node, place.at, place.elements));
+    halted(stop)
+}
+
+// The stop of an outcome, at a run name or none.
+fn stop_of(outcome: Outcome, run: u16) -> Stop
+    ensures { λ r. ⌜ r ≡ stopIn outcome run ⌝ }
+{
+    match outcome {
+        Outcome::Failed => Stop::Failure,
+        Outcome::Spent => Stop::NoAllowance,
+        Outcome::Found => {
+            if (run as usize) < VARIABLES {
+                return Stop::RunName((run % 256) as u8);
+            }
+            Stop::NoPair
+        }
+    }
+}
+
+// What a level that halts reported.
+pub(crate) fn reported(
+    parts: &[u64; PARTS],
+    outcome: Outcome,
+    left: u32,
+    assigned: u64,
+    first: usize,
+) -> Reached
+    ensures { λ r. ⌜ r ≡ reportedBy (old parts) outcome left assigned first ⌝ }
+{
+    let here = unpacked(parts[VARIABLES]);
+    let open = unpacked(parts[VARIABLES + 1]);
+    let put_by = unpacked(parts[VARIABLES + 2]);
+    let marks = Marks {
+        inner: open.offset as usize,
+        frames: open.length as usize,
+        first: first,
+        waiting: put_by.offset as usize,
+    };
+    let place = Place {
+        children: open.elements,
+        elements: here.elements,
+        at: here.length as usize,
+        node: here.offset as usize,
+    };
+    Reached::of(
+        stop_of(outcome, put_by.length),
+        left,
+        assigned,
+        marks,
+        place,
+    )
+}

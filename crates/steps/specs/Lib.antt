@@ -1,0 +1,2 @@
+-- One turn of the search on bytes.
+pub mod Turn
