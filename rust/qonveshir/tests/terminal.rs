@@ -12,6 +12,8 @@ use std::io::Read;
 use std::os::fd::{AsRawFd, FromRawFd};
 use std::path::Path;
 use std::process::Stdio;
+#[cfg(feature = "link")]
+use std::time::{Duration, Instant};
 
 extern "C" {
     fn posix_openpt(flags: c_int) -> c_int;
@@ -124,25 +126,51 @@ so far @0 = open, ";
     fs::remove_dir_all(folder).unwrap();
 }
 
+/// What is told of the first of ever longer works of which anything is told. How long a work takes
+/// is the machine's affair, but none may take ten seconds untold.
+#[cfg(feature = "link")]
+fn first_told<T>(works: std::ops::RangeInclusive<u32>, told: impl Fn(u32) -> Option<T>) -> T {
+    let told_in_time = |size| {
+        let start = Instant::now();
+        let told = told(size);
+        assert!(told.is_some() || start.elapsed() < Duration::from_secs(10), "nothing was told");
+        told
+    };
+    works.into_iter().find_map(told_in_time).expect("the longest work takes over a second")
+}
+
+/// A rule that tries its run names' lengths, nearly each by itself, on a list of like elements.
+#[cfg(feature = "link")]
+const LONG_RULE: &str = "gates(@0, !?0, @1, ?0, @2, !?0, @3, ?0, @4, !?0, @5, ?0)";
+
+#[cfg(feature = "link")]
+fn long_match<'a>(state: &'a str, allowance: &'a str) -> [&'a str; 6] {
+    ["match", "--allowance", allowance, SYMBOLS, LONG_RULE, state]
+}
+
 // The independent implementation, in this build, takes far longer for as many steps.
 #[cfg(feature = "link")]
 #[test]
 fn tells_how_far_it_is() {
     let folder = folder("progress");
     let state = format!("gates({})", vec!["open"; 250].join(", "));
-    let rule = "gates(@0, @1, @2, @3, @4, @5, @6, held)";
-    // Some seconds of steps, of which each takes a few nanoseconds.
-    let call = ["match", "--allowance", "1000000000", SYMBOLS, rule, &state];
-    let output = program(&folder, &call).output().unwrap();
-    assert_eq!(String::from_utf8(output.stdout).unwrap(), "spent 1000000000\n");
-    let told = String::from_utf8(output.stderr).unwrap();
-    let first = told.lines().next().unwrap_or("");
+    let told = first_told(0..=7, |size| {
+        let allowance = (20_000_000_u32 << size).to_string();
+        let output = program(&folder, &long_match(&state, &allowance)).output().unwrap();
+        assert_eq!(String::from_utf8(output.stdout).unwrap(), format!("spent {allowance}\n"));
+        Some(String::from_utf8(output.stderr).unwrap()).filter(|told| !told.is_empty())
+    });
+    let first = told.lines().next().unwrap();
     assert!(first.starts_with("qonveshir: matching, ") && first.ends_with(" s"), "{told:?}");
-    let text = shown(&folder, 80, &[], &call);
-    assert!(text.contains("\rqonveshir: matching, ") && text.contains(" s\x1b[K"), "{text:?}");
-    assert!(text.ends_with("\r\x1b[K\x1b[31mspent\x1b[0m 1000000000\n"), "{text:?}");
-    let quick = ["match", "--allowance", "1000", SYMBOLS, rule, &state];
-    assert!(program(&folder, &quick).output().unwrap().stderr.is_empty());
+    let told = first_told(0..=7, |size| {
+        let allowance = (20_000_000_u32 << size).to_string();
+        let text = shown(&folder, 80, &[], &long_match(&state, &allowance));
+        let told = text.strip_suffix(&format!("\x1b[31mspent\x1b[0m {allowance}\n"));
+        told.map(str::to_string).filter(|told| !told.is_empty())
+    });
+    assert!(told.starts_with("\rqonveshir: matching, ") && told.contains(" s\x1b[K"), "{told:?}");
+    assert!(told.ends_with("\r\x1b[K"), "{told:?}");
+    assert!(program(&folder, &long_match(&state, "1000")).output().unwrap().stderr.is_empty());
     fs::remove_dir_all(folder).unwrap();
 }
 
@@ -152,13 +180,16 @@ fn tells_how_far_a_report_is() {
     let folder = folder("long-report");
     let put = |name: &str, text: String| fs::write(folder.join(name), text).unwrap();
     put("symbols.txt", SYMBOLS.into());
-    put("rules.txt", "gates(@0, open, @1, open, @2, held, @3)\n".repeat(64));
-    put("states.txt", format!("gates({})\n", vec!["open"; 40].join(", ")).repeat(700));
-    assert!(program(&folder, &["pack", "folder", "."]).output().unwrap().status.success());
-    let output = program(&folder, &["report", "."]).output().unwrap();
-    let last = format!("699 - none {}\n", 64 * 22_222);
-    assert!(String::from_utf8(output.stdout).unwrap().ends_with(&last));
-    let told = String::from_utf8(output.stderr).unwrap();
+    put("states.txt", format!("gates({})\n", vec!["open"; 18].join(", ")).repeat(700));
+    let told = first_told(0..=6, |size| {
+        let rules = 1 << size;
+        put("rules.txt", format!("{LONG_RULE}\n").repeat(rules));
+        assert!(program(&folder, &["pack", "folder", "."]).output().unwrap().status.success());
+        let output = program(&folder, &["report", "."]).output().unwrap();
+        let last = format!("699 - none {}\n", rules * 81_163);
+        assert!(String::from_utf8(output.stdout).unwrap().ends_with(&last));
+        Some(String::from_utf8(output.stderr).unwrap()).filter(|told| !told.is_empty())
+    });
     assert!(told.starts_with("qonveshir: states matched, "), "{told:?}");
     assert!(told.lines().next().unwrap().contains(" of 700, "), "{told:?}");
     fs::remove_dir_all(folder).unwrap();
