@@ -1,4 +1,4 @@
--- Reading without frames: a tree with fewer than 32 nodes that have children is not nested deeper than 32.
+-- Reading without frames: a symbol without children; a tree with fewer than 32 nodes that have children, which is not nested deeper than 32.
 use Prim.Native.Nat.{ℕ, zero, suc, _+_, _-_, _≤_, _<_}
 use native.Mathlib.Omega.{arith}
 use mathlib.Core.Path.{_≡_, refl, sym, ap, _∙_}
@@ -8,18 +8,44 @@ use lib.ListN.{length, getD, drop, length-drop}
 use lib.Seq.{getD-drop}
 use lib.Dec.{eqb}
 use borrow.Author.Tests.{lt-ltb, le-ltb, eqb-true, eq-eqb, ne-eqb}
-use Rattle.term.specs.Table.{list}
+use Rattle.term.specs.Code.{decodeOf}
+use Rattle.term.specs.Table.{list, largestTable}
 use Rattle.term.specs.Limits.{nesting, longestRecord}
 use Rattle.term.specs.declared.Code.the-variants.{Symbol}
 use Rattle.reader.specs.Frame.{frame}
 use Rattle.reader.specs.Node.{openNode, nodeAt}
-use Rattle.reader.specs.Reading.{shown, readTree, readWhole, Shallow}
+use Rattle.reader.specs.Reading.{shown, readTree, readWhole, SurelyRead}
 use Rattle.reader.specs.declared.Frame.{Frame}
 use Rattle.reader.specs.declared.Node.the-variants.{Open}
 use Rattle.reader.specs.declared.Read.the-variants.{Ends}
 use Rattle.reader.proofs.Nodes.{node-open}
-use Rattle.reader.proofs.Steps.{whole-tree, whole-all}
+use Rattle.reader.proofs.Steps.{plus, tree-open, all-none, whole-tree, whole-all}
 use Rattle.reader.proofs.Frames.{restOf, ToCome, whole-to-come, children-to-come, none-to-come, skip}
+
+-- what is known of a test that passes
+surely : (records : Bool) (table s : List ℕ) (b : Bool) → (b ≡ true → shown (readWhole records table s) ≡ Ends (length s)) → SurelyRead records table s b
+surely records table s true h = h refl
+surely records table s false h = tt
+
+-- A symbol without children
+
+module _ (table s : List ℕ) (b : ℕ) (one : length s ≡ 1) (is : b ≡ getD s 0 0) (below : b < largestTable) (known : b < length table) where
+  leaf-node : getD table b 0 ≡ 0 → nodeAt table false false nesting s ≡ Open 1 (getD table b 0) false (nesting - 1)
+  unfolding decodeOf openNode
+  leaf-node z =
+      node-open table false false nesting s (Symbol b) (λ e. omega arith) (rw (← is, lt-ltb b largestTable below)) (lt-ltb b (length table) known) (λ e. omega arith)
+      ∙ rw (ne-eqb (getD table b 0) list (λ e. omega arith))
+
+  pub leaf-read : SurelyRead false table s (eqb (getD table b 0) 0)
+  leaf-read =
+      surely false table s (eqb (getD table b 0) 0) (λ e.
+      let z = eqb-true (getD table b 0) 0 e in
+      ap shown (whole-tree false table s (omega arith))
+      ∙ whole-all s (readTree table false nesting false s) (length s)
+      (tree-open table false nesting false s (leaf-node z) ∙ ap (plus 1) (all-none (readTree table false (nesting - 1) false) (getD table b 0) (drop 1 s) z) ∙ ap Ends (sym one))
+      (omega arith) (omega arith))
+
+-- Fewer than 32 nodes with children
 
 -- the trees of all frames
 abbrev total : List Frame → ℕ
@@ -74,17 +100,13 @@ module _ (table s : List ℕ) where
   none-left at (f ∷ fs) z l = none-left at fs (omega (arith, z)) (skip table true s f fs at (omega (arith, z)) l)
 
   -- all trees are read
-  pub passing-ends : {at end parents : ℕ} → Passing at end parents → end ≤ at → length s ≤ longestRecord → Shallow table s (eqb at (length s))
+  pub passing-ends : {at end parents : ℕ} → Passing at end parents → end ≤ at → length s ≤ longestRecord → SurelyRead true table s (eqb at (length s))
   passing-ends {at} {end} i h k =
-      by (eqb at (length s)) (λ e.
+      surely true table s (eqb at (length s)) (λ e.
       let z = eqb-true at (length s) e in
       ap shown (whole-tree true table s k)
       ∙ whole-all s (readTree table true nesting false s) (length s) (none-left at (i .frames) (omega (arith, h, i .trees)) (i .to-come) ∙ ap Ends z)
       (omega arith) (omega arith))
-    where
-      by : (b : Bool) → (b ≡ true → shown (readWhole true table s) ≡ Ends (length s)) → Shallow table s b
-      by true h = h refl
-      by false h = tt
 
   -- the node of a symbol that is in the table
   module _ (at b : ℕ) (within : at < length s) (is : b ≡ getD s at 0) (known : b < length table) (inList : Bool) (left : ℕ) (low : 0 < left) where

@@ -87,10 +87,10 @@ unfoldable pub readWhole : Bool → List ℕ → List ℕ → Parsed Tree
 readWhole records table s =
     cond (leb (length s) (longest records)) (unlessSpare s (readTree table records nesting false s)) (refused Long)
 
--- true where s is known to be a record; false says nothing
-abbrev pub Shallow : List ℕ → List ℕ → Bool → Type 0
-Shallow table s true = shown (readWhole true table s) ≡ Ends (length s)
-Shallow table s false = Unit {0}
+-- true where s is known to be one tree; false says nothing
+abbrev pub SurelyRead : Bool → List ℕ → List ℕ → Bool → Type 0
+SurelyRead records table s true = shown (readWhole records table s) ≡ Ends (length s)
+SurelyRead records table s false = Unit {0}
 
 unfoldable pub mapParsed : {A B : Type 0} → (A → B) → Parsed A → Parsed B
 mapParsed f (refused r) = refused r

@@ -1,5 +1,6 @@
 // The checks of a node, and the readers of records and patterns: which bytes are accepted, and where what they stand for ends.
 use term::Code;
+use term::LARGEST_TABLE;
 use term::LIST;
 use term::LONGEST_PATTERN;
 use term::LONGEST_RECORD;
@@ -14,7 +15,7 @@ ghost use Rattle.term.specs.Code.{codeIn};
 ghost use Rattle.term.specs.Limits.{nesting, longest};
 ghost use Rattle.reader.specs.Node.{listNode, unlessDeep, codeNode, nodeAt};
 ghost use Rattle.reader.specs.Frame.{frame};
-ghost use Rattle.reader.specs.Reading.{shown, readNumber, readLength, readTree, HandsOn, readWhole, Shallow, readRecord, readPattern};
+ghost use Rattle.reader.specs.Reading.{shown, readNumber, readLength, readTree, HandsOn, readWhole, SurelyRead, readRecord, readPattern};
 
 // The most frames around a tree that is being read.
 pub const FRAMES: usize = NESTING as usize;
@@ -254,10 +255,33 @@ fn longest_of(records: bool) -> usize
     }
 }
 
+// Whether s is surely a pattern: a symbol without children needs no frames. A record is never asked.
+fn is_leaf(records: bool, table: &[u8], s: &[u8]) -> bool
+    ensures { λ r. ⌜ SurelyRead records (old table) (old s) r ⌝ }
+{
+    if records {
+        return false;
+    }
+    if s.len() != 1 {
+        return false;
+    }
+    let i = wide(s[0]);
+    if LARGEST_TABLE <= i {
+        return false;
+    }
+    if table.len() <= i {
+        return false;
+    }
+    table[i] == 0
+}
+
 // The whole of s as one tree.
 fn read_whole(records: bool, table: &[u8], s: &[u8]) -> Read
     ensures { λ r. ⌜ r ≡ shown (readWhole records (old table) (old s)) ⌝ }
 {
+    if is_leaf(records, table, s) {
+        return Read::Ends(s.len());
+    }
     if longest_of(records) < s.len() {
         return Read::Refused(Refusal::Long);
     }
@@ -273,7 +297,7 @@ fn read_whole(records: bool, table: &[u8], s: &[u8]) -> Read
 
 // Whether s is surely a record: with fewer than 32 lists and other nodes that have children, a tree is not nested deeper than 32 and needs no frames.
 fn is_shallow(table: &[u8], s: &[u8]) -> bool
-    ensures { λ r. ⌜ Shallow (old table) (old s) r ⌝ }
+    ensures { λ r. ⌜ SurelyRead true (old table) (old s) r ⌝ }
 {
     if LONGEST_RECORD < s.len() {
         return false;
