@@ -43,7 +43,7 @@ use Rattle.matcher.specs.declared.Check.the-variants.{Passed, Failed}
 use Rattle.plain.specs.Bytes.{plainFrom, Ending, tieringOf, tierOn, rootMayHold, noParts, toldEnding, shownEnding}
 use Rattle.plain.specs.Call.{AcceptedPlain, plainTrees, plainChecked, plainOf, plainBufferOf}
 use Rattle.plain.specs.Check.{isPlain}
-use Rattle.plain.specs.Demands.{PlainExact, PlainAnswered, PlainDemanded, PlainCalled}
+use Rattle.plain.specs.Demands.{PlainExact, PlainAnswered, PlainDemanded}
 use Rattle.plain.specs.Plain.{Plain}
 use Rattle.plain.specs.Tier.{wholeTier, shownTier, plainAnswer}
 use Rattle.plain.specs.declared.Tiering.{Tiering}
@@ -167,8 +167,14 @@ module _ (table : List ℕ) (brought : Option (List ℕ)) (pattern bytes before 
     answered = λ wide classed q t i p. rw (accepted-passes wide classed q t i p) (plain-answered wide classed q t i p);
   }
 
+  -- answer, final buffer and demands in one
+  abbrev pub PlainCalled : Answer → List ℕ → Type 0
+  PlainCalled a after =
+      (a ≡ plainOf table brought pattern bytes (length before))
+      × ((after ≡ plainBufferOf table brought pattern bytes before) × PlainDemanded table brought pattern bytes before a after)
+
   -- where a check fails
-  fails-called : (r : Refusal) → Failed r ≡ checkOf (plainChecked table brought pattern bytes (length before)) → PlainCalled table brought pattern bytes before (Refused r) before
+  fails-called : (r : Refusal) → Failed r ≡ checkOf (plainChecked table brought pattern bytes (length before)) → PlainCalled (Refused r) before
   unfolding plainOf plainBufferOf
   fails-called r e =
       let c = check-failed (plainChecked table brought pattern bytes (length before)) r e in
@@ -176,21 +182,21 @@ module _ (table : List ℕ) (brought : Option (List ℕ)) (pattern bytes before 
 
   -- the pattern's own
   pub first-called : {k : Check} {r : Refusal} → k ≡ checkOf (ruleChecked table brought pattern (length before)) → k ≡ Failed r
-      → PlainCalled table brought pattern bytes before (Refused r) before
+      → PlainCalled (Refused r) before
   first-called {k} {r} e f = fails-called r (first-fails table brought pattern bytes (length before) r (sym f ∙ e))
 
   module _ (rule : Passed ≡ checkOf (ruleChecked table brought pattern (length before))) where
-    pub plain-called : plainFrom table pattern false 0 ≡ false → PlainCalled table brought pattern bytes before (Refused NotPlain) before
+    pub plain-called : plainFrom table pattern false 0 ≡ false → PlainCalled (Refused NotPlain) before
     plain-called h = fails-called NotPlain (plain-fails table brought pattern bytes (length before) pattern-octets rule h)
 
     module _ (is-plain : plainFrom table pattern false 0 ≡ true) where
-      pub record-called : (r : Refusal) → shownRead (readRecord table bytes) ≡ Read.Refused r → PlainCalled table brought pattern bytes before (Refused r) before
+      pub record-called : (r : Refusal) → shownRead (readRecord table bytes) ≡ Read.Refused r → PlainCalled (Refused r) before
       record-called r h = fails-called r (record-fails table brought pattern bytes (length before) pattern-octets rule is-plain r h)
 
       -- the tier takes the class list that is brought, or an empty one
       pub passes-called : (m : ℕ) → shownRead (readRecord table bytes) ≡ Ends m → (classes : List ℕ) → classes ≡ classesOf brought → (a : Answer) (after : List ℕ)
           → (a ≡ toldEnding (tierOn table classes pattern bytes noParts)) × (after ≡ shownEnding (tierOn table classes pattern bytes noParts) before)
-          → length after ≡ length before → PlainCalled table brought pattern bytes before a after
+          → length after ≡ length before → PlainCalled a after
       unfolding plainOf plainBufferOf
       passes-called m ends classes same a after h =
           let e = all-pass table brought pattern bytes (length before) pattern-octets rule is-plain m ends in

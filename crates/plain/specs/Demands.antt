@@ -17,12 +17,11 @@ use Rattle.anti_pattern.specs.Language.{Language}
 use Rattle.anti_pattern.specs.Meaning.{Assignment}
 use Rattle.anti_pattern.specs.Search.{firstAnswer, whole}
 use Rattle.link.specs.Input.{Input}
-use Rattle.call.specs.Brought.{classesOf, languageOf, broughtAccepted}
+use Rattle.call.specs.Brought.{languageOf, broughtAccepted}
 use Rattle.call.specs.Demands.{Handled}
-use Rattle.matcher.specs.Call.{answerNumber, answerCount, ruleChecked, checkOf, answerOf, bufferOf}
+use Rattle.matcher.specs.Call.{answerNumber, answerCount, answerOf, bufferOf}
 use Rattle.matcher.specs.Demands.{Shows}
 use Rattle.matcher.specs.declared.Answer.{Answer}
-use Rattle.matcher.specs.declared.Check.the-variants.{Passed}
 use Rattle.parts.specs.Shown.{answerWidth}
 use Rattle.plain.specs.Call.{AcceptedPlain, plainOf, plainBufferOf}
 use Rattle.plain.specs.Plain.{Plain}
@@ -62,15 +61,3 @@ pub record PlainDemanded (table : List ℕ) (brought : Option (List ℕ)) (patte
       → (q : Pattern) → patternBytes table q [] ≡ pattern → PatternAccepted table q → (Plain q → ⊥) → answerNumber a ≡ numberOf NotPlain
   pub answered : answerWidth ≤ length before → broughtAccepted table brought ≡ true → (q : Pattern) (t : Term) → Input table pattern bytes q t → Plain q
       → PlainAnswered table brought pattern bytes before q t a after
-
--- answer, final buffer and demands in one; by a pattern that passed its own checks. Only a private function's contract cites them
-
-abbrev pub PlainCalled : List ℕ → Option (List ℕ) → List ℕ → List ℕ → List ℕ → Answer → List ℕ → Type 0
-PlainCalled table brought pattern bytes before a after =
-    (a ≡ plainOf table brought pattern bytes (length before))
-    × ((after ≡ plainBufferOf table brought pattern bytes before) × PlainDemanded table brought pattern bytes before a after)
-
-abbrev pub RuleMatched : List ℕ → List ℕ → List ℕ → List ℕ → List ℕ → Answer → List ℕ → Type 0
-RuleMatched table classes pattern bytes before a after =
-    (brought : Option (List ℕ)) → classes ≡ classesOf brought → Passed ≡ checkOf (ruleChecked table brought pattern (length before))
-    → PlainCalled table brought pattern bytes before a after

@@ -26,7 +26,7 @@ ghost use Rattle.search.specs.Given.{elementsOf};
 ghost use Rattle.parts.specs.Packed.{bit, packed};
 ghost use Rattle.plain.specs.Bytes.{alsoRun, runsAmong, noRuns, runCode, runBytes, isLeaf, isSingle, Singles, SurelyPlain, weightOf, weightsOf, rootBytes, IfFew, leavesOf, lookVariable, lookList, lookSymbol, lookOf, LookWithin, plainFrom, listOf, symbolOf, turnOf, TurnWithin, mayHold, rootMayHold, tieringOf, tierOn, noParts, toldEnding, shownEnding};
 ghost use Rattle.plain.specs.Call.{plainOf, plainBufferOf};
-ghost use Rattle.plain.specs.Demands.{PlainDemanded, RuleMatched};
+ghost use Rattle.plain.specs.Demands.{PlainDemanded};
 
 // How many run names there are, and the variable of the last of them.
 pub struct Runs {
@@ -581,30 +581,6 @@ fn match_checked(
     Answer::Bound(count)
 }
 
-// The match by a pattern that passed its own checks, with those that follow: whether it is plain, and the record's.
-fn match_rule(
-    table: &[u8],
-    classes: &[u8],
-    pattern: &[u8],
-    record: &[u8],
-    answer: &mut [u16],
-) -> Answer
-    requires { ⌜ length (now pattern) ≤ longestPattern ⌝ }
-    ensures { λ r. ⌜ RuleMatched (old table) (old classes) (old pattern) (old «record») (old answer) r (new answer) ⌝ }
-{
-    if !is_plain(table, pattern) {
-        return Answer::Refused(Refusal::NotPlain);
-    }
-    let s = reader::read_record(table, record);
-    if let Read::Refused(r) = s {
-        return Answer::Refused(r);
-    }
-    if !root_may_hold(classes, pattern, record) {
-        return Answer::None(1);
-    }
-    match_checked(table, classes, pattern, record, answer)
-}
-
 // The match of a plain pattern against a record, with every check.
 pub fn match_plain(table: &[u8], pattern: &[u8], record: &[u8], answer: &mut [u16]) -> Answer
     ensures is { λ r. ⌜ r ≡ plainOf (old table) none (old pattern) (old «record») (length (old answer)) ⌝ }
@@ -615,7 +591,19 @@ pub fn match_plain(table: &[u8], pattern: &[u8], record: &[u8], answer: &mut [u1
     let checks = check_rule(table, false, classes, pattern, answer.len());
     match checks {
         Check::Failed(r) => Answer::Refused(r),
-        Check::Passed => match_rule(table, classes, pattern, record, answer),
+        Check::Passed => {
+            if !is_plain(table, pattern) {
+                return Answer::Refused(Refusal::NotPlain);
+            }
+            let s = reader::read_record(table, record);
+            if let Read::Refused(r) = s {
+                return Answer::Refused(r);
+            }
+            if !root_may_hold(classes, pattern, record) {
+                return Answer::None(1);
+            }
+            match_checked(table, classes, pattern, record, answer)
+        }
     }
 }
 
@@ -634,6 +622,18 @@ pub fn match_plain_with_classes(
     let checks = check_rule(table, true, classes, pattern, answer.len());
     match checks {
         Check::Failed(r) => Answer::Refused(r),
-        Check::Passed => match_rule(table, classes, pattern, record, answer),
+        Check::Passed => {
+            if !is_plain(table, pattern) {
+                return Answer::Refused(Refusal::NotPlain);
+            }
+            let s = reader::read_record(table, record);
+            if let Read::Refused(r) = s {
+                return Answer::Refused(r);
+            }
+            if !root_may_hold(classes, pattern, record) {
+                return Answer::None(1);
+            }
+            match_checked(table, classes, pattern, record, answer)
+        }
     }
 }
