@@ -16,7 +16,7 @@ use Rattle.term.specs.declared.Code.{Code}
 use Rattle.term.specs.declared.Code.the-variants.{Symbol, Name, Run, Complement}
 use Rattle.term.proofs.Codes.{decode-below}
 use Rattle.term.proofs.Extents.{span-none, span-fixed}
-use Rattle.plain.specs.Bytes.{sumOf, runs, alsoRun, runsAmong, noRuns, runCode, runBytes}
+use Rattle.plain.specs.Bytes.{sumOf, runs, alsoRun, runsAmong, noRuns, runCode}
 use Rattle.plain.specs.declared.Runs.{Runs}
 
 -- one code more
@@ -89,6 +89,9 @@ module _ (table s : List ℕ) (n : ℕ) where
 
 -- no list has more run names than there are codes of run names
 
+abbrev pub runBytes : List ℕ → ℕ
+runBytes = sumOf runCode
+
 also-number : (c : Code) (found : Runs) → alsoRun c found .number ≡ found .number + runCode c
 also-number (Symbol b) found = omega arith
 also-number (Name v) found = omega arith
@@ -110,22 +113,12 @@ among-bytes table (b ∷ s) (suc n) found =
     let k = cond (eqb (entryOf table b) list) (spanOf table s true 0) (spanOf table s false (entryOf table b + 0)) in
     omega (arith, among-bytes table (drop k s) n (alsoRun (decodeOf b) found), also-number (decodeOf b) found, bytes-behind k s)
 
-pub part-bytes : (at : ℕ) (s : List ℕ) (most : ℕ) → runBytes s ≤ most → runBytes (take (length s - at) (drop at s)) ≤ most
-part-bytes at s most e =
-    let i : runBytes (take (length s - at) (drop at s)) ≡ runBytes (drop at s) = ap runBytes (rest-part at s) in
-    omega (arith, bytes-behind at s)
-
 pub here-once : (c : Code) → runCode c ≤ 1
 here-once (Symbol b) = omega arith
 here-once (Name v) = omega arith
 here-once (Run v) = omega arith
 here-once Complement = omega arith
 here-once Code.Refused = omega arith
-
-pub bytes-length : (s : List ℕ) → runBytes s ≤ length s
-unfolding sumOf
-bytes-length [] = omega arith
-bytes-length (b ∷ s) = omega (arith, here-once (decodeOf b), bytes-length s)
 
 -- a sum over the codes of s, each of which comes to so much at most
 module _ (f : Code → ℕ) (most : ℕ) (each : (c : Code) → f c ≤ most) (s : List ℕ) where

@@ -5,7 +5,6 @@ pub mod Counting
 pub mod Checking
 pub mod Among
 pub mod Nodes
-pub mod Light
 pub mod Holding
 pub mod Sight
 pub mod Turns

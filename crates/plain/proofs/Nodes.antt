@@ -18,13 +18,13 @@ use Rattle.term.specs.declared.Code.{Code}
 use Rattle.term.specs.declared.Code.the-variants.{Symbol, Name, Run, Complement}
 use Rattle.term.proofs.Codes.{decode-below}
 use Rattle.parts.specs.Packed.{bit}
-use Rattle.plain.specs.Bytes.{runsAmong, noRuns, runCode, runBytes, isSingle, mayHold, rootMayHold, lookList, lookSymbol, lookVariable, lookBy, lookOf, LookWithin, listStep, listOf, symbolOf, turnBy, turnOf, TurnWithin}
+use Rattle.plain.specs.Bytes.{runsAmong, noRuns, mayHold, rootMayHold, lookList, lookSymbol, lookVariable, lookBy, lookOf, LookWithin, listStep, listOf, symbolOf, turnBy, turnOf, TurnWithin}
 use Rattle.plain.specs.declared.Runs.{Runs}
 use Rattle.plain.specs.declared.Look.{Look}
 use Rattle.plain.specs.declared.Look.the-variants.{NotPlain, Passes}
 use Rattle.plain.specs.declared.Turn.{Turn}
 use Rattle.plain.specs.declared.Turn.the-variants.{Fails, Enters, Notes}
-use Rattle.plain.proofs.Among.{bytes-behind, among-bytes}
+use Rattle.plain.proofs.Among.{runBytes, bytes-behind, among-bytes}
 
 -- a variable's number is one of those of the answer buffer
 pub name-below : (b : ℕ) (c : Code) (v : ℕ) → c ≡ decodeOf b → c ≡ Name v → v < variables
@@ -48,18 +48,15 @@ variable-within q seen v h x e = subst (LookWithin q) (sym e) (go (bit seen v))
     go true = tt
     go false = (omega arith, omega arith, omega arith)
 
-pub single-by : (table : List ℕ) (c : Code) (b e : ℕ) → c ≡ Symbol b → e ≡ entryOf table b → not (eqb e list) ≡ isSingle table c
-single-by table c b e h i = rw (h, i)
-
 module _ (table q : List ℕ) (seen : ℕ) where
   pub look-short : length q < 2 → NotPlain ≡ lookList table q seen
   unfolding lookList
   look-short h = rw (lt-ltb (length q) 2 h)
 
   -- where the bytes have fewer than two codes of run names
-  pub look-seldom : 2 ≤ length q → (most : ℕ) → runBytes q ≤ most → most < 2 → Passes seen 2 ≡ lookList table q seen
+  pub look-seldom : 2 ≤ length q → runBytes q < 2 → Passes seen 2 ≡ lookList table q seen
   unfolding lookList
-  look-seldom wide most h k =
+  look-seldom wide h =
       let few : runsAmong table (drop 2 q) (getD q 1 0) noRuns .number ≤ 1 =
       omega (arith, among-bytes table (drop 2 q) (getD q 1 0) noRuns, bytes-behind 2 q) in
       rw (le-ltb (length q) 2 wide, le-ltb 1 (runsAmong table (drop 2 q) (getD q 1 0) noRuns .number) few)
@@ -89,14 +86,6 @@ module _ (table q : List ℕ) (seen : ℕ) where
   pub look-by : (c d : Code) → c ≡ decodeOf (getD q 0 0) → c ≡ d → (x : Look) → x ≡ lookBy d table q seen → x ≡ lookOf table q seen
   unfolding lookOf
   look-by c d e f x h = h ∙ ap (λ (y : Code). lookBy y table q seen) (sym f ∙ e)
-
-  -- a symbol with no number behind it
-  pub single-passes : (c : Code) → isSingle table c ≡ true → (lookBy c table q seen ≡ Passes seen 1) × (runCode c ≡ 0)
-  single-passes (Symbol b) h = (sym (look-other b (entryOf table b) refl (eqb-false (entryOf table b) list (not-true (eqb (entryOf table b) list) h))), refl)
-  single-passes (Name v) h = absurd (false≢true h)
-  single-passes (Run v) h = absurd (false≢true h)
-  single-passes Complement h = absurd (false≢true h)
-  single-passes Code.Refused h = absurd (false≢true h)
 
 -- The tier
 

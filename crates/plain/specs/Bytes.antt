@@ -3,7 +3,7 @@
 use Prim.Native.Nat.{ℕ, zero, suc, _+_, _-_, _^_, _<_, _≤_}
 use mathlib.Core.Path.{_≡_}
 use mathlib.Core.List.{List, [], _∷_}
-use mathlib.Core.Bool.{Bool, true, false, cond, not}
+use mathlib.Core.Bool.{Bool, true, false, cond}
 use lib.Bits.{bitOr}
 use lib.ListN.{length, getD, drop, set, replicate}
 use lib.Dec.{eqb, ltb}
@@ -52,16 +52,12 @@ unfoldable pub sumOf : (Code → ℕ) → List ℕ → ℕ
 sumOf f [] = 0
 sumOf f (b ∷ s) = f (decodeOf b) + sumOf f s
 
--- how many bytes of s are codes of run names
 abbrev pub runCode : Code → ℕ
 runCode (Symbol b) = 0
 runCode (Name v) = 0
 runCode (Run v) = 1
 runCode Complement = 0
 runCode Code.Refused = 0
-
-abbrev pub runBytes : List ℕ → ℕ
-runBytes = sumOf runCode
 
 -- a symbol without children
 abbrev pub isLeaf : List ℕ → Code → Bool
@@ -83,6 +79,14 @@ lookSymbol table q seen b = cond (eqb (entryOf table b) list) (lookList table q 
 
 abbrev pub lookVariable : ℕ → ℕ → Look
 lookVariable seen v = cond (bit seen v) NotPlain (Passes (bitOr seen (2 ^ v)) 1)
+
+-- a byte taken for a code
+abbrev pub lookByte : Code → ℕ → Look
+lookByte (Symbol b) seen = Passes seen 1
+lookByte (Name v) seen = lookVariable seen v
+lookByte (Run v) seen = lookVariable seen v
+lookByte Complement seen = NotPlain
+lookByte Code.Refused seen = NotPlain
 
 -- a pattern node, whose bytes stand at the start of q, after the variables of this mask: those after it, and the bytes of its own
 abbrev pub lookBy : Code → List ℕ → List ℕ → ℕ → Look
@@ -124,26 +128,9 @@ rootBytes table (Run v) = 0
 rootBytes table Complement = 0
 rootBytes table Code.Refused = 0
 
--- a symbol with no number behind it
-abbrev pub isSingle : List ℕ → Code → Bool
-isSingle table (Symbol b) = not (eqb (entryOf table b) list)
-isSingle table (Name v) = false
-isSingle table (Run v) = false
-isSingle table Complement = false
-isSingle table Code.Refused = false
-
--- the first n bytes of s need no look: they change neither the check nor the number of run names
-abbrev pub Singles : List ℕ → List ℕ → ℕ → Type 0
-Singles table s n =
-    (n ≤ length s) × ((seen : ℕ) → plainFrom table s false seen ≡ plainFrom table (drop n s) false seen) × (runBytes s ≡ runBytes (drop n s))
-
 -- what one pass tells: true of plain patterns only
 abbrev pub SurelyPlain : List ℕ → List ℕ → Bool → Type 0
 SurelyPlain table s told = told ≡ true → plainFrom table s false 0 ≡ true
-
--- told of bytes with at most so many codes of run names
-abbrev pub IfFew : List ℕ → ℕ → Look → Look → Type 0
-IfFew q most r x = runBytes q ≤ most → r ≡ x
 
 -- its own bytes are one or two of q
 abbrev pub LookWithin : List ℕ → Look → Type 0

@@ -18,13 +18,13 @@ ghost use Prim.Native.Nat.{_+_, _^_, _<_, _≤_};
 ghost use lib.Bits.{bitOr};
 ghost use lib.ListN.{length, set};
 ghost use Rattle.term.specs.Moment.{old, new};
-ghost use Rattle.term.specs.Code.{variables};
+ghost use Rattle.term.specs.Code.{variables, VariableBelow};
 ghost use Rattle.term.specs.Extent.{extentOf};
 ghost use Rattle.term.specs.Limits.{longestPattern};
 ghost use Rattle.term.specs.Part.{boundPart};
 ghost use Rattle.search.specs.Given.{elementsOf};
 ghost use Rattle.parts.specs.Packed.{bit, packed};
-ghost use Rattle.plain.specs.Bytes.{alsoRun, runsAmong, noRuns, runCode, runBytes, isLeaf, isSingle, Singles, SurelyPlain, weightOf, weightsOf, rootBytes, IfFew, leavesOf, lookVariable, lookList, lookSymbol, lookOf, LookWithin, plainFrom, listOf, symbolOf, turnOf, TurnWithin, mayHold, rootMayHold, tieringOf, tierOn, noParts, toldEnding, shownEnding};
+ghost use Rattle.plain.specs.Bytes.{alsoRun, runsAmong, noRuns, runCode, isLeaf, SurelyPlain, weightOf, weightsOf, rootBytes, leavesOf, lookVariable, lookByte, lookList, lookSymbol, lookOf, LookWithin, plainFrom, listOf, symbolOf, turnOf, TurnWithin, mayHold, rootMayHold, tieringOf, tierOn, noParts, toldEnding, shownEnding};
 ghost use Rattle.plain.specs.Call.{plainOf, plainBufferOf};
 ghost use Rattle.plain.specs.Demands.{PlainDemanded};
 
@@ -160,29 +160,13 @@ fn run_here(code: Code) -> usize
     }
 }
 
-// How many bytes of s are codes of run names; no list in s has more run names.
-fn run_bytes(s: &[u8]) -> usize
-    ensures { λ r. ⌜ (r ≡ runBytes (old s)) × (r ≤ length (old s)) ⌝ }
-{
-    let mut found: usize = 0;
-    let mut at: usize = 0;
-    while at < s.len() {
-        found = found + run_here(term::decode(s[at]));
-        at = at + 1;
-    }
-    found
-}
-
-// A list whose bytes start q: it has at most one run name. Where q has at most one code of a run name, none is counted.
-fn look_list(table: &[u8], q: &[u8], seen: u64, most: usize) -> Look
-    ensures is { λ r. ⌜ IfFew (old q) most r (lookList (old table) (old q) seen) ⌝ }
+// A list whose bytes start q: it has at most one run name.
+fn look_list(table: &[u8], q: &[u8], seen: u64) -> Look
+    ensures is { λ r. ⌜ r ≡ lookList (old table) (old q) seen ⌝ }
     ensures within { λ r. ⌜ LookWithin (old q) r ⌝ }
 {
     if q.len() < 2 {
         return Look::NotPlain;
-    }
-    if most < 2 {
-        return Look::Passes(seen, 2);
     }
     let runs = runs_among(table, &q[2..], q[1]);
     if 1 < runs.number {
@@ -191,13 +175,13 @@ fn look_list(table: &[u8], q: &[u8], seen: u64, most: usize) -> Look
     Look::Passes(seen, 2)
 }
 
-fn look_symbol(table: &[u8], q: &[u8], seen: u64, b: u8, most: usize) -> Look
+fn look_symbol(table: &[u8], q: &[u8], seen: u64, b: u8) -> Look
     requires { ⌜ 0 < length (now q) ⌝ }
-    ensures is { λ r. ⌜ IfFew (old q) most r (lookSymbol (old table) (old q) seen b) ⌝ }
+    ensures is { λ r. ⌜ r ≡ lookSymbol (old table) (old q) seen b ⌝ }
     ensures within { λ r. ⌜ LookWithin (old q) r ⌝ }
 {
     if term::entry_of(table, b) == LIST {
-        return look_list(table, q, seen, most);
+        return look_list(table, q, seen);
     }
     Look::Passes(seen, 1)
 }
@@ -214,66 +198,19 @@ fn look_variable(seen: u64, v: u8) -> Look
 }
 
 // The pattern node that starts q.
-fn look_at(table: &[u8], q: &[u8], seen: u64, most: usize) -> Look
+fn look_at(table: &[u8], q: &[u8], seen: u64) -> Look
     requires { ⌜ 0 < length (now q) ⌝ }
-    ensures is { λ r. ⌜ IfFew (old q) most r (lookOf (old table) (old q) seen) ⌝ }
+    ensures is { λ r. ⌜ r ≡ lookOf (old table) (old q) seen ⌝ }
     ensures within { λ r. ⌜ LookWithin (old q) r ⌝ }
 {
     let code = term::decode(q[0]);
     match code {
-        Code::Symbol(b) => look_symbol(table, q, seen, b, most),
+        Code::Symbol(b) => look_symbol(table, q, seen, b),
         Code::Name(v) => look_variable(seen, v),
         Code::Run(v) => look_variable(seen, v),
         Code::Complement => Look::NotPlain,
         Code::Refused => Look::NotPlain,
     }
-}
-
-// Whether a code is a symbol with no number behind it.
-fn is_single(table: &[u8], code: Code) -> bool
-    ensures { λ r. ⌜ r ≡ isSingle (old table) code ⌝ }
-{
-    match code {
-        Code::Symbol(b) => term::entry_of(table, b) != LIST,
-        Code::Name(_) => false,
-        Code::Run(_) => false,
-        Code::Complement => false,
-        Code::Refused => false,
-    }
-}
-
-// How many bytes at the start of s are symbols with no number behind them; none of them needs a look.
-fn singles(table: &[u8], s: &[u8]) -> usize
-    ensures { λ r. ⌜ Singles (old table) (old s) r ⌝ }
-{
-    let mut at: usize = 0;
-    while at < s.len() {
-        if !is_single(table, term::decode(s[at])) {
-            return at;
-        }
-        at = at + 1;
-    }
-    at
-}
-
-// One pass for patterns with one run name at most: no list has two.
-fn surely_plain(table: &[u8], pattern: &[u8]) -> bool
-    ensures { λ r. ⌜ SurelyPlain (old table) (old pattern) r ⌝ }
-{
-    let mut at = singles(table, pattern);
-    let mut seen: u64 = 0;
-    let mut runs: usize = 0;
-    while at < pattern.len() {
-        let found = look_at(table, &pattern[at..], seen, 1);
-        let Look::Passes(next, width) = found else {
-            return false;
-        };
-        seen = next;
-        runs = runs + run_bytes(&pattern[at..at + width]);
-        at = at + width;
-        at = at + singles(table, &pattern[at..]);
-    }
-    runs < 2
 }
 
 fn weight(code: Code) -> u16
@@ -341,6 +278,47 @@ fn is_light(table: &[u8], pattern: &[u8]) -> bool
     weights(&pattern[own..]) < 2
 }
 
+// A byte taken for a code, whether it is one or a number of children.
+fn look_byte(code: Code, seen: u64) -> Look
+    requires { ⌜ VariableBelow code ⌝ }
+    ensures { λ r. ⌜ r ≡ lookByte code seen ⌝ }
+{
+    match code {
+        Code::Symbol(_) => Look::Passes(seen, 1),
+        Code::Name(v) => look_variable(seen, v),
+        Code::Run(v) => look_variable(seen, v),
+        Code::Complement => Look::NotPlain,
+        Code::Refused => Look::NotPlain,
+    }
+}
+
+// A pattern of no complement and one run name at most, with no variable twice, by its bytes alone: no list has two run names.
+fn is_distinct(table: &[u8], pattern: &[u8]) -> bool
+    ensures { λ r. ⌜ SurelyPlain (old table) (old pattern) r ⌝ }
+{
+    let n = pattern.len();
+    if n == 0 {
+        return false;
+    }
+    if term::entry_of(table, pattern[n - 1]) == LIST {
+        return false;
+    }
+    let mut at = root_bytes(table, term::decode(pattern[0]));
+    let mut seen: u64 = 0;
+    let mut runs: usize = 0;
+    while at < n {
+        let code = term::decode(pattern[at]);
+        let found = look_byte(code, seen);
+        let Look::Passes(next, _) = found else {
+            return false;
+        };
+        seen = next;
+        runs = runs + run_here(code);
+        at = at + 1;
+    }
+    runs < 2
+}
+
 // Whether a pattern that passed its checks is plain.
 fn is_plain(table: &[u8], pattern: &[u8]) -> bool
     ensures { λ r. ⌜ r ≡ plainFrom (old table) (old pattern) false 0 ⌝ }
@@ -348,13 +326,13 @@ fn is_plain(table: &[u8], pattern: &[u8]) -> bool
     if is_light(table, pattern) {
         return true;
     }
-    if surely_plain(table, pattern) {
+    if is_distinct(table, pattern) {
         return true;
     }
     let mut at: usize = 0;
     let mut seen: u64 = 0;
     while at < pattern.len() {
-        let found = look_at(table, &pattern[at..], seen, pattern.len());
+        let found = look_at(table, &pattern[at..], seen);
         let Look::Passes(next, width) = found else {
             return false;
         };

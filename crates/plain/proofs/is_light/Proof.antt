@@ -4,7 +4,7 @@ use mathlib.Core.Path.{_∙_, ap}
 use mathlib.Core.Bool.{false≢true}
 use borrow.Author.Needs.{needs}
 use Rattle.plain.specs.Bytes.{rootBytes}
-use Rattle.plain.proofs.Light.{root-within, light-pattern}
+use Rattle.plain.proofs.Sight.{root-within, light-pattern}
 use Rattle.plain.proofs.is_light.Statement.{statement}
 use Rattle.plain.proofs.is_light.Tie as tie
 

@@ -3,11 +3,10 @@ use Prim.Native.Nat.{_-_}
 use native.Mathlib.Omega.{arith}
 use mathlib.Core.Path.{_≡_, refl, sym, _∙_, subst}
 use mathlib.Core.Bool.{false}
-use lib.ListN.{length, take, drop}
+use lib.ListN.{length, drop}
 use borrow.Author.Needs.{needs}
 use Rattle.term.proofs.Lists.{rest-length}
-use Rattle.plain.specs.Bytes.{lookOf, LookWithin, plainFrom}
-use Rattle.plain.proofs.Among.{part-bytes, bytes-length}
+use Rattle.plain.specs.Bytes.{LookWithin, plainFrom}
 use Rattle.plain.proofs.Turns.{plain-end, plain-stops, plain-passes}
 use Rattle.plain.proofs.is_plain.Statement.{statement}
 use Rattle.plain.proofs.is_plain.Tie as tie
@@ -24,11 +23,11 @@ is-light-requires c κs = search needs
 returns : tie.Need-returns Inv-loop μ-loop
 returns c = sym (c .before .is-light .ensures (c .if1 .taken))
 
-surely-plain-requires : tie.Need-surely-plain-requires Inv-loop μ-loop
-surely-plain-requires c κs = search needs
+is-distinct-requires : tie.Need-is-distinct-requires Inv-loop μ-loop
+is-distinct-requires c κs = search needs
 
 returns-2 : tie.Need-returns-2 Inv-loop μ-loop
-returns-2 c = sym (c .before .surely-plain .ensures (c .if2 .taken))
+returns-2 c = sym (c .before .is-distinct .ensures (c .if2 .taken))
 
 loop-holds : tie.Need-loop-holds Inv-loop μ-loop
 loop-holds c = refl
@@ -45,10 +44,6 @@ part-look-at-end c = omega arith
 look-at-requires : tie.Need-look-at-requires Inv-loop μ-loop
 look-at-requires c κs = omega (arith, c .before .loop-test .taken, rest-length (c .before .before .loop .at) (c .before .before .before .before .before .before .before .before .before .args .pattern .now))
 
--- what the look tells
-looked : (c : tie.After-look-at Inv-loop μ-loop) → c .look-at .result ≡ lookOf (c .before .before .before .before .before .before .before .before .before .before .args .table .now) (take (length (c .before .before .before .before .before .before .before .before .before .before .args .pattern .now) - c .before .before .before .loop .at) (drop (c .before .before .before .loop .at) (c .before .before .before .before .before .before .before .before .before .before .args .pattern .now))) (c .before .before .before .loop .seen)
-looked c = c .look-at .ensures .0 (part-bytes (c .before .before .before .loop .at) (c .before .before .before .before .before .before .before .before .before .before .args .pattern .now) _ (bytes-length (c .before .before .before .before .before .before .before .before .before .before .args .pattern .now)))
-
 enum-known-found : tie.Need-enum-known-found Inv-loop μ-loop
 enum-known-found c = search needs
 
@@ -56,7 +51,7 @@ enum-told : tie.Need-enum-told Inv-loop μ-loop
 enum-told c = search needs
 
 returns-3 : tie.Need-returns-3 Inv-loop μ-loop
-returns-3 c = sym (c .before .before .before .before .before .loop .inv ∙ plain-stops _ _ _ _ (c .before .before .before .before .loop-test .taken) _ (looked (c .before .before)) (c .enum-told .given .1))
+returns-3 c = sym (c .before .before .before .before .before .loop .inv ∙ plain-stops _ _ _ _ (c .before .before .before .before .loop-test .taken) _ (c .before .before .look-at .ensures .0) (c .enum-told .given .1))
 
 add-at : tie.Need-add-at Inv-loop μ-loop
 add-at c =
@@ -71,7 +66,7 @@ loop-less c =
 loop-again : tie.Need-loop-again Inv-loop μ-loop
 loop-again c =
     let w = subst (LookWithin _) (c .before .found .given .1) (c .before .before .before .look-at .ensures .1) in
-    c .before .before .before .before .before .before .loop .inv ∙ plain-passes _ _ _ _ (c .before .before .before .before .before .loop-test .taken) _ (looked (c .before .before .before)) _ _ (c .before .found .given .1) (w .0) (w .1)
+    c .before .before .before .before .before .before .loop .inv ∙ plain-passes _ _ _ _ (c .before .before .before .before .before .loop-test .taken) _ (c .before .before .before .look-at .ensures .0) _ _ (c .before .found .given .1) (w .0) (w .1)
 
 returns-4 : tie.Need-returns-4 Inv-loop μ-loop
 returns-4 c = sym (c .before .loop .inv ∙ plain-end _ _ _ _ (c .loop-test .left))
@@ -84,7 +79,7 @@ is-plain-spec =
     μ-loop
     is-light-requires
     returns
-    surely-plain-requires
+    is-distinct-requires
     returns-2
     loop-holds
     sub-look-at

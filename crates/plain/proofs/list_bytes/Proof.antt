@@ -1,6 +1,6 @@
 -- `plain::list_bytes` meets its contract.
 use borrow.Author.Needs.{needs}
-use Rattle.plain.proofs.Light.{list-root, other-root}
+use Rattle.plain.proofs.Sight.{list-root, other-root}
 use Rattle.plain.proofs.list_bytes.Statement.{statement}
 use Rattle.plain.proofs.list_bytes.Tie as tie
 

@@ -5,71 +5,56 @@ use borrow.Author.Needs.{needs}
 use Rattle.plain.proofs.look_at.Statement.{statement}
 use Rattle.plain.proofs.look_at.Tie as tie
 
--- src/lib.rt:159:29
 shared-slice-read-decode : tie.Need-shared-slice-read-decode
 shared-slice-read-decode c = search needs
 
--- src/lib.rt:159:9
 decode-requires : tie.Need-decode-requires
 decode-requires c κs = search needs
 
--- src/lib.rt:161:22
 enum-known-code : tie.Need-enum-known-code
 enum-known-code c = search needs
 
--- src/lib.rt:161:28
 look-symbol-requires : tie.Need-look-symbol-requires
 look-symbol-requires c κs = search needs
 
--- src/lib.rt:162:20
 enum-known-code-2 : tie.Need-enum-known-code-2
 enum-known-code-2 c = search needs
 
--- src/lib.rt:162:26
 look-variable-requires : tie.Need-look-variable-requires
 look-variable-requires c κs = name-below _ _ _ (c .before .before .before .decode .ensures) (c .before .code2 .given .1)
 
--- src/lib.rt:163:19
 enum-known-code-3 : tie.Need-enum-known-code-3
 enum-known-code-3 c = search needs
 
--- src/lib.rt:163:25
 look-variable-requires-2 : tie.Need-look-variable-requires-2
 look-variable-requires-2 c κs = run-below _ _ _ (c .before .before .before .decode .ensures) (c .before .code3 .given .1)
 
--- src/lib.rt:164:29
 enum-told : tie.Need-enum-told
 enum-told c = search needs
 
--- src/lib.rt:165:26
 enum-told-2 : tie.Need-enum-told-2
 enum-told-2 c = search needs
 
--- src/lib.rt:154:1
 returns : tie.Need-returns
-returns c = (λ h. look-by _ _ _ _ _ (c .before .before .before .before .decode .ensures) (c .before .before .code .given .1) _ (c .look-symbol .ensures .0 h), c .look-symbol .ensures .1)
+returns c = (look-by _ _ _ _ _ (c .before .before .before .before .decode .ensures) (c .before .before .code .given .1) _ (c .look-symbol .ensures .0), c .look-symbol .ensures .1)
 
--- src/lib.rt:154:1
 returns-2 : tie.Need-returns-2
 returns-2 c = (
-  λ h. look-by _ _ _ _ _ (c .before .before .before .before .decode .ensures) (c .before .before .code2 .given .1) _ (c .look-variable .ensures),
+  look-by _ _ _ _ _ (c .before .before .before .before .decode .ensures) (c .before .before .code2 .given .1) _ (c .look-variable .ensures),
   variable-within _ (c .before .before .before .before .before .before .before .before .args .seen) (c .before .before .code2 .given .0 .0) (c .before .before .before .before .before .before .before .before .pre) _ (c .look-variable .ensures),
 )
 
--- src/lib.rt:154:1
 returns-3 : tie.Need-returns-3
 returns-3 c = (
-  λ h. look-by _ _ _ _ _ (c .before .before .before .before .decode .ensures) (c .before .before .code3 .given .1) _ (c .look-variable2 .ensures),
+  look-by _ _ _ _ _ (c .before .before .before .before .decode .ensures) (c .before .before .code3 .given .1) _ (c .look-variable2 .ensures),
   variable-within _ (c .before .before .before .before .before .before .before .before .args .seen) (c .before .before .code3 .given .0 .0) (c .before .before .before .before .before .before .before .before .pre) _ (c .look-variable2 .ensures),
 )
 
--- src/lib.rt:154:1
 returns-4 : tie.Need-returns-4
-returns-4 c = (λ h. look-by _ _ _ _ _ (c .before .before .decode .ensures) (c .enum-told .given .1) _ refl, tt)
+returns-4 c = (look-by _ _ _ _ _ (c .before .before .decode .ensures) (c .enum-told .given .1) _ refl, tt)
 
--- src/lib.rt:154:1
 returns-5 : tie.Need-returns-5
-returns-5 c = (λ h. look-by _ _ _ _ _ (c .before .before .decode .ensures) (c .enum-told2 .given .1) _ refl, tt)
+returns-5 c = (look-by _ _ _ _ _ (c .before .before .decode .ensures) (c .enum-told2 .given .1) _ refl, tt)
 
 pub look-at-spec : {M : Type 1} → statement M
 look-at-spec =

@@ -5,7 +5,7 @@ use lib.ListN.{length}
 use borrow.Author.Needs.{needs}
 use Rattle.plain.specs.Bytes.{weightOf}
 use Rattle.plain.proofs.Among.{Summed, summed-first, summed-next, summed-end}
-use Rattle.plain.proofs.Light.{weight-most}
+use Rattle.plain.proofs.Sight.{weight-most}
 use Rattle.plain.proofs.weights.Statement.{statement}
 use Rattle.plain.proofs.weights.Tie as tie
 
