@@ -5,9 +5,9 @@ use mathlib.Core.List.{List}
 use mathlib.Core.Bool.{true}
 use mathlib.Core.Option.{some}
 use native.Mathlib.Omega.{arith}
+use Rattle.answers.specs.declared.Part.{Part}
 use Rattle.term.specs.Pattern.{Pattern}
 use Rattle.term.specs.Term.{Term}
-use Rattle.term.specs.declared.Part.{Part}
 use Rattle.anti_pattern.specs.Answer.{bound, nothing, spent, parts, countOf, matchingOf, answer}
 use Rattle.anti_pattern.specs.Language.{Language}
 use Rattle.anti_pattern.proofs.Meter.{metered, meter, answered}

@@ -4,10 +4,10 @@ use mathlib.Core.Path.{_≡_, refl, sym, _∙_, ap, ap₂, subst}
 use mathlib.Core.Logic.{_↔_, inl}
 use mathlib.Core.List.{List}
 use native.Mathlib.Omega.{arith}
+use Rattle.answers.specs.declared.Part.{Part}
 use Rattle.term.specs.Class.{Alike}
 use Rattle.term.specs.Pattern.{Pattern}
 use Rattle.term.specs.Term.{Term}
-use Rattle.term.specs.declared.Part.{Part}
 use Rattle.anti_pattern.specs.Answer.{Matching, bound, nothing, spent, countOf, matchingOf, answer}
 use Rattle.anti_pattern.specs.Demands.{First, Unsatisfied}
 use Rattle.anti_pattern.specs.Language.{Language, TermOf}

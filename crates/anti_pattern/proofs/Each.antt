@@ -3,8 +3,8 @@ use Prim.Native.Nat.{ℕ, zero, suc, _+_, _<_}
 use native.Mathlib.Omega.{arith}
 use mathlib.Core.Path.{_≡_, ap, _∙_}
 use lib.ListN.{getD}
-use Rattle.term.specs.Part.{part}
-use Rattle.term.specs.declared.Part.{Part}
+use Rattle.answers.specs.Part.{part}
+use Rattle.answers.specs.declared.Part.{Part}
 use Rattle.anti_pattern.specs.Place.{eachFrom}
 
 pub each-at : (f : ℕ → Part) (v n i : ℕ) → i < n → getD (eachFrom f v n) i (part 0 0 0) ≡ f (v + i)

@@ -9,12 +9,12 @@ use native.Mathlib.Omega.{arith}
 use lib.ListN.{length, getD}
 use lib.Dec.{eqb, ltb}
 use borrow.Author.Tests.{eqb-true, eq-eqb}
+use Rattle.answers.specs.Part.{part}
+use Rattle.answers.specs.declared.Part.{Part}
 use Rattle.term.specs.Pattern.{Pattern, name, symbol, complement, Children, end, plain, run}
 use Rattle.term.specs.Term.{Term, Terms, count}
 use Rattle.term.specs.Class.{Alike}
 use Rattle.term.specs.Code.{variables}
-use Rattle.term.specs.Part.{part}
-use Rattle.term.specs.declared.Part.{Part}
 use Rattle.anti_pattern.specs.Answer.{bound, nothing, spent, countOf, matchingOf}
 use Rattle.anti_pattern.specs.Demands.{Enumerates, assignments, Given, NextAfter, Last, OneForEach, UnknownLengths, NextExact, lengthsShown, Asked, no-more, one-more, Calls, none-at-all, from-first, EveryAnswer}
 use Rattle.anti_pattern.specs.Language.{Language, TermOf, TermsOf}

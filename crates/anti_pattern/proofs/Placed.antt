@@ -7,14 +7,14 @@ use mathlib.Core.Bool.{Bool, true, false, cond, false≢true}
 use mathlib.Core.Option.{Option, none, some}
 use native.Mathlib.Omega.{arith}
 use lib.Dec.{eqb}
+use Rattle.answers.specs.Part.{part, absent}
+use Rattle.answers.specs.declared.Part.{Part}
 use Rattle.term.specs.Code.{variables}
-use Rattle.term.specs.Part.{part, absent}
 use Rattle.term.specs.Class.{classOf, Alike}
 use Rattle.term.specs.Pattern.{Pattern, name, symbol, complement, Children, end, plain, run}
 use Rattle.term.specs.Same.{sameTerms}
 use Rattle.term.specs.Table.{width}
 use Rattle.term.specs.Term.{Term, node, Terms, nil, _::_, _⧺_, single, size, sizes}
-use Rattle.term.specs.declared.Part.{Part}
 use Rattle.anti_pattern.specs.Answer.{parts}
 use Rattle.anti_pattern.specs.Language.{Language, TermOf, TermsOf, _⊢_≋_}
 use Rattle.anti_pattern.specs.Meaning.{Assignment, ExtendsAt, Extends, Holds, HoldAll, Satisfies, OneAt, CountAsOne}

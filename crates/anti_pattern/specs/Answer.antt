@@ -3,9 +3,9 @@ use Prim.Native.Nat.{ℕ}
 use mathlib.Core.List.{List}
 use mathlib.Core.Bool.{Bool, true, false}
 use lib.Dec.{ltb}
+use Rattle.answers.specs.declared.Part.{Part}
 use Rattle.term.specs.Term.{Term}
 use Rattle.term.specs.Pattern.{Pattern}
-use Rattle.term.specs.declared.Part.{Part}
 use Rattle.anti_pattern.specs.Language.{Language}
 use Rattle.anti_pattern.specs.Search.{Env, Answers, found, failed, whole}
 use Rattle.anti_pattern.specs.Place.{assignedPart, eachVariable}

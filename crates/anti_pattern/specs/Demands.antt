@@ -6,10 +6,10 @@ use mathlib.Core.List.{List, [], _∷_, map}
 use mathlib.Core.Bool.{true, false}
 use mathlib.Core.Option.{none, some}
 use lib.ListN.{length, getD}
-use Rattle.term.specs.Part.{part, absent}
+use Rattle.answers.specs.Part.{part, absent}
+use Rattle.answers.specs.declared.Part.{Part}
 use Rattle.term.specs.Pattern.{Pattern}
 use Rattle.term.specs.Term.{Term, Terms}
-use Rattle.term.specs.declared.Part.{Part}
 use Rattle.anti_pattern.specs.Answer.{Matching, bound, nothing, spent, parts, countOf, answer}
 use Rattle.anti_pattern.specs.AntiTerm.{Anti, Free, Substitution}
 use Rattle.anti_pattern.specs.Cost.{nodes}

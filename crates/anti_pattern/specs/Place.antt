@@ -4,12 +4,12 @@ use mathlib.Core.List.{List, [], _∷_}
 use mathlib.Core.Bool.{cond}
 use mathlib.Core.Option.{Option, none, some}
 use lib.Dec.{eqb}
+use Rattle.answers.specs.Part.{part, absent}
+use Rattle.answers.specs.declared.Part.{Part}
 use Rattle.term.specs.Code.{variables}
 use Rattle.term.specs.Table.{width}
 use Rattle.term.specs.Term.{Term, Terms, node, nil, _::_, count, size, sizes}
 use Rattle.term.specs.Pattern.{Pattern, Children, name, symbol, complement, end, plain, run}
-use Rattle.term.specs.Part.{part, absent}
-use Rattle.term.specs.declared.Part.{Part}
 use Rattle.anti_pattern.specs.Meaning.{Assignment}
 
 -- what is left of a sequence without as many elements as the first has

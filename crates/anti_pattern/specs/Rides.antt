@@ -5,10 +5,10 @@ use mathlib.Core.Path.{_≡_}
 use mathlib.Core.List.{List, [], _∷_, map}
 use mathlib.Core.Bool.{cond}
 use lib.Dec.{eqb}
-use Rattle.term.specs.Part.{part, absent}
+use Rattle.answers.specs.Part.{part, absent}
+use Rattle.answers.specs.declared.Part.{Part}
 use Rattle.term.specs.Pattern.{Pattern, name, symbol, complement, Children, end, plain, run}
 use Rattle.term.specs.Term.{Term, node, Terms, nil, _::_, single}
-use Rattle.term.specs.declared.Part.{Part}
 use Rattle.anti_pattern.specs.Answer.{Matching, bound, nothing, spent, answer}
 use Rattle.anti_pattern.specs.Language.{Language, language}
 use Rattle.anti_pattern.specs.Next.{Following, follows, unknown, next}

@@ -8,10 +8,10 @@ use mathlib.Core.Option.{Option, none, some}
 use mathlib.Core.Bool.{true}
 use lib.ListN.{length, drop, length-append, length-drop, drop-of-length-le}
 use lib.Seq.{drop-at}
-use Rattle.term.specs.Refusal.{numberOf}
+use Rattle.answers.specs.Refusal.{numberOf}
+use Rattle.answers.specs.declared.Part.{Part}
+use Rattle.answers.specs.declared.Refusal.{Refusal}
 use Rattle.term.specs.Table.{tableAccepted}
-use Rattle.term.specs.declared.Part.{Part}
-use Rattle.term.specs.declared.Refusal.{Refusal}
 use Rattle.anti_pattern.proofs.Metering.{Split, enough, over, split}
 use Rattle.parts.specs.Shown.{numbers, answerWidth}
 use Rattle.call.specs.Brought.{broughtAccepted}

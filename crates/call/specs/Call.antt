@@ -5,10 +5,10 @@ use mathlib.Core.List.{List, _++_}
 use mathlib.Core.Option.{Option, none, some}
 use lib.ListN.{drop}
 use lib.Dec.{leb}
+use Rattle.answers.specs.declared.Part.{Part}
+use Rattle.answers.specs.declared.Refusal.{Refusal}
+use Rattle.answers.specs.declared.Refusal.the-variants.{Table, Narrow, Class}
 use Rattle.term.specs.Table.{tableAccepted}
-use Rattle.term.specs.declared.Part.{Part}
-use Rattle.term.specs.declared.Refusal.{Refusal}
-use Rattle.term.specs.declared.Refusal.the-variants.{Table, Narrow, Class}
 pub use Rattle.parts.specs.Shown.{numbers, answerWidth}
 use Rattle.call.specs.Brought.{broughtAccepted}
 use Rattle.call.specs.Verdict.{Verdict, passed, fault, check}

@@ -6,8 +6,8 @@ use mathlib.Core.List.{List}
 use mathlib.Core.Bool.{true}
 use mathlib.Core.Option.{Option}
 use lib.ListN.{length, drop}
-use Rattle.term.specs.Refusal.{numberOf}
-use Rattle.term.specs.declared.Refusal.{Refusal}
+use Rattle.answers.specs.Refusal.{numberOf}
+use Rattle.answers.specs.declared.Refusal.{Refusal}
 use Rattle.parts.specs.Shown.{answerWidth}
 use Rattle.call.specs.Brought.{broughtAccepted}
 

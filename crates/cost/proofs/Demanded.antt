@@ -7,28 +7,29 @@ use mathlib.Core.Bool.{Bool, true, false, cond, true≢false}
 use lib.ListN.{length}
 use lib.Dec.{leb}
 use borrow.Author.Tests.{leb-true}
+use Rattle.answers.specs.Refusal.{numberOf}
+use Rattle.answers.specs.Answers.{costNumber, costCount}
+use Rattle.answers.specs.declared.Refusal.{Refusal}
+use Rattle.answers.specs.declared.Refusal.the-variants.{Table}
+use Rattle.answers.specs.declared.Cost.{Cost}
+use Rattle.answers.specs.declared.Cost.the-variants.{AtMost, NoBound}
+use Rattle.byte_answers.specs.declared.Read.{Read}
+use Rattle.byte_answers.specs.declared.Read.the-variants.{Ends}
 use Rattle.term.specs.Limits.{Octets, nesting, longestPattern, PatternAccepted}
 use Rattle.term.specs.Pattern.{Pattern}
 use Rattle.reader.specs.Reading.{Parsed, refused, read, shown, readPattern}
-use Rattle.term.specs.Refusal.{numberOf}
 use Rattle.term.specs.Table.{entriesAccepted, tableAccepted, largestTable}
-use Rattle.reader.specs.declared.Read.{Read}
-use Rattle.reader.specs.declared.Read.the-variants.{Ends}
-use Rattle.term.specs.declared.Refusal.{Refusal}
-use Rattle.term.specs.declared.Refusal.the-variants.{Table}
 use Rattle.reader.proofs.Answers.{refused-shown, ends-shown}
-use Rattle.term.proofs.Numbers.{word-or-refusal}
+use Rattle.answers.proofs.Numbers.{word-or-refusal}
 use Rattle.reader.proofs.Typed.{pattern-iff, pattern-read}
 use Rattle.anti_pattern.specs.Cost.{nodes, hasRuns}
 use Rattle.anti_pattern.specs.Language.{language}
 use Rattle.anti_pattern.specs.Published.{NoRuns}
 use Rattle.anti_pattern.proofs.Cost.{few-nodes, runs-exactly}
 use Rattle.anti_pattern.proofs.Demands.{cost-bound}
-use Rattle.cost.specs.Call.{costNumber, costCount, costOf}
+use Rattle.cost.specs.Call.{costOf}
 use Rattle.cost.specs.Demands.{Input, Costs, Demanded}
 use Rattle.cost.specs.Tally.{tally}
-use Rattle.cost.specs.declared.Cost.{Cost}
-use Rattle.cost.specs.declared.Cost.the-variants.{AtMost, NoBound}
 use Rattle.cost.proofs.Tally.{tally-pattern}
 
 refused-count : (c : Cost) (r : Refusal) → costNumber c ≡ numberOf r → costCount c ≡ 0

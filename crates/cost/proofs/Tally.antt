@@ -9,6 +9,8 @@ use lib.ListN.{length, getD, drop, drop-of-length-le}
 use lib.Seq.{drop-cons, drop-drop}
 use lib.Dec.{eqb}
 use borrow.Author.Tests.{le-ltb}
+use Rattle.answers.specs.declared.Cost.{Cost}
+use Rattle.answers.specs.declared.Cost.the-variants.{AtMost, NoBound}
 use Rattle.term.specs.Code.{decodeOf, byteOf}
 use Rattle.term.specs.Extent.{kidsOf, entryOf}
 use Rattle.term.specs.Limits.{Written, Shape, belowOf, Fits, FitAll}
@@ -21,8 +23,6 @@ use Rattle.term.proofs.Codes.{code-back}
 use Rattle.term.proofs.Extents.{entry-symbol}
 use Rattle.anti_pattern.specs.Cost.{nodes, nodesIn, hasRuns, hasRunsIn}
 use Rattle.cost.specs.Tally.{isRun, ownBytes, tally}
-use Rattle.cost.specs.declared.Cost.{Cost}
-use Rattle.cost.specs.declared.Cost.the-variants.{AtMost, NoBound}
 
 -- byte by byte
 

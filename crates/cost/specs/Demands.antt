@@ -4,19 +4,19 @@ use mathlib.Core.Path.{_≡_}
 use mathlib.Core.Logic.{_↔_}
 use mathlib.Core.List.{List, []}
 use mathlib.Core.Bool.{true}
+use Rattle.answers.specs.Refusal.{numberOf}
+use Rattle.answers.specs.Answers.{costNumber, costCount}
+use Rattle.answers.specs.declared.Refusal.{Refusal}
+use Rattle.answers.specs.declared.Cost.{Cost}
 use Rattle.term.specs.Limits.{PatternAccepted}
 use Rattle.term.specs.Pattern.{Pattern, patternBytes}
-use Rattle.term.specs.Refusal.{numberOf}
 use Rattle.term.specs.Table.{tableAccepted}
 use Rattle.term.specs.Term.{Term}
-use Rattle.term.specs.declared.Refusal.{Refusal}
 use Rattle.anti_pattern.specs.Answer.{countOf}
 use Rattle.anti_pattern.specs.Cost.{nodes, ample}
 use Rattle.anti_pattern.specs.Language.{language}
 use Rattle.anti_pattern.specs.Next.{nextCount}
 use Rattle.anti_pattern.specs.Published.{NoRuns}
-use Rattle.cost.specs.Call.{costNumber, costCount}
-use Rattle.cost.specs.declared.Cost.{Cost}
 
 -- Accepted input: a table, and the bytes of a pattern, that pass every check
 pub record Input (table pattern : List ℕ) (q : Pattern) : Type 0 where

@@ -4,13 +4,13 @@ use Prim.Native.Nat.{ℕ, _+_}
 use mathlib.Core.List.{List, [], _∷_}
 use mathlib.Core.Bool.{Bool, true, false, cond}
 use lib.Dec.{eqb}
+use Rattle.answers.specs.declared.Cost.{Cost}
+use Rattle.answers.specs.declared.Cost.the-variants.{AtMost, NoBound}
 use Rattle.term.specs.Code.{decodeOf}
 use Rattle.term.specs.Extent.{entryOf}
 use Rattle.term.specs.Table.{list}
 use Rattle.term.specs.declared.Code.{Code}
 use Rattle.term.specs.declared.Code.the-variants.{Symbol, Name, Run, Complement}
-use Rattle.cost.specs.declared.Cost.{Cost}
-use Rattle.cost.specs.declared.Cost.the-variants.{AtMost, NoBound}
 
 abbrev pub isRun : Code → Bool
 isRun (Symbol s) = false

@@ -1,47 +1,17 @@
 // What a rule can cost at most: the number of its nodes, unless it has run names.
-use reader::Read;
+use answers::Cost;
+use answers::Refusal;
+use byte_answers::Read;
 use term::Code;
-use term::Refusal;
 ghost use mathlib.Core.Path.{_≡_};
 ghost use mathlib.Core.Bool.{false};
 ghost use Prim.Native.Nat.{_≤_};
 ghost use lib.ListN.{length};
 ghost use Rattle.term.specs.Moment.{old};
 ghost use Rattle.term.specs.Limits.{longestPattern};
-ghost use Rattle.cost.specs.Call.{costNumber, costCount, costOf};
+ghost use Rattle.cost.specs.Call.{costOf};
 ghost use Rattle.cost.specs.Demands.{Demanded};
 ghost use Rattle.cost.specs.Tally.{isRun, ownBytes, tally};
-
-// The number of the pattern's nodes, which bounds every count; that it has run names, and no such bound; or why it is refused.
-pub enum Cost {
-    AtMost(u32),
-    NoBound,
-    Refused(Refusal),
-}
-
-impl Cost {
-    // 0 where there is a bound, and 10, none, where there is no such; or document 01's number of the refusal.
-    pub fn number(self) -> u8
-        ensures { λ r. ⌜ r ≡ costNumber self ⌝ }
-    {
-        match self {
-            Cost::AtMost(_) => 0,
-            Cost::NoBound => 10,
-            Cost::Refused(r) => r.number(),
-        }
-    }
-
-    // The bound; where there is none, 0.
-    pub fn count(self) -> u32
-        ensures { λ r. ⌜ r ≡ costCount self ⌝ }
-    {
-        match self {
-            Cost::AtMost(n) => n,
-            Cost::NoBound => 0,
-            Cost::Refused(_) => 0,
-        }
-    }
-}
 
 fn is_run(code: Code) -> bool
     ensures { λ r. ⌜ r ≡ isRun code ⌝ }

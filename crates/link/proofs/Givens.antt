@@ -9,12 +9,12 @@ use lib.ListN.{length, getD, drop, replicate}
 use lib.Seq.{drop-drop}
 use lib.Dec.{eqb}
 use borrow.Author.Tests.{eqb-true, eq-eqb, ne-eqb}
+use Rattle.answers.specs.Part.{absent}
+use Rattle.answers.specs.declared.Part.{Part}
 use Rattle.term.specs.Limits.{longestPattern, longestRecord}
 use Rattle.term.specs.Code.{variables}
 use Rattle.term.specs.Class.{Alike}
 use Rattle.term.specs.Extent.{extentOf}
-use Rattle.term.specs.Part.{absent}
-use Rattle.term.specs.declared.Part.{Part}
 use Rattle.term.specs.Pattern.{Pattern, Children, end, plain, run}
 use Rattle.term.specs.Term.{Term, Terms, nil, _::_, _⧺_, count, single, sizes}
 use Rattle.anti_pattern.specs.Answer.{bound, parts}

@@ -6,6 +6,7 @@ use mathlib.Core.List.{List, [], _∷_}
 use mathlib.Core.Bool.{false}
 use lib.ListN.{length, take, drop, length-drop, length-take}
 use borrow.Author.Tests.{ne-eqb, eq-eqb}
+use Rattle.answers.specs.declared.Part.{Part}
 use Rattle.term.specs.Limits.{longestPattern, longestRecord}
 use Rattle.term.specs.Code.{variables}
 use Rattle.term.specs.Tree.{listCode, encode}
@@ -13,7 +14,6 @@ use Rattle.term.specs.Term.{Term, Terms, nil, _::_, _⧺_, count, single, sizes
 use Rattle.term.specs.Pattern.{Pattern, Children, end, plain, run, patternTree, childTrees, patternBytes}
 use Rattle.term.specs.Extent.{extentOf}
 use Rattle.term.specs.declared.Code.the-variants.{Run}
-use Rattle.term.specs.declared.Part.{Part}
 use Rattle.term.proofs.SameParts.{branch-some}
 use Rattle.anti_pattern.specs.Search.{Env, Result, bind, lengths, freely}
 use Rattle.anti_pattern.proofs.Machine.{Frame, Pending, frame, machine}

@@ -8,6 +8,8 @@ use lib.ListN.{length, replicate}
 use lib.Seq.{ext-getD}
 use lib.Dec.{leb}
 use borrow.Author.Tests.{leb-true, le-leb}
+use Rattle.answers.specs.Part.{part, absent}
+use Rattle.answers.specs.declared.Part.{Part}
 use Rattle.term.specs.Code.{variables}
 use Rattle.term.specs.Class.{Alike}
 use Rattle.term.specs.Table.{entriesAccepted, tableAccepted}
@@ -15,8 +17,6 @@ use Rattle.term.specs.Tree.{Tree, empty, more, encode}
 use Rattle.term.specs.Term.{Term, single}
 use Rattle.term.specs.Pattern.{Pattern, end, plain}
 use Rattle.term.specs.Limits.{Fits, Accepted, longestPattern, longestRecord}
-use Rattle.term.specs.Part.{part, absent}
-use Rattle.term.specs.declared.Part.{Part}
 use Rattle.anti_pattern.specs.Language.{language}
 use Rattle.anti_pattern.specs.Search.{Env, start, whole, fail, freely}
 use Rattle.anti_pattern.specs.Place.{assignedPart}

@@ -7,12 +7,12 @@ use mathlib.Core.Bool.{Bool, true, false, cond}
 use lib.ListN.{length, replicate}
 use lib.Dec.{eqb}
 use borrow.Author.Tests.{le-leb, eqb-true}
+use Rattle.answers.specs.declared.Part.{Part}
 use Rattle.term.specs.Limits.{longestPattern, longestRecord}
 use Rattle.term.specs.Code.{variables}
 use Rattle.term.specs.Class.{Alike}
 use Rattle.term.specs.Pattern.{Pattern}
 use Rattle.term.specs.Term.{Term}
-use Rattle.term.specs.declared.Part.{Part}
 use Rattle.anti_pattern.specs.Answer.{bound, parts}
 use Rattle.anti_pattern.specs.Demands.{OneForEach}
 use Rattle.anti_pattern.specs.Language.{language}

@@ -9,13 +9,14 @@ use lib.ListN.{length, getD, take, set, replicate, length-set, length-replicate,
 use lib.Seq.{getD-set-same, getD-set-other}
 use lib.Dec.{eqb, leb}
 use borrow.Author.Tests.{eqb-true, eqb-false, leb-true, le-leb, ne-eqb}
+use Rattle.answers.specs.Part.{part, absent, isAbsent, boundPart}
+use Rattle.answers.specs.declared.Part.{Part}
 use Rattle.term.specs.Code.{variables}
 use Rattle.term.specs.Term.{Terms, _⧺_, count, sizes, termTrees, termsBytes}
 use Rattle.term.specs.Class.{Alike}
 use Rattle.term.specs.Same.{samePart}
 use Rattle.term.specs.Limits.{FitAll, longestRecord}
-use Rattle.term.specs.Part.{part, absent, isAbsent, boundPart, partBytes}
-use Rattle.term.specs.declared.Part.{Part}
+use Rattle.term.specs.Part.{partBytes}
 use Rattle.term.proofs.Sizes.{terms-length, take-terms}
 use Rattle.term.proofs.SameParts.{same-counts, same-sizes, same-part, part-same, and-true}
 use Rattle.anti_pattern.specs.Search.{Env, bind, start, behind}

@@ -7,6 +7,7 @@ use mathlib.Core.Bool.{Bool, true, false, cond, _&&_, false≢true}
 use lib.ListN.{length, getD, drop, length-drop}
 use lib.Dec.{eqb}
 use borrow.Author.Tests.{eqb-true}
+use Rattle.answers.specs.declared.Part.{Part}
 use Rattle.term.proofs.Lists.{front, past-front}
 use Rattle.term.specs.Table.{isList, width}
 use Rattle.term.specs.Tree.{Tree, Trees, branch, empty, more, number, listCode, encode, encodes}
@@ -15,7 +16,6 @@ use Rattle.term.specs.Pattern.{Children, symbol, end, plain, run, childTrees}
 use Rattle.term.specs.Limits.{Shape, belowOf, Fits}
 use Rattle.term.specs.declared.Code.{Code}
 use Rattle.term.specs.declared.Code.the-variants.{Symbol}
-use Rattle.term.specs.declared.Part.{Part}
 use Rattle.term.proofs.Sizes.{arity, childrenBytes, past-tree, past-terms, terms-length, number-children, node-bytes, symbol-bytes}
 use Rattle.anti_pattern.specs.Search.{Env}
 use Rattle.anti_pattern.proofs.Machine.{Frame, Pending, frame}

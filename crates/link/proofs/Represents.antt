@@ -5,13 +5,13 @@ use mathlib.Core.List.{List, [], _∷_}
 use mathlib.Core.Bool.{Bool, true, false}
 use mathlib.Core.Option.{some}
 use lib.ListN.{length, getD, take, drop}
+use Rattle.answers.specs.Part.{part}
+use Rattle.answers.specs.declared.Part.{Part}
 use Rattle.term.specs.Code.{variables}
 use Rattle.term.specs.Tree.{Trees}
 use Rattle.term.specs.Term.{Terms, count, single, sizes, termTrees, termsBytes}
 use Rattle.term.specs.Pattern.{Children, end, plain, childTrees, patternBytes}
 use Rattle.term.specs.Limits.{FitAll}
-use Rattle.term.specs.Part.{part}
-use Rattle.term.specs.declared.Part.{Part}
 use Rattle.term.proofs.Sizes.{arity, childrenBytes}
 use Rattle.anti_pattern.specs.Search.{Env}
 use Rattle.anti_pattern.specs.Place.{assignedPart}

@@ -8,6 +8,8 @@ use mathlib.Core.Option.{none, some}
 use lib.ListN.{length, getD, drop}
 use lib.Dec.{eqb, leb}
 use borrow.Author.Tests.{le-leb, ne-eqb, eq-eqb}
+use Rattle.answers.specs.Part.{part, absent}
+use Rattle.answers.specs.declared.Part.{Part}
 use Rattle.term.proofs.Lists.{first-left, some-left, front}
 use Rattle.term.specs.Class.{Alike}
 use Rattle.term.specs.Same.{sameByte}
@@ -18,10 +20,8 @@ use Rattle.term.specs.Term.{Term, Terms, node, nil, _::_, count, single, size, 
 use Rattle.term.specs.Pattern.{Pattern, Children, name, symbol, complement, end, plain, patternTree, childTrees, patternBytes}
 use Rattle.term.specs.Limits.{Counted, Shape, Fits}
 use Rattle.term.specs.Extent.{entryOf, extentOf}
-use Rattle.term.specs.Part.{part, absent}
 use Rattle.term.specs.declared.Code.{Code}
 use Rattle.term.specs.declared.Code.the-variants.{Complement}
-use Rattle.term.specs.declared.Part.{Part}
 use Rattle.term.proofs.Sizes.{arity, childrenBytes, number-children, number-terms, node-bytes, symbol-bytes, term-size}
 use Rattle.term.proofs.Extents.{entry-symbol, extent-tree}
 use Rattle.anti_pattern.proofs.Machine.{Frame}

@@ -9,6 +9,8 @@ use lib.ListN.{length, getD, take, drop, set}
 use lib.Seq.{take-at}
 use lib.Dec.{eqb}
 use borrow.Author.Tests.{eqb-true, eq-eqb, ne-eqb}
+use Rattle.answers.specs.Part.{part, absent, boundPart}
+use Rattle.answers.specs.declared.Part.{Part}
 use Rattle.term.proofs.Lists.{past-front}
 use Rattle.term.specs.Class.{classOf, Alike}
 use Rattle.term.specs.Same.{sameByte}
@@ -18,10 +20,8 @@ use Rattle.term.specs.Tree.{Trees, branch, empty, more, listCode, own, encode}
 use Rattle.term.specs.Term.{Term, Terms, node, nil, _::_, _⧺_, count, single, size, sizes}
 use Rattle.term.specs.Pattern.{Pattern, Children, name, symbol, complement, end, plain, run, patternTree, childTrees, patternBytes}
 use Rattle.term.specs.Limits.{Written, Fits, longestPattern, longestRecord}
-use Rattle.term.specs.Part.{part, absent, boundPart}
 use Rattle.term.specs.declared.Code.{Code}
 use Rattle.term.specs.declared.Code.the-variants.{Symbol, Name, Run}
-use Rattle.term.specs.declared.Part.{Part}
 use Rattle.anti_pattern.specs.Search.{Env, bind, Result, counted, fail, ifTrue, ifSome, sameOr, behind, Tries}
 use Rattle.anti_pattern.specs.Place.{assignedPart}
 use Rattle.anti_pattern.specs.Variables.{among, runsAll}

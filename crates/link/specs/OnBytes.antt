@@ -1,7 +1,7 @@
 -- What the search on any bytes comes to. On accepted input it is the answer of the search on trees (proofs/Linked, proofs/NextBytes).
 use Prim.Native.Nat.{ℕ, _-_}
 use mathlib.Core.List.{List}
-use Rattle.term.specs.declared.Part.{Part}
+use Rattle.answers.specs.declared.Part.{Part}
 use Rattle.anti_pattern.specs.Answer.{Matching, bound, nothing, spent}
 use Rattle.anti_pattern.specs.Next.{Following, follows, unknown}
 use Rattle.search.specs.Level.{Reply, searchOf}

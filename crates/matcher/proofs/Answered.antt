@@ -8,15 +8,16 @@ use mathlib.Core.Option.{Option, none, some}
 use lib.ListN.{length, getD, take, drop, List·getD-append}
 use lib.Dec.{eqb}
 use borrow.Author.Tests.{eqb-true}
+use Rattle.answers.specs.Part.{part, absent}
+use Rattle.answers.specs.Answers.{answerNumber, answerCount}
+use Rattle.answers.specs.declared.Part.{Part}
 use Rattle.term.specs.Code.{variables}
 use Rattle.term.specs.Class.{Alike}
 use Rattle.term.specs.Term.{Term, Terms, count, sizes}
 use Rattle.term.specs.Pattern.{Pattern, Children, name, symbol, complement, end, plain, run, patternTree, childTrees}
 use Rattle.term.specs.Limits.{Written, belowOf, Fits, FitAll, Octets}
-use Rattle.term.specs.Part.{part, absent}
 use Rattle.term.specs.Tree.{listCode}
 use Rattle.term.specs.declared.Code.the-variants.{Symbol}
-use Rattle.term.specs.declared.Part.{Part}
 use Rattle.term.proofs.Sizes.{terms-sizes, take-terms}
 use Rattle.anti_pattern.specs.Answer.{Matching, bound, nothing, spent, parts, countOf, matchingOf, answer}
 use Rattle.anti_pattern.specs.Demands.{First, PartsShown, AnswerExact, PublishedAgrees}
@@ -38,7 +39,7 @@ use Rattle.anti_pattern.proofs.Placed.{AnswerIn, first-answers}
 use Rattle.search.specs.Level.{Reply, searchOf}
 use Rattle.call.specs.Brought.{classesOf, languageOf, broughtAccepted}
 use Rattle.call.specs.Call.{written}
-use Rattle.matcher.specs.Call.{answerNumber, answerCount, Input, told, answerOf, boundParts, bufferOf}
+use Rattle.matcher.specs.Call.{Input, told, answerOf, boundParts, bufferOf}
 use Rattle.matcher.specs.Demands.{offsetIn, lengthIn, termsIn, Shows, Answered, Published}
 use Rattle.link.proofs.Represents.{Shown, Agrees, is-found}
 use Rattle.matcher.proofs.Checks.{checked-exactly}

@@ -7,12 +7,13 @@ use mathlib.Core.Bool.{true}
 use mathlib.Core.Option.{Option}
 use lib.ListN.{length, getD, take, drop}
 use lib.Seq.{take-at}
+use Rattle.answers.specs.Part.{part}
+use Rattle.answers.specs.Answers.{answerNumber}
+use Rattle.answers.specs.declared.Part.{Part}
 use Rattle.term.specs.Code.{variables}
 use Rattle.term.specs.Limits.{Octets}
-use Rattle.term.specs.Part.{part}
 use Rattle.term.specs.Pattern.{Pattern}
 use Rattle.term.specs.Term.{Term}
-use Rattle.term.specs.declared.Part.{Part}
 use Rattle.anti_pattern.specs.Answer.{Matching, bound, answer}
 use Rattle.anti_pattern.specs.Demands.{assignments, lengthsShown, Asked, no-more, one-more, Calls, none-at-all, from-first}
 use Rattle.anti_pattern.specs.Language.{Language, TermOf}
@@ -27,7 +28,7 @@ use Rattle.parts.proofs.Shown.{numbers-length}
 use Rattle.call.specs.Brought.{classesOf, languageOf, broughtAccepted}
 use Rattle.call.specs.Call.{written}
 use Rattle.call.proofs.Brought.{brought-alike}
-use Rattle.matcher.specs.Call.{answerNumber, Input, told, answerOf, boundParts, bufferOf}
+use Rattle.matcher.specs.Call.{Input, told, answerOf, boundParts, bufferOf}
 use Rattle.matcher.specs.Demands.{termsIn, NextCalls, AllCalls, EveryCall}
 use Rattle.matcher.specs.Next.{toldNext, nextOf, boundNext, nextBufferOf}
 use Rattle.matcher.proofs.Answered.{shown-at, none-told, bound-told, same-call}

@@ -6,14 +6,14 @@ use mathlib.Core.Logic.{_↔_}
 use mathlib.Core.List.{List}
 use mathlib.Core.Option.{Option}
 use mathlib.Core.Bool.{true}
+use Rattle.answers.specs.declared.Refusal.{Refusal}
+use Rattle.byte_answers.specs.declared.Read.{Read}
+use Rattle.byte_answers.specs.declared.Read.the-variants.{Ends}
 use Rattle.term.specs.Table.{tableAccepted}
 use Rattle.term.specs.Term.{Term}
 use Rattle.term.specs.Pattern.{Pattern}
 use Rattle.term.specs.Limits.{Octets}
 use Rattle.reader.specs.Reading.{read, shown, readRecord, readPattern}
-use Rattle.term.specs.declared.Refusal.{Refusal}
-use Rattle.reader.specs.declared.Read.{Read}
-use Rattle.reader.specs.declared.Read.the-variants.{Ends}
 use Rattle.reader.proofs.Answers.{refused-shown, ends-shown}
 use Rattle.reader.proofs.Typed.{record-iff, pattern-iff, record-read, pattern-read}
 use Rattle.parts.specs.Shown.{answerWidth}

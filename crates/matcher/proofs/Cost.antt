@@ -4,11 +4,12 @@ use native.Mathlib.Omega.{arith}
 use mathlib.Core.Path.{_≡_, refl}
 use mathlib.Core.Logic.{_⊎_, inl, inr}
 use mathlib.Core.List.{List}
+use Rattle.answers.specs.Refusal.{numberOf}
+use Rattle.answers.specs.Answers.{answerNumber, answerCount}
+use Rattle.answers.specs.declared.Refusal.the-variants.{Unknown}
 use Rattle.term.specs.Limits.{PatternAccepted}
 use Rattle.term.specs.Pattern.{Pattern}
-use Rattle.term.specs.Refusal.{numberOf}
 use Rattle.term.specs.Term.{Term}
-use Rattle.term.specs.declared.Refusal.the-variants.{Unknown}
 use Rattle.anti_pattern.specs.Answer.{Matching, bound, nothing, spent, answer}
 use Rattle.anti_pattern.specs.Cost.{nodes}
 use Rattle.anti_pattern.specs.Demands.{BoundOrNone, NoneOrUnknown, CostBound, AnswerExact, NextExact}
@@ -17,7 +18,7 @@ use Rattle.anti_pattern.specs.Next.{Following, follows, unknown, next}
 use Rattle.anti_pattern.specs.Published.{NoRuns}
 use Rattle.anti_pattern.proofs.Cost.{enough-nodes}
 use Rattle.anti_pattern.proofs.Demands.{cost-bound}
-use Rattle.matcher.specs.Call.{answerNumber, answerCount, told}
+use Rattle.matcher.specs.Call.{told}
 use Rattle.matcher.specs.Cost.{Bounded, NextBounded}
 use Rattle.matcher.specs.Next.{toldNext}
 

@@ -4,23 +4,24 @@ use mathlib.Core.Path.{_≡_, refl, sym, _∙_}
 use mathlib.Core.List.{List}
 use mathlib.Core.Option.{Option, none}
 use lib.ListN.{length}
+use Rattle.answers.specs.Refusal.{numberOf}
+use Rattle.answers.specs.Answers.{answerNumber, answerCount}
+use Rattle.answers.specs.declared.Part.{Part}
+use Rattle.answers.specs.declared.Refusal.{Refusal}
+use Rattle.answers.specs.declared.Answer.{Answer}
+use Rattle.answers.specs.declared.Answer.the-variants.{Refused}
 use Rattle.term.specs.Term.{Term}
 use Rattle.term.specs.Pattern.{Pattern}
 use Rattle.term.specs.Limits.{Octets}
-use Rattle.term.specs.Refusal.{numberOf}
-use Rattle.term.specs.declared.Part.{Part}
-use Rattle.term.specs.declared.Refusal.{Refusal}
-use Rattle.term.proofs.Numbers.{word-or-refusal}
+use Rattle.answers.proofs.Numbers.{word-or-refusal}
 use Rattle.anti_pattern.specs.Answer.{Matching, bound, nothing, spent, answer}
 use Rattle.anti_pattern.proofs.Demands.{answer-exact}
 use Rattle.anti_pattern.proofs.Within.{accepted-of}
 use Rattle.call.specs.Brought.{classesOf, languageOf}
 use Rattle.call.proofs.Brought.{brought-alike}
 use Rattle.call.proofs.Handled.{handled, fails, passes}
-use Rattle.matcher.specs.Call.{answerNumber, answerCount, AcceptedTrees, trees, checked, checkOf, refusal, told, answerOf, boundParts, bufferOf, answerOnBytes, bufferOnBytes}
+use Rattle.matcher.specs.Call.{AcceptedTrees, trees, checked, checkOf, refusal, told, answerOf, boundParts, bufferOf, answerOnBytes, bufferOnBytes}
 use Rattle.matcher.specs.Demands.{Demanded}
-use Rattle.matcher.specs.declared.Answer.{Answer}
-use Rattle.matcher.specs.declared.Answer.the-variants.{Refused}
 use Rattle.matcher.specs.declared.Check.{Check}
 use Rattle.matcher.specs.declared.Check.the-variants.{Passed, Failed}
 use Rattle.matcher.proofs.Answered.{same-call, answered, published}

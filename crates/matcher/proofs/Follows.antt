@@ -6,18 +6,19 @@ use mathlib.Core.List.{List}
 use mathlib.Core.Bool.{true}
 use mathlib.Core.Option.{Option}
 use lib.ListN.{length}
+use Rattle.answers.specs.Refusal.{numberOf}
+use Rattle.answers.specs.Answers.{answerNumber}
+use Rattle.answers.specs.declared.Part.{Part}
+use Rattle.answers.specs.declared.Refusal.the-variants.{Unknown}
 use Rattle.term.specs.Limits.{Octets}
 use Rattle.term.specs.Pattern.{Pattern}
-use Rattle.term.specs.Refusal.{numberOf}
 use Rattle.term.specs.Term.{Term}
-use Rattle.term.specs.declared.Part.{Part}
-use Rattle.term.specs.declared.Refusal.the-variants.{Unknown}
 use Rattle.anti_pattern.specs.Answer.{bound, nothing, spent}
 use Rattle.anti_pattern.specs.Next.{Following, follows, unknown, next}
 use Rattle.parts.specs.Shown.{answerWidth}
 use Rattle.call.specs.Brought.{languageOf, broughtAccepted}
 use Rattle.call.specs.Call.{written}
-use Rattle.matcher.specs.Call.{answerNumber, Input}
+use Rattle.matcher.specs.Call.{Input}
 use Rattle.matcher.specs.Next.{toldNext, nextOf, boundNext, nextBufferOf}
 use Rattle.matcher.proofs.Answered.{spent-told, none-told, bound-told}
 use Rattle.matcher.proofs.Checks.{checked-exactly}

@@ -4,11 +4,13 @@ use mathlib.Core.Path.{_≡_, refl, sym, _∙_, ap}
 use mathlib.Core.List.{List, []}
 use lib.ListN.{length}
 use borrow.Author.Tests.{lt-ltb, le-ltb}
+use Rattle.answers.specs.declared.Part.{Part}
+use Rattle.answers.specs.declared.Refusal.the-variants.{Narrow}
+use Rattle.answers.specs.declared.Answer.{Answer}
+use Rattle.answers.specs.declared.Answer.the-variants.{Refused}
 use Rattle.term.specs.Class.{Alike}
 use Rattle.term.specs.Pattern.{Pattern}
 use Rattle.term.specs.Term.{Term}
-use Rattle.term.specs.declared.Part.{Part}
-use Rattle.term.specs.declared.Refusal.the-variants.{Narrow}
 use Rattle.anti_pattern.specs.Answer.{Matching, answer}
 use Rattle.anti_pattern.specs.Language.{language}
 use Rattle.search.specs.Level.{Reply, endOf, searchOf}
@@ -21,8 +23,6 @@ use Rattle.search.proofs.Lefts.{search-left}
 use Rattle.call.specs.Call.{written}
 use Rattle.link.specs.OnBytes.{repliedBy, outcomeOnBytes}
 use Rattle.matcher.specs.Call.{Input, told, boundParts, answerOnBytes, bufferOnBytes}
-use Rattle.matcher.specs.declared.Answer.{Answer}
-use Rattle.matcher.specs.declared.Answer.the-variants.{Refused}
 use Rattle.link.proofs.Linked.{linked}
 
 pub left-within : (table classes pattern bytes : List ℕ) (allowance : ℕ) (e : Ended) → e ≡ endOf (searchOf table classes pattern bytes allowance) → e .left ≤ allowance

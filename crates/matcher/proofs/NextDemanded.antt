@@ -7,14 +7,17 @@ use mathlib.Core.List.{List, []}
 use mathlib.Core.Bool.{true}
 use mathlib.Core.Option.{Option, none}
 use lib.ListN.{length, drop}
+use Rattle.answers.specs.Refusal.{numberOf}
+use Rattle.answers.specs.Answers.{answerNumber, answerCount}
+use Rattle.answers.specs.declared.Part.{Part}
+use Rattle.answers.specs.declared.Refusal.{Refusal}
+use Rattle.answers.specs.declared.Refusal.the-variants.{Unknown}
+use Rattle.answers.specs.declared.Answer.{Answer}
+use Rattle.answers.specs.declared.Answer.the-variants.{Refused}
 use Rattle.term.specs.Class.{Alike}
 use Rattle.term.specs.Limits.{Octets}
 use Rattle.term.specs.Pattern.{Pattern}
 use Rattle.term.specs.Term.{Term}
-use Rattle.term.specs.Refusal.{numberOf}
-use Rattle.term.specs.declared.Part.{Part}
-use Rattle.term.specs.declared.Refusal.{Refusal}
-use Rattle.term.specs.declared.Refusal.the-variants.{Unknown}
 use Rattle.anti_pattern.specs.Language.{language}
 use Rattle.anti_pattern.specs.Next.{Following, follows, unknown, nextCount, next}
 use Rattle.anti_pattern.specs.Answer.{bound, parts}
@@ -35,11 +38,9 @@ use Rattle.call.specs.Call.{written}
 use Rattle.call.proofs.Brought.{brought-alike}
 use Rattle.call.proofs.Handled.{handled, fails, passes}
 use Rattle.link.specs.OnBytes.{repliedBy, repliedPass, followingOnBytes}
-use Rattle.matcher.specs.Call.{answerNumber, answerCount, Input, AcceptedTrees, trees, checked, checkOf, refusal, told}
+use Rattle.matcher.specs.Call.{Input, AcceptedTrees, trees, checked, checkOf, refusal, told}
 use Rattle.matcher.specs.Next.{toldNext, nextOf, boundNext, nextBufferOf}
 use Rattle.matcher.specs.Demands.{Shows, NextAnswered, NextDemanded, NextCalled}
-use Rattle.matcher.specs.declared.Answer.{Answer}
-use Rattle.matcher.specs.declared.Answer.the-variants.{Refused}
 use Rattle.matcher.specs.declared.Check.{Check}
 use Rattle.matcher.specs.declared.Check.the-variants.{Passed, Failed}
 use Rattle.matcher.proofs.Answered.{env-shown}

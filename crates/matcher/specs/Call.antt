@@ -1,17 +1,18 @@
 -- The call: what the match of one pattern against one record answers, and what it leaves in the answer buffer, on all inputs.
-use Prim.Native.Nat.{ℕ, zero}
+use Prim.Native.Nat.{ℕ}
 use mathlib.Core.List.{List}
 use mathlib.Core.Bool.{cond}
 use mathlib.Core.Option.{Option, none, some}
 use lib.ListN.{length}
 use lib.Dec.{ltb}
+use Rattle.answers.specs.declared.Part.{Part}
+use Rattle.answers.specs.declared.Refusal.{Refusal}
+use Rattle.answers.specs.declared.Refusal.the-variants.{Narrow}
+use Rattle.answers.specs.declared.Answer.{Answer}
+use Rattle.answers.specs.declared.Answer.the-variants.{Bound, None, Spent, Refused}
 use Rattle.term.specs.Term.{Term}
 use Rattle.term.specs.Pattern.{Pattern}
-use Rattle.term.specs.Refusal.{numberOf}
 use Rattle.reader.specs.Reading.{readPattern, readRecord}
-use Rattle.term.specs.declared.Part.{Part}
-use Rattle.term.specs.declared.Refusal.{Refusal}
-use Rattle.term.specs.declared.Refusal.the-variants.{Narrow}
 use Rattle.anti_pattern.specs.Answer.{Matching, bound, nothing, spent, answer}
 use Rattle.parts.specs.Shown.{answerWidth}
 pub use Rattle.link.specs.Input.{Input}
@@ -19,23 +20,8 @@ use Rattle.link.specs.OnBytes.{outcomeOnBytes}
 use Rattle.call.specs.Brought.{languageOf}
 use Rattle.call.specs.Call.{checks, answerBy, written, bufferBy}
 use Rattle.call.specs.Verdict.{Verdict, passed, fault, reading, both}
-use Rattle.matcher.specs.declared.Answer.{Answer}
-use Rattle.matcher.specs.declared.Answer.the-variants.{Bound, None, Spent, Refused}
 use Rattle.matcher.specs.declared.Check.{Check}
 use Rattle.matcher.specs.declared.Check.the-variants.{Passed, Failed}
-
--- document 01's number of an answer, and the count that it shows. Bound has 0 for a number; a refusal shows count 0
-abbrev pub answerNumber : Answer → ℕ
-answerNumber (Bound count) = 0
-answerNumber (None count) = 10
-answerNumber (Spent count) = 11
-answerNumber (Refused r) = numberOf r
-
-abbrev pub answerCount : Answer → ℕ
-answerCount (Bound count) = count
-answerCount (None count) = count
-answerCount (Spent count) = count
-answerCount (Refused r) = zero
 
 -- accepted input, of the two trees as one
 abbrev pub AcceptedTrees : List ℕ → List ℕ → List ℕ → Pattern × Term → Type 0

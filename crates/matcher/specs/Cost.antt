@@ -2,12 +2,12 @@
 use Prim.Native.Nat.{ℕ, _≤_}
 use mathlib.Core.Path.{_≡_}
 use mathlib.Core.Logic.{_⊎_}
+use Rattle.answers.specs.Refusal.{numberOf}
+use Rattle.answers.specs.Answers.{answerNumber, answerCount}
+use Rattle.answers.specs.declared.Refusal.the-variants.{Unknown}
+use Rattle.answers.specs.declared.Answer.{Answer}
 use Rattle.term.specs.Pattern.{Pattern}
-use Rattle.term.specs.Refusal.{numberOf}
-use Rattle.term.specs.declared.Refusal.the-variants.{Unknown}
 use Rattle.anti_pattern.specs.Cost.{nodes, Enough}
-use Rattle.matcher.specs.Call.{answerNumber, answerCount}
-use Rattle.matcher.specs.declared.Answer.{Answer}
 
 pub record Bounded (allowance : ℕ) (q : Pattern) (a : Answer) : Type 0 where
   -- "at most the number of the pattern's nodes"

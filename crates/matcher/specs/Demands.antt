@@ -6,11 +6,13 @@ use mathlib.Core.List.{List, [], _∷_, map}
 use mathlib.Core.Bool.{true, false}
 use mathlib.Core.Option.{Option, none, some}
 use lib.ListN.{length, getD, take, drop}
+use Rattle.answers.specs.Refusal.{numberOf}
+use Rattle.answers.specs.Answers.{answerNumber, answerCount}
+use Rattle.answers.specs.declared.Refusal.the-variants.{Unknown}
+use Rattle.answers.specs.declared.Answer.{Answer}
 use Rattle.term.specs.Code.{names, variables}
 use Rattle.term.specs.Term.{Term, Terms, count, termsBytes}
 use Rattle.term.specs.Pattern.{Pattern}
-use Rattle.term.specs.Refusal.{numberOf}
-use Rattle.term.specs.declared.Refusal.the-variants.{Unknown}
 use Rattle.anti_pattern.specs.AntiTerm.{Substitution}
 use Rattle.anti_pattern.specs.Answer.{countOf}
 use Rattle.anti_pattern.specs.Demands.{First, Unsatisfied, OneForEach, UnknownLengths, Given, NextAfter, Last, Enumerates, assignments}
@@ -23,10 +25,9 @@ use Rattle.anti_pattern.specs.Published.{Solution, NoRuns, anti, assignment}
 use Rattle.anti_pattern.specs.Variables.{free, among, freeRuns}
 use Rattle.call.specs.Brought.{languageOf, broughtAccepted}
 use Rattle.call.specs.Demands.{Handled}
-use Rattle.matcher.specs.Call.{answerNumber, answerCount, Input, AcceptedTrees, answerOf, bufferOf}
+use Rattle.matcher.specs.Call.{Input, AcceptedTrees, answerOf, bufferOf}
 use Rattle.matcher.specs.Cost.{Bounded, NextBounded}
 use Rattle.matcher.specs.Next.{nextOf, nextBufferOf}
-use Rattle.matcher.specs.declared.Answer.{Answer}
 use Rattle.parts.specs.Shown.{numbers, entryWidth, answerWidth}
 
 -- the numbers that a buffer has for a variable

@@ -4,14 +4,14 @@ use Prim.Native.Nat.{ℕ}
 use mathlib.Core.List.{List}
 use mathlib.Core.Option.{Option, none}
 use lib.ListN.{length}
-use Rattle.term.specs.declared.Part.{Part}
-use Rattle.term.specs.declared.Refusal.the-variants.{Unknown}
+use Rattle.answers.specs.declared.Part.{Part}
+use Rattle.answers.specs.declared.Refusal.the-variants.{Unknown}
+use Rattle.answers.specs.declared.Answer.{Answer}
+use Rattle.answers.specs.declared.Answer.the-variants.{Refused}
 use Rattle.anti_pattern.specs.Next.{Following, follows, unknown, next}
 use Rattle.call.specs.Brought.{languageOf}
 use Rattle.call.specs.Call.{answerBy, bufferBy}
 use Rattle.matcher.specs.Call.{checked, refusal, told, boundParts}
-use Rattle.matcher.specs.declared.Answer.{Answer}
-use Rattle.matcher.specs.declared.Answer.the-variants.{Refused}
 
 -- 15 "after every check of pattern and record"
 abbrev pub toldNext : Following → Answer

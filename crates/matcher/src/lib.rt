@@ -1,8 +1,9 @@
 // The match of one pattern against one record: the checks, the search, and the answer in the caller's buffer.
-use reader::Read;
+use answers::Answer;
+use answers::Refusal;
+use byte_answers::Read;
 use search::Known;
 use search::Outcome;
-use term::Refusal;
 ghost use mathlib.Core.Path.{_≡_};
 ghost use mathlib.Core.List.{[]};
 ghost use mathlib.Core.Option.{none, some};
@@ -11,47 +12,13 @@ ghost use lib.ListN.{length};
 ghost use Rattle.term.specs.Moment.{old, new};
 ghost use Rattle.call.specs.Brought.{broughtBy, classesOf, broughtAccepted};
 ghost use Rattle.link.specs.OnBytes.{repliedBy, followingOnBytes};
-ghost use Rattle.matcher.specs.Call.{answerNumber, answerCount, ruleChecked, checked, checkOf, answerOf, bufferOf, answerOnBytes, bufferOnBytes, told};
+ghost use Rattle.matcher.specs.Call.{ruleChecked, checked, checkOf, answerOf, bufferOf, answerOnBytes, bufferOnBytes, told};
 ghost use Rattle.matcher.specs.Next.{toldNext, nextOf, nextBufferOf};
 ghost use Rattle.search.specs.Following.{nextPass, shownPass};
 ghost use Rattle.matcher.specs.Demands.{Demanded, NextDemanded, NextCalled};
 
 // How many numbers an answer has.
 pub const ANSWER_WIDTH: usize = parts::ANSWER_WIDTH;
-
-// Bound, none or spent, with the count; or why the input is refused.
-pub enum Answer {
-    Bound(u32),
-    None(u32),
-    Spent(u32),
-    Refused(Refusal),
-}
-
-impl Answer {
-    // Document 01's number; bound has 0.
-    pub fn number(self) -> u8
-        ensures { λ r. ⌜ r ≡ answerNumber self ⌝ }
-    {
-        match self {
-            Answer::Bound(_) => 0,
-            Answer::None(_) => 10,
-            Answer::Spent(_) => 11,
-            Answer::Refused(r) => r.number(),
-        }
-    }
-
-    // The count that it shows; a refusal shows 0.
-    pub fn count(self) -> u32
-        ensures { λ r. ⌜ r ≡ answerCount self ⌝ }
-    {
-        match self {
-            Answer::Bound(n) => n,
-            Answer::None(n) => n,
-            Answer::Spent(n) => n,
-            Answer::Refused(_) => 0,
-        }
-    }
-}
 
 // Whether every check is passed, or why not.
 pub enum Check {

@@ -9,8 +9,8 @@ use lib.Bits.{bitOr, or-step, or-shr}
 use lib.Dec.{eqb, ltb}
 use lib.Pow.{pow-pos, pow-mono, pow-lt, pow-add, shl-shr, shr-lt, split, field, mod-mod-pow}
 use borrow.Author.Tests.{eqb-true, eqb-false, ltb-true, ltb-false, eq-eqb}
+use Rattle.answers.specs.Part.{part, boundPart}
 use Rattle.term.specs.Code.{variables}
-use Rattle.term.specs.Part.{part, boundPart}
 use Rattle.parts.specs.Packed.{bit, packed, unpacked}
 
 -- The mask

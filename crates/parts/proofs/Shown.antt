@@ -9,9 +9,9 @@ use lib.ListN.{length, getD, drop, set, replicate, length-set, getD-replicate, L
 use lib.Seq.{getD-set-same, getD-set-other, drop-at, paste, paste-zero, paste-suc}
 use lib.Dec.{eqb}
 use borrow.Author.Tests.{lt-ltb, le-ltb, eqb-true, eqb-false}
+use Rattle.answers.specs.Part.{nowhere, part, absent}
+use Rattle.answers.specs.declared.Part.{Part}
 use Rattle.term.specs.Code.{variables}
-use Rattle.term.specs.Part.{nowhere, part, absent}
-use Rattle.term.specs.declared.Part.{Part}
 use Rattle.parts.specs.Packed.{partIn, partOf, partsIn}
 use Rattle.parts.specs.Shown.{entry, numbers, entryWidth, answerWidth, setEntry, shownParts}
 use Rattle.parts.proofs.Masks.{whole, bit-below, bit-past, bit-next}

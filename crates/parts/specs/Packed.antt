@@ -4,9 +4,9 @@ use mathlib.Core.List.{List, [], _∷_}
 use mathlib.Core.Bool.{Bool, cond}
 use lib.ListN.{getD}
 use lib.Dec.{eqb, ltb}
+use Rattle.answers.specs.Part.{part, absent}
+use Rattle.answers.specs.declared.Part.{Part}
 use Rattle.term.specs.Code.{variables}
-use Rattle.term.specs.Part.{part, absent}
-use Rattle.term.specs.declared.Part.{Part}
 
 abbrev pub bit : ℕ → ℕ → Bool
 bit assigned v = eqb (assigned / 2 ^ v % 2) 1

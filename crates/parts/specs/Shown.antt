@@ -4,8 +4,8 @@ use mathlib.Core.List.{List, [], _∷_, _++_}
 use mathlib.Core.Bool.{cond}
 use lib.ListN.{length, drop, set}
 use lib.Dec.{ltb}
+use Rattle.answers.specs.declared.Part.{Part}
 use Rattle.term.specs.Code.{variables}
-use Rattle.term.specs.declared.Part.{Part}
 
 -- "Each of the 48 entries becomes offset, length and number of terms"
 abbrev pub entry : Part → List ℕ

@@ -1,14 +1,14 @@
 // What a search keeps of the variables, a bit and a number for each, and what it shows of them in an answer buffer.
+use answers::Part;
 use term::NAMES;
-use term::Part;
 use term::VARIABLES;
 ghost use mathlib.Core.Path.{_≡_};
 ghost use mathlib.Core.List.{_++_};
 ghost use Prim.Native.Nat.{_%_, _^_, _≤_, _<_};
 ghost use lib.ListN.{length, drop, replicate};
+ghost use Rattle.answers.specs.Part.{absent};
 ghost use Rattle.term.specs.Moment.{old, new};
 ghost use Rattle.term.specs.Code.{variables};
-ghost use Rattle.term.specs.Part.{absent};
 ghost use Rattle.parts.specs.Packed.{bit, packed, unpacked, partOf, partsIn};
 ghost use Rattle.parts.specs.Shown.{answerWidth, numbers, setEntry, shownParts};
 

@@ -8,17 +8,20 @@ use mathlib.Core.Option.{Option, none, some}
 use lib.ListN.{length}
 use lib.Dec.{leb}
 use borrow.Author.Tests.{leb-true, leb-false}
+use Rattle.answers.specs.Answers.{answerNumber, answerCount}
+use Rattle.answers.specs.declared.Part.{Part}
+use Rattle.answers.specs.declared.Refusal.{Refusal}
+use Rattle.answers.specs.declared.Refusal.the-variants.{NotPlain}
+use Rattle.answers.specs.declared.Answer.{Answer}
+use Rattle.answers.specs.declared.Answer.the-variants.{Bound, None, Refused}
+use Rattle.byte_answers.specs.declared.Read.{Read}
+use Rattle.byte_answers.specs.declared.Read.the-variants.{Ends}
 use Rattle.term.specs.Code.{variables}
 use Rattle.term.specs.Limits.{Octets}
 use Rattle.term.specs.Pattern.{Pattern}
 use Rattle.term.specs.Term.{Term}
-use Rattle.term.specs.declared.Part.{Part}
-use Rattle.term.specs.declared.Refusal.{Refusal}
 use Rattle.reader.specs.Reading.{readRecord, shown as shownRead}
-use Rattle.reader.specs.declared.Read.{Read}
-use Rattle.reader.specs.declared.Read.the-variants.{Ends}
 use Rattle.reader.proofs.Typed.{pattern-iff}
-use Rattle.term.specs.declared.Refusal.the-variants.{NotPlain}
 use Rattle.anti_pattern.specs.Answer.{answer, countOf, matchingOf}
 use Rattle.anti_pattern.specs.Language.{Language}
 use Rattle.anti_pattern.specs.Search.{Env, Answers, found, failed, firstAnswer, whole, start}
@@ -31,10 +34,8 @@ use Rattle.call.specs.Call.{written}
 use Rattle.call.specs.Verdict.{passed}
 use Rattle.call.proofs.Brought.{brought-alike}
 use Rattle.call.proofs.Handled.{handled, fails, passes}
-use Rattle.matcher.specs.Call.{answerNumber, answerCount, ruleChecked, checkOf, refusal, told, answerOf, boundParts, bufferOf}
+use Rattle.matcher.specs.Call.{ruleChecked, checkOf, refusal, told, answerOf, boundParts, bufferOf}
 use Rattle.matcher.specs.Demands.{Answered, Shows}
-use Rattle.matcher.specs.declared.Answer.{Answer}
-use Rattle.matcher.specs.declared.Answer.the-variants.{Bound, None, Refused}
 use Rattle.matcher.proofs.Answered.{same-call, answered}
 use Rattle.matcher.proofs.Checks.{check-failed, check-passed}
 use Rattle.matcher.proofs.Demanded.{told-refused, told-unbound}

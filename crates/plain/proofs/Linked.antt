@@ -10,6 +10,8 @@ use lib.ListN.{length, getD, drop, set, length-set, getD-replicate}
 use lib.Seq.{getD-set-same, getD-set-other}
 use lib.Dec.{eqb, ltb}
 use borrow.Author.Tests.{eqb-true, eqb-false, ne-eqb, le-ltb, ltb-true, ltb-false}
+use Rattle.answers.specs.declared.Part.{Part}
+use Rattle.answers.specs.declared.Answer.the-variants.{Bound, None}
 use Rattle.term.proofs.Lists.{past-front}
 use Rattle.term.specs.Class.{classOf, Alike}
 use Rattle.term.specs.Code.{variables, byteOf}
@@ -25,7 +27,6 @@ use Rattle.term.proofs.Codes.{code-back}
 use Rattle.term.proofs.Extents.{entry-symbol, extent-term}
 use Rattle.term.proofs.Joins.{bytes-join, sizes-join, sizes-single, fit-split}
 use Rattle.term.proofs.Sizes.{arity, number-children, number-terms, childrenBytes, node-bytes, symbol-bytes, past-term, past-terms}
-use Rattle.term.specs.declared.Part.{Part}
 use Rattle.anti_pattern.specs.Language.{language}
 use Rattle.anti_pattern.specs.Search.{Env, bind, start}
 use Rattle.anti_pattern.specs.Variables.{vars, varsAll, among}
@@ -35,7 +36,6 @@ use Rattle.parts.specs.Shown.{numbers, answerWidth, shownParts}
 use Rattle.link.specs.Input.{Input}
 use Rattle.call.specs.Call.{written}
 use Rattle.matcher.specs.Call.{told, boundParts}
-use Rattle.matcher.specs.declared.Answer.the-variants.{Bound, None}
 use Rattle.link.proofs.Linked.{shown-parts, table-short, short}
 use Rattle.link.proofs.Parts.{shown-bind, shown-start}
 use Rattle.link.proofs.Places.{within-terms}

@@ -9,8 +9,8 @@ use lib.ListN.{length, getD, set, replicate, length-set}
 use lib.Seq.{getD-set-same, getD-set-other}
 use lib.Dec.{eqb}
 use borrow.Author.Tests.{eqb-true, eqb-false}
+use Rattle.answers.specs.Part.{part, absent, boundPart}
 use Rattle.term.specs.Code.{variables}
-use Rattle.term.specs.Part.{part, absent, boundPart}
 use Rattle.parts.specs.Packed.{bit, packed, unpacked, partIn, partPlaces, partsIn}
 use Rattle.parts.proofs.Shown.{parts-shown, parts-length, parts-from}
 use Rattle.parts.proofs.Masks.{bit-new, bit-other, part-back}

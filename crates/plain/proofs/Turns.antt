@@ -9,8 +9,8 @@ use lib.Bits.{bitOr}
 use lib.ListN.{length, getD, take, drop, set, drop-of-length-le}
 use lib.Seq.{drop-cons, drop-drop}
 use lib.Dec.{eqb}
+use Rattle.answers.specs.Part.{boundPart}
 use Rattle.term.proofs.Lists.{rest-part, rest-length}
-use Rattle.term.specs.Part.{boundPart}
 use Rattle.term.specs.Code.{variables, decodeOf}
 use Rattle.term.specs.Same.{sameByte}
 use Rattle.term.specs.declared.Code.{Code}

@@ -7,9 +7,11 @@ use mathlib.Core.Bool.{Bool, true, false, cond}
 use lib.Bits.{bitOr}
 use lib.ListN.{length, getD, drop, set, replicate}
 use lib.Dec.{eqb, ltb}
+use Rattle.answers.specs.Part.{boundPart}
+use Rattle.answers.specs.declared.Answer.{Answer}
+use Rattle.answers.specs.declared.Answer.the-variants.{Bound, None}
 use Rattle.term.specs.Code.{variables, decodeOf}
 use Rattle.term.specs.Extent.{entryOf, extentOf}
-use Rattle.term.specs.Part.{boundPart}
 use Rattle.term.specs.Same.{sameByte}
 use Rattle.term.specs.Table.{list}
 use Rattle.term.specs.declared.Code.{Code}
@@ -17,8 +19,6 @@ use Rattle.term.specs.declared.Code.the-variants.{Symbol, Name, Run, Complement
 use Rattle.search.specs.Given.{elementsOf}
 use Rattle.parts.specs.Packed.{bit, packed, partPlaces, partsIn}
 use Rattle.parts.specs.Shown.{shownParts}
-use Rattle.matcher.specs.declared.Answer.{Answer}
-use Rattle.matcher.specs.declared.Answer.the-variants.{Bound, None}
 use Rattle.plain.specs.declared.Runs.{Runs}
 use Rattle.plain.specs.declared.Look.{Look}
 use Rattle.plain.specs.declared.Look.the-variants.{NotPlain, Passes}

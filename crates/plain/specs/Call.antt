@@ -3,16 +3,16 @@ use Prim.Native.Nat.{ℕ}
 use mathlib.Core.List.{List}
 use mathlib.Core.Option.{Option}
 use lib.ListN.{length}
+use Rattle.answers.specs.declared.Refusal.the-variants.{NotPlain}
+use Rattle.answers.specs.declared.Answer.{Answer}
 use Rattle.term.specs.Term.{Term}
 use Rattle.term.specs.Pattern.{Pattern}
-use Rattle.term.specs.declared.Refusal.the-variants.{NotPlain}
 use Rattle.reader.specs.Reading.{readPattern, readRecord}
 use Rattle.link.specs.Input.{Input}
 use Rattle.call.specs.Brought.{languageOf}
 use Rattle.call.specs.Call.{checks, answerBy, bufferBy}
 use Rattle.call.specs.Verdict.{Verdict, passed, fault, check, reading, both}
 use Rattle.matcher.specs.Call.{refusal, told, boundParts}
-use Rattle.matcher.specs.declared.Answer.{Answer}
 use Rattle.plain.specs.Check.{isPlain}
 use Rattle.plain.specs.Plain.{Plain}
 use Rattle.plain.specs.Tier.{plainAnswer}

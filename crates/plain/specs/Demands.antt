@@ -6,12 +6,14 @@ use mathlib.Core.List.{List, []}
 use mathlib.Core.Bool.{true}
 use mathlib.Core.Option.{Option}
 use lib.ListN.{length}
+use Rattle.answers.specs.Refusal.{numberOf}
+use Rattle.answers.specs.Answers.{answerNumber, answerCount}
+use Rattle.answers.specs.declared.Refusal.the-variants.{NotPlain}
+use Rattle.answers.specs.declared.Answer.{Answer}
 use Rattle.term.specs.Limits.{PatternAccepted}
 use Rattle.term.specs.Pattern.{Pattern, patternBytes}
-use Rattle.term.specs.Refusal.{numberOf}
 use Rattle.term.specs.Table.{tableAccepted}
 use Rattle.term.specs.Term.{Term}
-use Rattle.term.specs.declared.Refusal.the-variants.{NotPlain}
 use Rattle.anti_pattern.specs.Demands.{First, Unsatisfied}
 use Rattle.anti_pattern.specs.Language.{Language}
 use Rattle.anti_pattern.specs.Meaning.{Assignment}
@@ -19,9 +21,8 @@ use Rattle.anti_pattern.specs.Search.{firstAnswer, whole}
 use Rattle.link.specs.Input.{Input}
 use Rattle.call.specs.Brought.{languageOf, broughtAccepted}
 use Rattle.call.specs.Demands.{Handled}
-use Rattle.matcher.specs.Call.{answerNumber, answerCount, answerOf, bufferOf}
+use Rattle.matcher.specs.Call.{answerOf, bufferOf}
 use Rattle.matcher.specs.Demands.{Shows}
-use Rattle.matcher.specs.declared.Answer.{Answer}
 use Rattle.parts.specs.Shown.{answerWidth}
 use Rattle.plain.specs.Call.{AcceptedPlain, plainOf, plainBufferOf}
 use Rattle.plain.specs.Plain.{Plain}

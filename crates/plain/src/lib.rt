@@ -1,15 +1,15 @@
 // The plain tier: rules without complements, with no name or run name twice and at most one run name in a list. One loop over the pattern's bytes
 // beside a place in the record; nothing is tried twice.
-use matcher::Answer;
+use answers::Answer;
+use answers::Part;
+use answers::Refusal;
+use byte_answers::Read;
 use matcher::Check;
 use matcher::check_rule;
 use parts::PARTS;
-use reader::Read;
 use term::Code;
 use term::LIST;
 use term::LONGEST_PATTERN;
-use term::Part;
-use term::Refusal;
 use term::VARIABLES;
 ghost use mathlib.Core.Path.{_≡_};
 ghost use mathlib.Core.Bool.{false};
@@ -17,11 +17,11 @@ ghost use mathlib.Core.Option.{none, some};
 ghost use Prim.Native.Nat.{_+_, _^_, _<_, _≤_};
 ghost use lib.Bits.{bitOr};
 ghost use lib.ListN.{length, set};
+ghost use Rattle.answers.specs.Part.{boundPart};
 ghost use Rattle.term.specs.Moment.{old, new};
 ghost use Rattle.term.specs.Code.{variables, VariableBelow};
 ghost use Rattle.term.specs.Extent.{extentOf};
 ghost use Rattle.term.specs.Limits.{longestPattern};
-ghost use Rattle.term.specs.Part.{boundPart};
 ghost use Rattle.search.specs.Given.{elementsOf};
 ghost use Rattle.parts.specs.Packed.{bit, packed};
 ghost use Rattle.plain.specs.Bytes.{alsoRun, runsAmong, noRuns, runCode, isLeaf, SurelyPlain, weightOf, weightsOf, rootBytes, leavesOf, lookVariable, lookByte, lookList, lookSymbol, lookOf, LookWithin, plainFrom, listOf, symbolOf, turnOf, TurnWithin, mayHold, rootMayHold, tieringOf, tierOn, noParts, toldEnding, shownEnding};

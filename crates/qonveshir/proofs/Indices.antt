@@ -8,23 +8,25 @@ use mathlib.Core.Option.{Option}
 use lib.ListN.{length}
 use lib.Dec.{leb}
 use borrow.Author.Tests.{leb-true}
+use Rattle.answers.specs.Answers.{ruleIndex}
+use Rattle.answers.specs.declared.Refusal.the-variants.{Table, Narrow, Long, Directory, Full, Class}
+use Rattle.answers.specs.declared.RuleAnswer.{RuleAnswer}
+use Rattle.byte_answers.specs.Answers.{checkedIndex, writingIndex}
+use Rattle.byte_answers.specs.declared.Read.{Read}
+use Rattle.byte_answers.specs.declared.Read.the-variants.{Ends}
+use Rattle.byte_answers.specs.declared.Checked.{Checked}
+use Rattle.byte_answers.specs.declared.Checked.the-variants.{Accepted}
+use Rattle.byte_answers.specs.declared.Writing.{Writing}
+use Rattle.byte_answers.specs.declared.Writing.the-variants.{Written}
 use Rattle.term.specs.Term.{Term}
 use Rattle.term.specs.Pattern.{Pattern}
 use Rattle.term.specs.Table.{tableAccepted}
 use Rattle.reader.specs.Reading.{Parsed, refused, read, readRecord}
-use Rattle.reader.specs.declared.Read.{Read}
-use Rattle.reader.specs.declared.Read.the-variants.{Ends}
-use Rattle.term.specs.declared.Refusal.the-variants.{Table, Narrow, Long, Directory, Full, Class}
 use Rattle.anti_pattern.specs.Answer.{Matching, bound, nothing, spent, answer}
-use Rattle.sheet.specs.Answer.{checkedIndex, writingIndex}
 use Rattle.sheet.specs.Check.{longestSheet, entryCount, directoryAccepted, checkSheet, andThen}
 use Rattle.sheet.specs.Contents.{readEntry, stopAt, checkEach, few, checkContents, checkRules}
 use Rattle.sheet.specs.Entry.{entries}
 use Rattle.sheet.specs.Writing.{split, lengthsAccepted, sheetLength, checkRecords, withRoom, writing}
-use Rattle.sheet.specs.declared.Checked.{Checked}
-use Rattle.sheet.specs.declared.Checked.the-variants.{Accepted}
-use Rattle.sheet.specs.declared.Writing.{Writing}
-use Rattle.sheet.specs.declared.Writing.the-variants.{Written}
 use Rattle.sheet.proofs.Checks.{accepted-directed}
 use Rattle.sheet.proofs.Contents.{contents-passed}
 use Rattle.sheet.proofs.Entries.{entries-count}
@@ -32,11 +34,9 @@ use Rattle.sheet.proofs.Lengths.{split-length}
 use Rattle.call.specs.Brought.{languageOf, broughtAccepted}
 use Rattle.call.specs.Call.{answerWidth, checks, answerBy}
 use Rattle.call.specs.Verdict.{check, reading, both}
-use Rattle.rules.specs.Answer.{ruleIndex}
 use Rattle.rules.specs.Call.{rulesOf, rulesBy, told, answerOf}
 use Rattle.rules.proofs.Rules.{rules-few}
 use Rattle.rules.specs.Trial.{tryOne, tryEach, tryRules}
-use Rattle.rules.specs.declared.RuleAnswer.{RuleAnswer}
 
 -- entries and records, which are checked one by one
 

@@ -1,17 +1,14 @@
 -- What the interface shows of each answer of the library: its number, its index, its count.
 use Prim.Native.Nat.{ℕ}
-use Rattle.cost.specs.Call.{costNumber, costCount}
-use Rattle.cost.specs.declared.Cost.{Cost}
-use Rattle.matcher.specs.Call.{answerNumber, answerCount}
-use Rattle.matcher.specs.declared.Answer.{Answer}
-use Rattle.rules.specs.Answer.{ruleNumber, ruleIndex, ruleCount}
-use Rattle.rules.specs.declared.RuleAnswer.{RuleAnswer}
-use Rattle.sheet.specs.Answer.{checkedNumber, checkedIndex, writingNumber, writingIndex, writingLength, placeNumber, placeOffset, placeLength}
-use Rattle.sheet.specs.declared.Checked.{Checked}
-use Rattle.sheet.specs.declared.Place.{Place}
-use Rattle.sheet.specs.declared.Writing.{Writing}
-use Rattle.stored.specs.Move.{moveNumber, moveLength}
-use Rattle.stored.specs.declared.Move.{Move}
+use Rattle.answers.specs.Answers.{costNumber, costCount, answerNumber, answerCount, ruleNumber, ruleIndex, ruleCount}
+use Rattle.answers.specs.declared.Cost.{Cost}
+use Rattle.answers.specs.declared.Answer.{Answer}
+use Rattle.answers.specs.declared.RuleAnswer.{RuleAnswer}
+use Rattle.byte_answers.specs.Answers.{checkedNumber, checkedIndex, writingNumber, writingIndex, writingLength, placeNumber, placeOffset, placeLength, moveNumber, moveLength}
+use Rattle.byte_answers.specs.declared.Checked.{Checked}
+use Rattle.byte_answers.specs.declared.Place.{Place}
+use Rattle.byte_answers.specs.declared.Writing.{Writing}
+use Rattle.byte_answers.specs.declared.Move.{Move}
 use Rattle.qonveshir.specs.declared.Outcome.{Outcome}
 use Rattle.qonveshir.specs.declared.Part.{Part}
 

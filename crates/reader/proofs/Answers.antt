@@ -3,14 +3,14 @@ use Prim.Native.Nat.{ℕ, _+_}
 use native.Mathlib.Omega.{arith}
 use mathlib.Core.Path.{_≡_, refl, ap, subst}
 use mathlib.Core.Bool.{Bool}
+use Rattle.answers.specs.declared.Refusal.{Refusal}
+use Rattle.byte_answers.specs.declared.Read.{Read}
+use Rattle.byte_answers.specs.declared.Read.the-variants.{Ends}
 use Rattle.term.specs.Tree.{Tree, Trees, branch, more}
 use Rattle.term.specs.declared.Code.{Code}
-use Rattle.term.specs.declared.Refusal.{Refusal}
 use Rattle.reader.specs.Reading.{Parsed, refused, read, shown, join, chain, grow, enter}
 use Rattle.reader.specs.declared.Node.{Node}
 use Rattle.reader.specs.declared.Node.the-variants.{Open}
-use Rattle.reader.specs.declared.Read.{Read}
-use Rattle.reader.specs.declared.Read.the-variants.{Ends}
 
 -- what holds of an open node's parts, and of what was read
 abbrev pub Opened : (ℕ → ℕ → Bool → ℕ → Type 0) → Node → Type 0

@@ -7,17 +7,17 @@ use mathlib.Core.List.{List, [], _∷_}
 use mathlib.Core.Bool.{Bool, false}
 use lib.ListN.{length, getD, drop, set, take, length-drop, length-set}
 use lib.Seq.{drop-drop, getD-set-same, getD-set-other}
+use Rattle.answers.specs.declared.Refusal.{Refusal}
+use Rattle.byte_answers.specs.declared.Read.{Read}
+use Rattle.byte_answers.specs.declared.Read.the-variants.{Ends}
 use Rattle.term.proofs.Lists.{rest-part}
 use Rattle.term.specs.Limits.{nesting}
-use Rattle.term.specs.declared.Refusal.{Refusal}
 use Rattle.reader.specs.Frame.{frame}
 use Rattle.reader.specs.Node.{nodeAt}
 use Rattle.reader.specs.Reading.{shown, readAll, readTree, HandsOn}
 use Rattle.reader.specs.declared.Frame.{Frame}
 use Rattle.reader.specs.declared.Node.{Node}
 use Rattle.reader.specs.declared.Node.the-variants.{Open}
-use Rattle.reader.specs.declared.Read.{Read}
-use Rattle.reader.specs.declared.Read.the-variants.{Ends}
 use Rattle.reader.proofs.Steps.{plus, andThen, all-none, all-more, shown-chain, tree-refused, tree-open, node-within, node-below}
 
 -- all but the first tree

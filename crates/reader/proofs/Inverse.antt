@@ -10,11 +10,11 @@ use lib.ListN.{length, getD, drop, length-drop}
 use lib.Seq.{drop-drop, drop-length, drop-at, getD-drop}
 use lib.Dec.{leb, eqb}
 use borrow.Author.Tests.{eqb-true, leb-true, le-leb, eq-eqb}
+use Rattle.answers.specs.declared.Refusal.the-variants.{Short}
 use Rattle.term.specs.Code.{codeIn}
 use Rattle.term.specs.Tree.{Tree, Trees, branch, empty, more, number, listCode, own, encode, encodes}
 use Rattle.term.specs.Limits.{nesting, Written, Shape, belowOf, Fits, FitAll, longest, Octets, Accepted}
 use Rattle.term.specs.declared.Code.{Code}
-use Rattle.term.specs.declared.Refusal.the-variants.{Short}
 use Rattle.term.proofs.Bools.{cond-all}
 use Rattle.term.proofs.Codes.{code-back}
 use Rattle.term.proofs.Sizes.{encode-append, branch-length, more-length}

@@ -7,13 +7,13 @@ use mathlib.Core.Bool.{Bool, true, false, cond}
 use lib.ListN.{length, getD, drop}
 use lib.Dec.{ltb, eqb}
 use borrow.Author.Tests.{ltb-true, ltb-false, eqb-true, eqb-false, lt-ltb, le-ltb, ne-eqb}
+use Rattle.answers.specs.declared.Refusal.the-variants.{Short}
 use Rattle.term.specs.Table.{isList}
 use Rattle.term.specs.Code.{decodeOf, codeIn, byteOf}
 use Rattle.term.specs.Tree.{listCode, own}
 use Rattle.term.specs.Limits.{Written, Counted, Shape, belowOf, Octets}
 use Rattle.term.specs.declared.Code.{Code}
 use Rattle.term.specs.declared.Code.the-variants.{Symbol, Name, Run, Complement}
-use Rattle.term.specs.declared.Refusal.the-variants.{Short}
 use Rattle.term.proofs.Bools.{cond-all}
 use Rattle.term.proofs.Codes.{code-back}
 use Rattle.term.proofs.Sizes.{own-length as list-length}

@@ -8,6 +8,7 @@ use lib.ListN.{length, getD, drop, length-drop}
 use lib.Seq.{getD-drop}
 use lib.Dec.{eqb}
 use borrow.Author.Tests.{lt-ltb, le-ltb, eqb-true, eq-eqb, ne-eqb}
+use Rattle.byte_answers.specs.declared.Read.the-variants.{Ends}
 use Rattle.term.specs.Code.{decodeOf}
 use Rattle.term.specs.Table.{list, largestTable}
 use Rattle.term.specs.Limits.{nesting, longestRecord}
@@ -17,7 +18,6 @@ use Rattle.reader.specs.Node.{openNode, nodeAt}
 use Rattle.reader.specs.Reading.{shown, readTree, readWhole, SurelyRead}
 use Rattle.reader.specs.declared.Frame.{Frame}
 use Rattle.reader.specs.declared.Node.the-variants.{Open}
-use Rattle.reader.specs.declared.Read.the-variants.{Ends}
 use Rattle.reader.proofs.Nodes.{node-open}
 use Rattle.reader.proofs.Steps.{plus, tree-open, all-none, whole-tree, whole-all}
 use Rattle.reader.proofs.Frames.{restOf, ToCome, whole-to-come, children-to-come, none-to-come, skip}

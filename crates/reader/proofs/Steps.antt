@@ -8,19 +8,19 @@ use mathlib.Core.Bool.{Bool, true, false, cond}
 use lib.ListN.{length, getD, drop}
 use lib.Dec.{eqb}
 use borrow.Author.Tests.{le-leb, lt-leb, eq-eqb, ne-eqb}
+use Rattle.answers.specs.declared.Refusal.{Refusal}
+use Rattle.answers.specs.declared.Refusal.the-variants.{Long, Spare}
+use Rattle.byte_answers.specs.declared.Read.{Read}
+use Rattle.byte_answers.specs.declared.Read.the-variants.{Ends}
 use Rattle.term.specs.Code.{codeIn}
 use Rattle.term.specs.Tree.{Tree, Trees}
 use Rattle.term.specs.Limits.{nesting, longest}
 use Rattle.term.specs.declared.Code.{Code}
-use Rattle.term.specs.declared.Refusal.{Refusal}
-use Rattle.term.specs.declared.Refusal.the-variants.{Long, Spare}
 use Rattle.term.proofs.Sizes.{encode-length}
 use Rattle.reader.specs.Node.{nodeAt}
 use Rattle.reader.specs.Reading.{Parsed, refused, read, shown, join, chain, readAll, grow, enter, readTree, unlessSpare, readWhole}
 use Rattle.reader.specs.declared.Node.{Node}
 use Rattle.reader.specs.declared.Node.the-variants.{Open}
-use Rattle.reader.specs.declared.Read.{Read}
-use Rattle.reader.specs.declared.Read.the-variants.{Ends}
 use Rattle.reader.proofs.Answers.{Got, opened-at, refused-shown, ends-shown}
 use Rattle.reader.proofs.Nodes.{NodeSound, own-length, own-size, sound-node}
 use Rattle.reader.proofs.Inverse.{TreeSound, sound, tree-unfold}

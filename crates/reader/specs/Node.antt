@@ -4,12 +4,12 @@ use mathlib.Core.List.{List}
 use mathlib.Core.Bool.{Bool, true, false, cond}
 use lib.ListN.{length, getD}
 use lib.Dec.{ltb, eqb}
+use Rattle.answers.specs.declared.Refusal.the-variants.{Short, BadCode, Deep, Stray}
 use Rattle.term.specs.Table.{isList}
 use Rattle.term.specs.Code.{codeIn}
 use Rattle.term.specs.Limits.{belowOf}
 use Rattle.term.specs.declared.Code.{Code}
 use Rattle.term.specs.declared.Code.the-variants.{Symbol, Name, Run, Complement}
-use Rattle.term.specs.declared.Refusal.the-variants.{Short, BadCode, Deep, Stray}
 use Rattle.reader.specs.declared.Node.{Node}
 use Rattle.reader.specs.declared.Node.the-variants.{Open}
 

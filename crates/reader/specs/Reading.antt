@@ -5,20 +5,19 @@ use mathlib.Core.List.{List}
 use mathlib.Core.Bool.{Bool, true, false, cond}
 use lib.ListN.{length, getD, drop}
 use lib.Dec.{leb, eqb}
+use Rattle.answers.specs.declared.Refusal.{Refusal}
+use Rattle.answers.specs.declared.Refusal.the-variants.{Short, Spare, Long}
+use Rattle.byte_answers.specs.declared.Read.{Read}
+use Rattle.byte_answers.specs.declared.Read.the-variants.{Ends}
 use Rattle.term.specs.Code.{codeIn}
 use Rattle.term.specs.Tree.{Tree, Trees, branch, empty, more}
 use Rattle.term.specs.Term.{Term, termOf}
 use Rattle.term.specs.Pattern.{Pattern, patternOf}
 use Rattle.term.specs.Limits.{longest, nesting}
-use Rattle.term.specs.Refusal.{numberOf}
 use Rattle.term.specs.declared.Code.{Code}
-use Rattle.term.specs.declared.Refusal.{Refusal}
-use Rattle.term.specs.declared.Refusal.the-variants.{Short, Spare, Long}
 use Rattle.reader.specs.Node.{nodeAt}
 use Rattle.reader.specs.declared.Node.{Node}
 use Rattle.reader.specs.declared.Node.the-variants.{Open}
-use Rattle.reader.specs.declared.Read.{Read}
-use Rattle.reader.specs.declared.Read.the-variants.{Ends}
 
 -- a refusal, or what was read and its number of bytes
 pub data Parsed (A : Type 0) : Type 0 where
@@ -29,15 +28,6 @@ pub data Parsed (A : Type 0) : Type 0 where
 unfoldable pub shown : {A : Type 0} → Parsed A → Read
 shown (refused r) = Read.Refused r
 shown (read a n) = Ends n
-
--- what is read has 0 for a number, and its length in bytes; a refusal has length 0
-abbrev pub readNumber : Read → ℕ
-readNumber (Ends n) = 0
-readNumber (Read.Refused r) = numberOf r
-
-abbrev pub readLength : Read → ℕ
-readLength (Ends n) = n
-readLength (Read.Refused r) = 0
 
 unfoldable pub join : Tree → ℕ → Parsed Trees → Parsed Trees
 join t n (refused r) = refused r

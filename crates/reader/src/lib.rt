@@ -1,11 +1,12 @@
 // The checks of a node, and the readers of records and patterns: which bytes are accepted, and where what they stand for ends.
+use answers::Refusal;
+use byte_answers::Read;
 use term::Code;
 use term::LARGEST_TABLE;
 use term::LIST;
 use term::LONGEST_PATTERN;
 use term::LONGEST_RECORD;
 use term::NESTING;
-use term::Refusal;
 use term::decode;
 ghost use mathlib.Core.Path.{_≡_};
 ghost use mathlib.Core.Bool.{true, false};
@@ -15,7 +16,7 @@ ghost use Rattle.term.specs.Code.{codeIn};
 ghost use Rattle.term.specs.Limits.{nesting, longest};
 ghost use Rattle.reader.specs.Node.{listNode, unlessDeep, codeNode, nodeAt};
 ghost use Rattle.reader.specs.Frame.{frame};
-ghost use Rattle.reader.specs.Reading.{shown, readNumber, readLength, readTree, HandsOn, readWhole, SurelyRead, readRecord, readPattern};
+ghost use Rattle.reader.specs.Reading.{shown, readTree, HandsOn, readWhole, SurelyRead, readRecord, readPattern};
 
 // The most frames around a tree that is being read.
 pub const FRAMES: usize = NESTING as usize;
@@ -39,34 +40,6 @@ pub struct Frame {
     pub count: u8,
     pub left: u8,
     pub list: bool,
-}
-
-// A tree that was read ends after so many bytes.
-pub enum Read {
-    Ends(usize),
-    Refused(Refusal),
-}
-
-impl Read {
-    // Document 01's number, or 0.
-    pub fn number(self) -> u8
-        ensures { λ r. ⌜ r ≡ readNumber self ⌝ }
-    {
-        match self {
-            Read::Ends(_) => 0,
-            Read::Refused(r) => r.number(),
-        }
-    }
-
-    // The length in bytes of what was read.
-    pub fn length(self) -> usize
-        ensures { λ r. ⌜ r ≡ readLength self ⌝ }
-    {
-        match self {
-            Read::Ends(n) => n,
-            Read::Refused(_) => 0,
-        }
-    }
 }
 
 fn code_in(records: bool, b: u8) -> Code

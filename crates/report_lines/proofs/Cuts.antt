@@ -8,13 +8,13 @@ use lib.ListN.{length, take, length-take}
 use lib.Seq.{take-all}
 use lib.Dec.{leb}
 use borrow.Author.Tests.{lt-leb, leb-true, leb-false}
+use Rattle.answers.specs.declared.Refusal.{Refusal}
+use Rattle.answers.specs.declared.Refusal.the-variants.{Unread, Long}
+use Rattle.byte_answers.specs.declared.Checked.{Checked}
+use Rattle.byte_answers.specs.declared.Checked.the-variants.{Accepted}
 use Rattle.term.specs.Table.{tableAccepted}
-use Rattle.term.specs.declared.Refusal.{Refusal}
-use Rattle.term.specs.declared.Refusal.the-variants.{Unread, Long}
 use Rattle.sheet.specs.Check.{longestSheet}
 use Rattle.sheet.specs.Contents.{checkContents, checkRules}
-use Rattle.sheet.specs.declared.Checked.{Checked}
-use Rattle.sheet.specs.declared.Checked.the-variants.{Accepted}
 use Rattle.sheet.proofs.Checks.{sheet-long}
 use Rattle.sheet.proofs.Contents.{contents-refused}
 use Rattle.report_lines.specs.Verdict.{readable, verdict}

@@ -1,10 +1,10 @@
 -- The lines that the fields of an answer and of a refusal make.
 use Prim.Native.Nat.{ℕ}
 use mathlib.Core.Path.{_≡_}
-use Rattle.term.specs.Refusal.{numberOf}
-use Rattle.term.specs.declared.Refusal.{Refusal}
-use Rattle.rules.specs.declared.RuleAnswer.{RuleAnswer}
-use Rattle.rules.specs.declared.RuleAnswer.the-variants.{Bound, None, Spent}
+use Rattle.answers.specs.Refusal.{numberOf}
+use Rattle.answers.specs.declared.Refusal.{Refusal}
+use Rattle.answers.specs.declared.RuleAnswer.{RuleAnswer}
+use Rattle.answers.specs.declared.RuleAnswer.the-variants.{Bound, None, Spent}
 use Rattle.report_lines.specs.Decimal.{decimal}
 use Rattle.report_lines.specs.Line.{line, boundWord, noneWord, spentWord, dash, answerLine, refusedWord, fileWord, refusalLine}
 use Rattle.report_lines.specs.declared.File.{File}

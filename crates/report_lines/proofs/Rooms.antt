@@ -8,18 +8,19 @@ use lib.ListN.{length, length-append}
 use lib.Seq.{sets}
 use lib.Dec.{ltb}
 use borrow.Author.Tests.{ltb-false, leb-true}
+use Rattle.answers.specs.Refusal.{numberOf}
+use Rattle.answers.specs.declared.Refusal.{Refusal}
+use Rattle.answers.specs.declared.RuleAnswer.{RuleAnswer}
+use Rattle.byte_answers.specs.declared.Checked.the-variants.{Accepted}
 use Rattle.term.specs.Term.{Term}
 use Rattle.term.specs.Pattern.{Pattern}
-use Rattle.term.specs.Refusal.{numberOf}
 use Rattle.reader.specs.Reading.{Parsed, refused, read, readRecord}
-use Rattle.term.specs.declared.Refusal.{Refusal}
 use Rattle.anti_pattern.specs.Language.{Language, language}
 use Rattle.anti_pattern.specs.Search.{Answers, found, failed, whole}
 use Rattle.anti_pattern.specs.Answer.{Matching, bound, nothing, spent, countOf, matchingOf, limit, answer}
 use Rattle.sheet.specs.Check.{lengthAt, entriesFollow, checkSheet}
 use Rattle.sheet.specs.Entry.{entries}
 use Rattle.sheet.specs.Contents.{mostRules, checkRules}
-use Rattle.sheet.specs.declared.Checked.the-variants.{Accepted}
 use Rattle.sheet.proofs.Checks.{accepted-directed, follow-true, follow-within}
 use Rattle.sheet.proofs.Contents.{contents-passed}
 use Rattle.sheet.proofs.Entries.{entries-count}
@@ -29,7 +30,6 @@ use Rattle.rules.specs.Trial.{Trial, boundAt, noneOf, spentAt, tryOne, tryEach,
 use Rattle.call.specs.Call.{checks, answerBy}
 use Rattle.call.specs.Verdict.{passed, both, reading}
 use Rattle.rules.specs.Call.{rulesOf, told, answerOf}
-use Rattle.rules.specs.declared.RuleAnswer.{RuleAnswer}
 use Rattle.report_lines.specs.Decimal.{decimal}
 use Rattle.report_lines.specs.Line.{header, boundWord, noneWord, spentWord, dash, answerLine, refusedWord, fileWord, refusalLine}
 use Rattle.report_lines.specs.Verdict.{verdict}

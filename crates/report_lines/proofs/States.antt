@@ -6,6 +6,8 @@ use mathlib.Core.List.{List, [], _∷_}
 use mathlib.Core.Bool.{true, false}
 use mathlib.Core.Option.{none}
 use lib.ListN.{length, getD}
+use Rattle.answers.specs.declared.RuleAnswer.{RuleAnswer}
+use Rattle.byte_answers.specs.declared.Checked.the-variants.{Accepted}
 use Rattle.term.specs.Term.{Term}
 use Rattle.term.specs.Limits.{Octets}
 use Rattle.reader.specs.Reading.{Parsed, refused, read, shown, readRecord}
@@ -14,14 +16,12 @@ use Rattle.anti_pattern.specs.Language.{language}
 use Rattle.sheet.specs.Check.{checkSheet}
 use Rattle.sheet.specs.Entry.{entries, shownEntry, partAt}
 use Rattle.sheet.specs.Contents.{readEntry, checkEach, checkRules}
-use Rattle.sheet.specs.declared.Checked.the-variants.{Accepted}
 use Rattle.sheet.proofs.Contents.{contents-passed}
 use Rattle.sheet.proofs.Entries.{part-is-entry, entry-of-entries, entries-count, entries-octets}
 use Rattle.call.specs.Call.{answerWidth, checks}
 use Rattle.call.specs.Verdict.{passed}
 use Rattle.rules.specs.Call.{Input, rulesOf, checked, told, answerOf, answerOnBytes}
 use Rattle.rules.specs.Trial.{tryRules}
-use Rattle.rules.specs.declared.RuleAnswer.{RuleAnswer}
 use Rattle.rules.proofs.Checks.{checked-exactly}
 use Rattle.rules.proofs.Turns.{answer-answered}
 use Rattle.report_lines.specs.Verdict.{FilesAccepted}

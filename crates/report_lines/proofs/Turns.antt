@@ -8,6 +8,7 @@ use mathlib.Core.Option.{none}
 use mathlib.Core.Bool.{true}
 use lib.ListN.{length, drop, length-append, drop-of-length-le}
 use lib.Seq.{sets, length-sets, drop-cons}
+use Rattle.answers.specs.declared.RuleAnswer.{RuleAnswer}
 use Rattle.sheet.specs.Check.{entryCount}
 use Rattle.sheet.specs.Entry.{entries, shownEntry}
 use Rattle.sheet.proofs.Checks.{accepted-directed}
@@ -15,7 +16,6 @@ use Rattle.sheet.proofs.Entries.{entries-count}
 use Rattle.sheet.proofs.Stores.{sets-append}
 use Rattle.call.specs.Call.{answerWidth}
 use Rattle.rules.specs.Call.{answerOf}
-use Rattle.rules.specs.declared.RuleAnswer.{RuleAnswer}
 use Rattle.report_lines.specs.Line.{header, answerLine}
 use Rattle.report_lines.specs.Verdict.{FilesAccepted}
 use Rattle.report_lines.specs.Report.{allowance, stateLine, linesFrom, lines, report, reportRoom}

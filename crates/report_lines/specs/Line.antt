@@ -1,10 +1,10 @@
 -- A line: four fields one blank apart, ended by byte 10.
 use Prim.Native.Nat.{ℕ}
 use mathlib.Core.List.{List, [], _∷_, _++_}
-use Rattle.term.specs.Refusal.{numberOf}
-use Rattle.term.specs.declared.Refusal.{Refusal}
-use Rattle.rules.specs.declared.RuleAnswer.{RuleAnswer}
-use Rattle.rules.specs.declared.RuleAnswer.the-variants.{Bound, None, Spent}
+use Rattle.answers.specs.Refusal.{numberOf}
+use Rattle.answers.specs.declared.Refusal.{Refusal}
+use Rattle.answers.specs.declared.RuleAnswer.{RuleAnswer}
+use Rattle.answers.specs.declared.RuleAnswer.the-variants.{Bound, None, Spent}
 use Rattle.report_lines.specs.Decimal.{decimal}
 use Rattle.report_lines.specs.declared.File.{File}
 use Rattle.report_lines.specs.declared.File.the-variants.{Rules, States}

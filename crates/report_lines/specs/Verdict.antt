@@ -3,12 +3,12 @@ use Prim.Native.Nat.{ℕ}
 use mathlib.Core.Path.{_≡_}
 use mathlib.Core.List.{List}
 use mathlib.Core.Bool.{Bool, true, cond}
+use Rattle.answers.specs.declared.Refusal.{Refusal}
+use Rattle.answers.specs.declared.Refusal.the-variants.{Unread}
+use Rattle.byte_answers.specs.declared.Checked.{Checked}
+use Rattle.byte_answers.specs.declared.Checked.the-variants.{Accepted}
 use Rattle.term.specs.Table.{tableAccepted}
-use Rattle.term.specs.declared.Refusal.{Refusal}
-use Rattle.term.specs.declared.Refusal.the-variants.{Unread}
 use Rattle.sheet.specs.Contents.{checkRules, checkStates}
-use Rattle.sheet.specs.declared.Checked.{Checked}
-use Rattle.sheet.specs.declared.Checked.the-variants.{Accepted}
 use Rattle.report_lines.specs.declared.File.{File}
 use Rattle.report_lines.specs.declared.File.the-variants.{Rules, States}
 use Rattle.report_lines.specs.declared.Verdict.{Verdict}

@@ -1,7 +1,7 @@
 // The text of the report: which refusal or which lines, and the bytes of each. And the list of the codes, in fields as the report's.
-use rules::RuleAnswer;
-use sheet::Checked;
-use term::Refusal;
+use answers::Refusal;
+use answers::RuleAnswer;
+use byte_answers::Checked;
 ghost use mathlib.Core.Path.{_≡_};
 ghost use mathlib.Core.Option.{none};
 ghost use Prim.Native.Nat.{_+_, _≤_, _<_};

@@ -9,22 +9,22 @@ use mathlib.Core.Option.{Option, none, some}
 use lib.ListN.{length, getD}
 use lib.Dec.{leb}
 use borrow.Author.Tests.{leb-true, le-leb, lt-leb}
+use Rattle.answers.specs.declared.Refusal.{Refusal}
+use Rattle.answers.specs.declared.Refusal.the-variants.{Table, Narrow, Class}
+use Rattle.byte_answers.specs.declared.Read.{Read}
+use Rattle.byte_answers.specs.declared.Read.the-variants.{Ends}
+use Rattle.byte_answers.specs.declared.Checked.{Checked as SheetChecked}
+use Rattle.byte_answers.specs.declared.Checked.the-variants.{Accepted}
 use Rattle.term.specs.Class.{classesAccepted}
 use Rattle.term.specs.Table.{tableAccepted}
 use Rattle.term.specs.Term.{Term}
 use Rattle.term.specs.Pattern.{Pattern}
 use Rattle.term.specs.Limits.{Octets}
 use Rattle.reader.specs.Reading.{Parsed, refused, read, shown, readPattern, readRecord}
-use Rattle.term.specs.declared.Refusal.{Refusal}
-use Rattle.term.specs.declared.Refusal.the-variants.{Table, Narrow, Class}
-use Rattle.reader.specs.declared.Read.{Read}
-use Rattle.reader.specs.declared.Read.the-variants.{Ends}
 use Rattle.reader.proofs.Answers.{refused-shown, ends-shown}
 use Rattle.reader.proofs.Typed.{record-iff, pattern-iff, record-read, pattern-read}
 use Rattle.sheet.specs.Entry.{entries}
 use Rattle.sheet.specs.Contents.{mostRules, readEntry, checkEach, checkRules}
-use Rattle.sheet.specs.declared.Checked.{Checked as SheetChecked}
-use Rattle.sheet.specs.declared.Checked.the-variants.{Accepted}
 use Rattle.sheet.proofs.Checks.{accepted-directed, directed-accepted}
 use Rattle.sheet.proofs.Entries.{entries-octets}
 use Rattle.sheet.proofs.Contents.{contents-table, contents-each, contents-passed}

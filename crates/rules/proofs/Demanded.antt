@@ -8,14 +8,19 @@ use mathlib.Core.Bool.{true}
 use mathlib.Core.Option.{Option, none}
 use lib.ListN.{length, getD, length-append}
 use lib.Seq.{getD-at}
+use Rattle.answers.specs.Refusal.{numberOf}
+use Rattle.answers.specs.Answers.{answerNumber, ruleNumber, ruleIndex, ruleCount}
+use Rattle.answers.specs.declared.Part.{Part}
+use Rattle.answers.specs.declared.Refusal.{Refusal}
+use Rattle.answers.specs.declared.RuleAnswer.{RuleAnswer}
+use Rattle.answers.specs.declared.RuleAnswer.the-variants.{Bound, None, Spent, Refused}
+use Rattle.byte_answers.specs.declared.Checked.{Checked as SheetChecked}
+use Rattle.byte_answers.specs.declared.Checked.the-variants.{Accepted}
 use Rattle.term.specs.Class.{Alike}
 use Rattle.term.specs.Term.{Term}
 use Rattle.term.specs.Pattern.{Pattern, name}
 use Rattle.term.specs.Limits.{Octets}
-use Rattle.term.specs.Refusal.{numberOf}
-use Rattle.term.specs.declared.Part.{Part}
-use Rattle.term.specs.declared.Refusal.{Refusal}
-use Rattle.term.proofs.Numbers.{word-or-refusal}
+use Rattle.answers.proofs.Numbers.{word-or-refusal}
 use Rattle.anti_pattern.specs.AntiTerm.{Substitution}
 use Rattle.anti_pattern.specs.Answer.{Matching, countOf}
 use Rattle.anti_pattern.specs.Cost.{Enough}
@@ -27,22 +32,18 @@ use Rattle.anti_pattern.specs.Published.{Solution, NoRuns, anti, assignment}
 use Rattle.anti_pattern.proofs.Cost.{enough-nodes}
 use Rattle.anti_pattern.proofs.Demands.{answer-exact, published-agrees, cost-bound}
 use Rattle.anti_pattern.proofs.Within.{accepted-of}
-use Rattle.sheet.specs.declared.Checked.{Checked as SheetChecked}
-use Rattle.sheet.specs.declared.Checked.the-variants.{Accepted}
 use Rattle.sheet.specs.Entry.{partAt}
 use Rattle.call.specs.Brought.{classesOf, languageOf, broughtAccepted}
 use Rattle.call.specs.Call.{answerWidth, written}
 use Rattle.call.proofs.Brought.{brought-alike}
 use Rattle.call.proofs.Handled.{handled, fails, passes}
-use Rattle.matcher.specs.Call.{answerNumber, Input as PatternInput, told as ownTold, boundParts as ownParts}
+use Rattle.matcher.specs.Call.{Input as PatternInput, told as ownTold, boundParts as ownParts}
 use Rattle.matcher.specs.Demands.{Shows}
 use Rattle.matcher.proofs.Answered.{answered as own-answered}
-use Rattle.rules.specs.Answer.{ruleNumber, ruleIndex, ruleCount, ShownAs}
+use Rattle.rules.specs.Demands.{ShownAs}
 use Rattle.rules.specs.Trial.{Trial, boundAt, noneOf, spentAt, tryRules}
 use Rattle.rules.specs.Call.{Input, AcceptedTrees, trees, checked, checkOf, told, answerOf, boundParts, bufferOf, answerOnBytes, bufferOnBytes}
 use Rattle.rules.specs.Demands.{EachNone, counts, Reached, EachEnough, Answered, Published, Bounded, Demanded}
-use Rattle.rules.specs.declared.RuleAnswer.{RuleAnswer}
-use Rattle.rules.specs.declared.RuleAnswer.the-variants.{Bound, None, Spent, Refused}
 use Rattle.rules.proofs.Rules.{ruleAt, rule-input, part-octets}
 use Rattle.rules.proofs.Checks.{reads, checked-exactly, check-failed, check-passed}
 use Rattle.rules.proofs.Endings.{Ends, ends-bound, ends-none, ends-spent, trial-none, trial-bound, trial-spent, trial-ends, larger-trial}

@@ -4,14 +4,14 @@ use native.Mathlib.Omega.{arith}
 use mathlib.Core.Path.{_≡_, refl, sym, _∙_, ap, ap₂, subst}
 use mathlib.Core.List.{List, [], _∷_, _++_, append-nil}
 use lib.ListN.{length}
+use Rattle.answers.specs.Answers.{ruleNumber}
+use Rattle.answers.specs.declared.Part.{Part}
 use Rattle.term.specs.Class.{Alike}
 use Rattle.term.specs.Term.{Term}
 use Rattle.term.specs.Pattern.{Pattern}
-use Rattle.term.specs.declared.Part.{Part}
 use Rattle.anti_pattern.specs.Answer.{Matching, bound, nothing, spent, countOf, answer}
 use Rattle.anti_pattern.specs.Language.{Language, TermOf}
 use Rattle.anti_pattern.proofs.Demands.{answer-exact}
-use Rattle.rules.specs.Answer.{ruleNumber}
 use Rattle.rules.specs.Trial.{Trial, boundAt, noneOf, spentAt, tryOne, tryEach, tryRules}
 use Rattle.rules.specs.Call.{told}
 use Rattle.rules.specs.Demands.{IsNone, EachNone, counts, Reached}

@@ -7,10 +7,13 @@ use mathlib.Core.List.{List, [], _∷_}
 use lib.ListN.{length, getD, drop, drop-of-length-le}
 use lib.Seq.{drop-cons}
 use borrow.Author.Tests.{lt-ltb, le-ltb}
+use Rattle.answers.specs.declared.Refusal.the-variants.{Narrow}
+use Rattle.answers.specs.declared.Answer.{Answer}
+use Rattle.answers.specs.declared.RuleAnswer.{RuleAnswer}
+use Rattle.answers.specs.declared.RuleAnswer.the-variants.{Bound, None, Spent, Refused}
 use Rattle.term.specs.Class.{Alike}
 use Rattle.term.specs.Term.{Term}
 use Rattle.term.specs.Pattern.{Pattern, name}
-use Rattle.term.specs.declared.Refusal.the-variants.{Narrow}
 use Rattle.anti_pattern.specs.Answer.{Matching, bound, nothing, spent, answer}
 use Rattle.anti_pattern.specs.Language.{language}
 use Rattle.sheet.specs.Check.{entryCount}
@@ -18,12 +21,9 @@ use Rattle.sheet.specs.Entry.{partAt}
 use Rattle.call.specs.Call.{answerWidth, written}
 use Rattle.link.specs.OnBytes.{outcomeOnBytes}
 use Rattle.matcher.specs.Call.{told as ownTold, boundParts as ownParts, answerOnBytes as ownAnswer, bufferOnBytes as ownBuffer}
-use Rattle.matcher.specs.declared.Answer.{Answer}
 use Rattle.link.proofs.Linked.{linked}
 use Rattle.rules.specs.Trial.{Trial, noneOf, tryOne, tryEach, tryRules}
 use Rattle.rules.specs.Call.{Input, told, boundParts, partsFrom, tryParts, answerOnBytes, bufferOnBytes}
-use Rattle.rules.specs.declared.RuleAnswer.{RuleAnswer}
-use Rattle.rules.specs.declared.RuleAnswer.the-variants.{Bound, None, Spent, Refused}
 use Rattle.rules.proofs.Rules.{ruleAt, input-directed, rule-input}
 
 -- the parts of a sheet

@@ -6,14 +6,18 @@ use mathlib.Core.Bool.{Bool, true, cond, _&&_, not}
 use mathlib.Core.Option.{Option, none, some}
 use lib.ListN.{length}
 use lib.Dec.{leb, ltb}
+use Rattle.answers.specs.declared.Part.{Part}
+use Rattle.answers.specs.declared.Refusal.the-variants.{Narrow}
+use Rattle.answers.specs.declared.RuleAnswer.{RuleAnswer}
+use Rattle.answers.specs.declared.RuleAnswer.the-variants.{Bound, None, Spent, Refused}
+use Rattle.byte_answers.specs.declared.Checked.{Checked as SheetChecked}
+use Rattle.byte_answers.specs.declared.Checked.the-variants.{Accepted}
 use Rattle.term.specs.Class.{classesAccepted}
 use Rattle.term.specs.Table.{tableAccepted}
 use Rattle.term.specs.Term.{Term, termBytes}
 use Rattle.term.specs.Pattern.{Pattern, patternBytes}
 use Rattle.term.specs.Limits.{TermAccepted, PatternAccepted}
 use Rattle.reader.specs.Reading.{Parsed, refused, read, readPattern, readRecord}
-use Rattle.term.specs.declared.Part.{Part}
-use Rattle.term.specs.declared.Refusal.the-variants.{Narrow}
 use Rattle.call.specs.Brought.{languageOf}
 use Rattle.call.specs.Call.{answerWidth, checks, answerBy, written, bufferBy}
 use Rattle.call.specs.Verdict.{Verdict, passed, fault, reading, both}
@@ -21,12 +25,8 @@ use Rattle.sheet.specs.Sheet.{sheetBytes}
 use Rattle.sheet.specs.Check.{longestSheet, entryCount}
 use Rattle.sheet.specs.Entry.{entries, partAt}
 use Rattle.sheet.specs.Contents.{mostRules, checkRules}
-use Rattle.sheet.specs.declared.Checked.{Checked as SheetChecked}
-use Rattle.sheet.specs.declared.Checked.the-variants.{Accepted}
 use Rattle.link.specs.OnBytes.{outcomeOnBytes}
 use Rattle.rules.specs.Trial.{Trial, boundAt, noneOf, spentAt, tryEach, tryRules}
-use Rattle.rules.specs.declared.RuleAnswer.{RuleAnswer}
-use Rattle.rules.specs.declared.RuleAnswer.the-variants.{Bound, None, Spent, Refused}
 
 -- Accepted input: a table, the bytes of a sheet of at most 64 patterns, and those of a record, that pass every check
 

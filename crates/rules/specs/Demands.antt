@@ -6,6 +6,8 @@ use mathlib.Core.List.{List, [], _∷_, _++_}
 use mathlib.Core.Bool.{true}
 use mathlib.Core.Option.{Option}
 use lib.ListN.{length}
+use Rattle.answers.specs.Answers.{ruleNumber, ruleIndex, ruleCount}
+use Rattle.answers.specs.declared.RuleAnswer.{RuleAnswer}
 use Rattle.term.specs.Term.{Term}
 use Rattle.term.specs.Pattern.{Pattern}
 use Rattle.anti_pattern.specs.AntiTerm.{Substitution}
@@ -19,9 +21,11 @@ use Rattle.call.specs.Brought.{languageOf, broughtAccepted}
 use Rattle.call.specs.Call.{answerWidth}
 use Rattle.call.specs.Demands.{Handled}
 use Rattle.matcher.specs.Demands.{Shows}
-use Rattle.rules.specs.Answer.{ruleNumber, ruleIndex, ruleCount, ShownAs}
 use Rattle.rules.specs.Call.{Input, AcceptedTrees, answerOf, bufferOf}
-use Rattle.rules.specs.declared.RuleAnswer.{RuleAnswer}
+
+-- an answer shows this number, index and count
+abbrev pub ShownAs : RuleAnswer → ℕ → ℕ → ℕ → Type 0
+ShownAs a number index count = (ruleNumber a ≡ number) × (ruleIndex a ≡ index) × (ruleCount a ≡ count)
 
 module _ (l : Language) where
   -- a rule is none: its count is within the allowance, and no assignment satisfies it

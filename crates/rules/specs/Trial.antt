@@ -1,9 +1,9 @@
 -- Rules tried in order: "rule by rule, each with the whole allowance; it stops at the first that is bound or spent".
 use Prim.Native.Nat.{ℕ, _+_}
 use mathlib.Core.List.{List, [], _∷_}
+use Rattle.answers.specs.declared.Part.{Part}
 use Rattle.term.specs.Term.{Term}
 use Rattle.term.specs.Pattern.{Pattern}
-use Rattle.term.specs.declared.Part.{Part}
 use Rattle.anti_pattern.specs.Answer.{Matching, bound, nothing, spent, answer}
 use Rattle.anti_pattern.specs.Language.{Language}
 

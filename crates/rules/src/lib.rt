@@ -1,63 +1,16 @@
 // A rule sheet against one record: its rules are tried in order, up to the first that is bound or spent.
-use matcher::Answer;
-use reader::Read;
-use sheet::Checked;
-use term::Refusal;
+use answers::Answer;
+use answers::Refusal;
+use answers::RuleAnswer;
+use byte_answers::Checked;
+use byte_answers::Read;
 ghost use mathlib.Core.Path.{_≡_};
 ghost use mathlib.Core.Option.{none, some};
 ghost use Prim.Native.Nat.{_+_};
 ghost use lib.ListN.{length};
 ghost use Rattle.term.specs.Moment.{old, new};
-ghost use Rattle.rules.specs.Answer.{ruleNumber, ruleIndex, ruleCount};
 ghost use Rattle.rules.specs.Call.{checked, classFault, checkOf, answerOf, bufferOf, answerOnBytes, bufferOnBytes};
 ghost use Rattle.rules.specs.Demands.{Demanded};
-
-// Bound at a rule, none, or spent at a rule, with the sum of counts so far; or why the input is refused, with the index of the entry, 0
-// where no entry is meant.
-pub enum RuleAnswer {
-    Bound(usize, u64),
-    None(u64),
-    Spent(usize, u64),
-    Refused(Refusal, usize),
-}
-
-impl RuleAnswer {
-    // Document 01's number; bound has 0.
-    pub fn number(self) -> u8
-        ensures { λ r. ⌜ r ≡ ruleNumber self ⌝ }
-    {
-        match self {
-            RuleAnswer::Bound(_, _) => 0,
-            RuleAnswer::None(_) => 10,
-            RuleAnswer::Spent(_, _) => 11,
-            RuleAnswer::Refused(r, _) => r.number(),
-        }
-    }
-
-    // The index of the rule; none shows 0.
-    pub fn index(self) -> usize
-        ensures { λ r. ⌜ r ≡ ruleIndex self ⌝ }
-    {
-        match self {
-            RuleAnswer::Bound(i, _) => i,
-            RuleAnswer::None(_) => 0,
-            RuleAnswer::Spent(i, _) => i,
-            RuleAnswer::Refused(_, i) => i,
-        }
-    }
-
-    // The sum of the counts; a refusal shows 0.
-    pub fn count(self) -> u64
-        ensures { λ r. ⌜ r ≡ ruleCount self ⌝ }
-    {
-        match self {
-            RuleAnswer::Bound(_, n) => n,
-            RuleAnswer::None(n) => n,
-            RuleAnswer::Spent(_, n) => n,
-            RuleAnswer::Refused(_, _) => 0,
-        }
-    }
-}
 
 // Whether a class list is at fault, where a buffer of so many numbers and the table are not.
 fn refuses_classes(table: &[u8], classes: &[u8], width: usize) -> bool

@@ -9,16 +9,16 @@ use mathlib.Core.Path.{_≡_, refl}
 use lib.Dec.{leb, eqb}
 use lib.ListN.{length, getD, drop, length-drop}
 use borrow.Author.Tests.{leb-true, eqb-false}
+use Rattle.answers.specs.Part.{isAbsent}
+use Rattle.answers.specs.declared.Part.{Part}
 use Rattle.term.proofs.Bools.{cond-all}
 use Rattle.term.proofs.Codes.{decode-below}
 use Rattle.term.proofs.Extents.{extent-some}
 use Rattle.term.specs.Same.{sameByte}
 use Rattle.term.specs.Code.{variables, decodeOf, VariableBelow}
 use Rattle.term.specs.Extent.{entryOf, spanOf, extentOf}
-use Rattle.term.specs.Part.{isAbsent}
 use Rattle.term.specs.declared.Code.the-variants.{Symbol, Name, Run, Complement}
 use Rattle.term.specs.declared.Code.{Code}
-use Rattle.term.specs.declared.Part.{Part}
 use Rattle.steps.specs.Turn.{stepOf, variableIn, standsOf, overStep, symbolStep, assignedStep, nameStep, runStep, complementStep, pairStep, plainStep, codeStep, variableOf}
 use Rattle.search.specs.Inner.Bounds.{Ready}
 use Rattle.search.specs.State.{stepAt, variableAt}

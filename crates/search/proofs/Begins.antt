@@ -7,8 +7,8 @@ use mathlib.Core.List.{List}
 use mathlib.Core.Bool.{Bool, false, true≢false}
 use lib.ListN.{set}
 use lib.Seq.{getD-set-same}
+use Rattle.answers.specs.Part.{boundPart}
 use Rattle.term.specs.Code.{variables}
-use Rattle.term.specs.Part.{boundPart}
 use Rattle.search.specs.State.{place, placePast}
 use Rattle.parts.specs.Packed.{bit, packed}
 use Rattle.search.specs.Inner.Memory.{Holding}

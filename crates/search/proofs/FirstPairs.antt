@@ -9,14 +9,14 @@ use lib.ListN.{length, getD, take, drop, set}
 use lib.Dec.{leb}
 use borrow.Author.Tests.{le-leb}
 use lib.Seq.{getD-drop}
+use Rattle.answers.specs.Part.{part, isAbsent, boundPart}
+use Rattle.answers.specs.declared.Part.{Part}
 use Rattle.term.proofs.Lists.{rest-part}
 use Rattle.term.specs.Same.{sameByte}
 use Rattle.term.specs.Code.{variables, decodeOf}
 use Rattle.term.specs.Extent.{entryOf, extentOf}
-use Rattle.term.specs.Part.{part, isAbsent, boundPart}
 use Rattle.term.specs.declared.Code.{Code}
 use Rattle.term.specs.declared.Code.the-variants.{Symbol, Name}
-use Rattle.term.specs.declared.Part.{Part}
 use Rattle.steps.specs.Turn.{stepOf, standsOf, symbolStep, assignedStep, nameStep, pairStep, codeStep, overStep}
 use Rattle.search.specs.State.{turns, Frame, PutBy, State, place, state, placePast, partInState, walked, stepAt, variableAt, walkBy, walkOf}
 use Rattle.search.specs.Level.{reply, failedAt, startOf, complementsOf, levelOf, endOf}

@@ -10,10 +10,10 @@ use lib.ListN.{length, getD, take, drop, set}
 use lib.Seq.{drop-drop}
 use lib.Dec.{eqb}
 use borrow.Author.Tests.{lt-ltb, le-ltb, eq-eqb, ne-eqb}
+use Rattle.answers.specs.Part.{boundPart}
 use Rattle.term.proofs.Lists.{rest-part}
 use Rattle.term.specs.Limits.{longestRecord}
 use Rattle.term.specs.Extent.{extentOf}
-use Rattle.term.specs.Part.{boundPart}
 use Rattle.search.specs.State.{State, turns, place, placePast, walked, walkOf}
 use Rattle.search.specs.Level.{Reply, spentAt, tried, complementsOf, levelOf, levels}
 use Rattle.search.specs.Given.{Pass, ends, elementsOf, resumedBy, orFurther, furtherOf, givenLengthOf, givenBy, afterGiven, givenOf}

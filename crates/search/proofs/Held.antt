@@ -11,10 +11,10 @@ use lib.Dec.{eqb}
 use lib.ListN.{length, getD, set, length-set}
 use lib.Seq.{getD-set-same, getD-set-other}
 use borrow.Author.Tests.{eqb-true, eqb-false, ne-eqb}
+use Rattle.answers.specs.Part.{nowhere, part, isAbsent, boundPart}
+use Rattle.answers.specs.declared.Part.{Part}
 use Rattle.term.specs.Limits.{longestRecord}
 use Rattle.term.specs.Code.{variables}
-use Rattle.term.specs.Part.{nowhere, part, isAbsent, boundPart}
-use Rattle.term.specs.declared.Part.{Part}
 use Rattle.parts.specs.Packed.{bit, packed, partIn}
 use Rattle.search.specs.Inner.Memory.{frameIn, outer, openedMarks, closedMarks, Linked, putByIn, putByMarks, LiesIn, Kept}
 use Rattle.search.specs.State.{Frame, PutBy, State, frame, putBy, state, placePast, entered, reopened}

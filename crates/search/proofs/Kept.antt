@@ -11,9 +11,9 @@ use lib.ListN.{length, getD, set, replicate, length-set, length-replicate, getD-
 use lib.Seq.{getD-set-same, getD-set-other}
 use lib.Dec.{eqb}
 use borrow.Author.Tests.{eqb-true, eqb-false}
+use Rattle.answers.specs.Part.{part, absent, boundPart}
 use Rattle.term.specs.Limits.{longestRecord, longestPattern}
 use Rattle.term.specs.Code.{variables}
-use Rattle.term.specs.Part.{part, absent, boundPart}
 use Rattle.search.specs.State.{PutBy, State, place, state, placePast}
 use Rattle.search.specs.Level.{startOf}
 use Rattle.parts.specs.Packed.{bit, packed, unpacked, partIn, partsIn}

@@ -6,11 +6,11 @@ use mathlib.Core.List.{List, [], _∷_}
 use mathlib.Core.Bool.{Bool, true, false, cond, _&&_}
 use lib.ListN.{length, getD, take, drop, replicate}
 use lib.Dec.{eqb, ltb, leb}
+use Rattle.answers.specs.Part.{absent}
+use Rattle.answers.specs.declared.Part.{Part}
 use Rattle.term.specs.Limits.{longestRecord, longestPattern}
 use Rattle.term.specs.Code.{variables}
 use Rattle.term.specs.Extent.{extentOf}
-use Rattle.term.specs.Part.{absent}
-use Rattle.term.specs.declared.Part.{Part}
 use Rattle.search.specs.State.{turns, PutBy, State, Walked, alone, variableAt, partInState, closed, stepAt, walkBy, walkOf}
 use Rattle.search.specs.Level.{Reply, failed, startOf, tried, orElse, lengthsOf, insideOf, refuted, complementsOf, stopBy, afterWalk, levelOf, levels, searchOf}
 use Rattle.search.specs.Given.{Pass, ends, unknown, elementsOf, resumedBy, orFurther, furtherOf, givenLengthOf, givenBy, afterGiven, givenOf}

@@ -11,11 +11,11 @@ use lib.ListN.{length, getD, take, drop, set, replicate, length-drop}
 use lib.Seq.{length-take-le, set-out, getD-set-same}
 use lib.Dec.{leb}
 use borrow.Author.Tests.{le-leb, eq-eqb, ne-eqb}
+use Rattle.answers.specs.Part.{absent, boundPart}
+use Rattle.answers.specs.declared.Part.{Part}
 use Rattle.term.specs.Limits.{longestRecord, longestPattern}
 use Rattle.term.specs.Code.{variables}
 use Rattle.term.specs.Extent.{extentOf}
-use Rattle.term.specs.Part.{absent, boundPart}
-use Rattle.term.specs.declared.Part.{Part}
 use Rattle.search.specs.State.{turns, PutBy, State, place, placePast, walkOf}
 use Rattle.search.specs.Level.{Reply, reply, failedAt, spentAt, failed, refuted, startOf, insideOf, complementsOf, levels, searchOf}
 use Rattle.parts.specs.Packed.{bit, packed, partPlaces, partsIn}

@@ -8,9 +8,10 @@ use mathlib.Core.Bool.{Bool, true, false, _&&_}
 use lib.ListN.{length, replicate}
 use lib.Dec.{leb}
 use borrow.Author.Tests.{le-leb}
+use Rattle.answers.specs.Part.{absent}
+use Rattle.answers.specs.declared.Part.{Part}
 use Rattle.term.specs.Limits.{longestPattern, longestRecord}
 use Rattle.term.specs.Code.{variables}
-use Rattle.term.specs.Part.{absent}
 use Rattle.search.specs.State.{place}
 use Rattle.search.specs.Level.{startOf, levels}
 use Rattle.search.specs.Given.{Pass, passOf}
@@ -20,7 +21,6 @@ use Rattle.search.specs.Inner.Memory.{marks, Sized}
 use Rattle.search.specs.Inner.Lent.{Lent, inputOf, lentOf, _⇒_}
 use Rattle.parts.specs.Packed.{partsIn}
 use Rattle.search.specs.Shown.{shownBy}
-use Rattle.term.specs.declared.Part.{Part}
 use Rattle.search.specs.declared.Outcome.{Outcome}
 use Rattle.search.specs.declared.Outcome.the-variants.{Found, Failed, Spent}
 use Rattle.search.specs.declared.Known.{Known}

@@ -7,10 +7,10 @@ use mathlib.Core.List.{List}
 use mathlib.Core.Bool.{Bool, true, false, true≢false}
 use lib.Bits.{bitOr}
 use lib.ListN.{length, take, drop, set}
+use Rattle.answers.specs.Part.{boundPart}
 use Rattle.term.proofs.Lists.{rest-part}
 use Rattle.term.specs.Extent.{spanOf}
 use Rattle.term.specs.Limits.{longestRecord}
-use Rattle.term.specs.Part.{boundPart}
 use Rattle.search.specs.State.{State, place, state, placePast}
 use Rattle.search.specs.Level.{tried, levels}
 use Rattle.parts.specs.Packed.{bit, packed}

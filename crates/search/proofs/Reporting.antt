@@ -9,9 +9,9 @@ use lib.Dec.{ltb}
 use lib.ListN.{length, getD, set, length-set}
 use lib.Seq.{getD-set-same, getD-set-other}
 use borrow.Author.Tests.{lt-ltb}
+use Rattle.answers.specs.Part.{part, boundPart}
+use Rattle.answers.specs.declared.Part.{Part}
 use Rattle.term.specs.Code.{variables}
-use Rattle.term.specs.Part.{part, boundPart}
-use Rattle.term.specs.declared.Part.{Part}
 use Rattle.search.specs.State.{State, place, Walked, turns, walked, stepAt, walkBy, walkOf, partInState, variableAt, alone}
 use Rattle.parts.specs.Packed.{packed, unpacked, partPlaces}
 use Rattle.search.specs.Inner.Memory.{marks, Kept}

@@ -8,10 +8,10 @@ use mathlib.Core.Bool.{true, false, _&&_, true≢false}
 use lib.ListN.{length, replicate}
 use lib.Dec.{leb}
 use borrow.Author.Tests.{le-leb}
+use Rattle.answers.specs.Part.{absent}
+use Rattle.answers.specs.declared.Part.{Part}
 use Rattle.term.specs.Limits.{longestRecord, longestPattern}
 use Rattle.term.specs.Code.{variables}
-use Rattle.term.specs.Part.{absent}
-use Rattle.term.specs.declared.Part.{Part}
 use Rattle.parts.specs.Packed.{partsIn}
 use Rattle.parts.specs.Shown.{shownParts}
 use Rattle.search.specs.Level.{Reply, levels, endOf, searchOf}

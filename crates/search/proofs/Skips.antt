@@ -10,17 +10,18 @@ use lib.ListN.{length, getD, take, drop, set, length-drop}
 use lib.Seq.{drop-drop, drop-cons, getD-set-other, length-take-le}
 use lib.Dec.{leb, ltb, eqb}
 use borrow.Author.Tests.{le-leb, leb-true, eq-eqb, ne-eqb, eqb-true}
+use Rattle.answers.specs.Part.{part, absent, isAbsent}
+use Rattle.answers.specs.declared.Part.{Part}
 use Rattle.term.proofs.Lists.{first-left, some-left, rest-part, rest-length}
 use Rattle.term.proofs.Codes.{decode-below}
 use Rattle.term.proofs.Extents.{span-none}
 use Rattle.term.proofs.SameParts.{and-true}
 use Rattle.term.specs.Code.{variables, decodeOf, VariableBelow}
 use Rattle.term.specs.Extent.{entryOf, spanOf, extentOf}
-use Rattle.term.specs.Part.{part, absent, isAbsent, partBytes}
+use Rattle.term.specs.Part.{partBytes}
 use Rattle.term.specs.Same.{sameByte, samePart}
 use Rattle.term.specs.declared.Code.{Code}
 use Rattle.term.specs.declared.Code.the-variants.{Symbol, Name, Run, Complement}
-use Rattle.term.specs.declared.Part.{Part}
 use Rattle.skips.specs.Passed.{startsOf, mostSymbols, isSymbol, chainOf, differsAt, failingOf, Passes, dearestOf}
 use Rattle.skips.proofs.Chains.{chain-some, chain-symbol, chain-further, chain-most, differs-lengths, differs-here, differs-later, differs-most}
 use Rattle.skips.proofs.Passing.{starts-none, span-within, span-split, failing-apart, failing-chain, passes-within, passes-paid}

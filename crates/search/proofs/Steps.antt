@@ -7,12 +7,12 @@ use mathlib.Core.List.{List}
 use mathlib.Core.Path.{_≡_, sym, ap, subst, _∙_}
 use lib.Dec.{eqb}
 use lib.ListN.{length, getD, drop, take, length-drop}
+use Rattle.answers.specs.declared.Part.{Part}
 use Rattle.term.proofs.Lists.{rest-part, first-left}
 use Rattle.term.proofs.Codes.{decode-below}
 use Rattle.term.specs.Code.{decodeOf, VariableBelow}
 use Rattle.term.specs.declared.Code.{Code}
 use Rattle.term.specs.declared.Code.the-variants.{Name, Run}
-use Rattle.term.specs.declared.Part.{Part}
 use Rattle.parts.specs.Packed.{partIn, partOf}
 use Rattle.parts.proofs.Shown.{part-below}
 use Rattle.steps.specs.Turn.{variableOf, variableIn, pairStep, plainStep, codeStep, stepOf}

@@ -10,9 +10,9 @@ use lib.Bits.{bitOr}
 use lib.Dec.{eqb}
 use lib.ListN.{length, getD, set}
 use borrow.Author.Tests.{eqb-false}
+use Rattle.answers.specs.Part.{isAbsent, boundPart}
+use Rattle.answers.specs.declared.Part.{Part}
 use Rattle.term.specs.Code.{variables}
-use Rattle.term.specs.Part.{isAbsent, boundPart}
-use Rattle.term.specs.declared.Part.{Part}
 use Rattle.search.specs.Inner.Bounds.{Short, StopsAt, Unassigned, reached, Moved, WalkIs}
 use Rattle.search.specs.Inner.Lent.{Handed, Lent, inputOf, lentOf}
 use Rattle.parts.specs.Packed.{bit, packed, partIn}

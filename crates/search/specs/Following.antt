@@ -4,9 +4,9 @@ use mathlib.Core.List.{List}
 use mathlib.Core.Bool.{cond, _&&_}
 use lib.ListN.{length, replicate}
 use lib.Dec.{leb, eqb}
+use Rattle.answers.specs.declared.Part.{Part}
 use Rattle.term.specs.Code.{variables}
 use Rattle.term.specs.Limits.{longestRecord, longestPattern}
-use Rattle.term.specs.declared.Part.{Part}
 use Rattle.search.specs.Given.{Pass, ends, unknown, passOf}
 use Rattle.search.specs.Shown.{shownBy, shownIn}
 use Rattle.search.specs.Spread.{freeIn, spreadTo}

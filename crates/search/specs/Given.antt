@@ -5,9 +5,9 @@ use mathlib.Core.List.{List}
 use mathlib.Core.Bool.{cond}
 use lib.ListN.{getD, drop, replicate}
 use lib.Dec.{eqb, ltb}
+use Rattle.answers.specs.Part.{absent}
 use Rattle.term.specs.Code.{variables}
 use Rattle.term.specs.Extent.{extentOf}
-use Rattle.term.specs.Part.{absent}
 use Rattle.search.specs.State.{State, Walked, turns, walkOf}
 use Rattle.search.specs.Level.{Reply, failedAt, spentAt, startOf, tried, orElse, lengthsOf, complementsOf, levelOf, levels}
 use Rattle.steps.specs.declared.Stop.{Stop}

@@ -4,11 +4,11 @@ use mathlib.Core.List.{List, [], _∷_}
 use mathlib.Core.Bool.{Bool, true, false, cond, _&&_}
 use lib.ListN.{length, take, drop, set, replicate}
 use lib.Dec.{leb, eqb}
+use Rattle.answers.specs.Part.{absent, boundPart}
+use Rattle.answers.specs.declared.Part.{Part}
 use Rattle.term.specs.Code.{variables}
 use Rattle.term.specs.Limits.{longestRecord, longestPattern}
 use Rattle.term.specs.Extent.{extentOf}
-use Rattle.term.specs.Part.{absent, boundPart}
-use Rattle.term.specs.declared.Part.{Part}
 use Rattle.search.specs.State.{PutBy, State, Walked, place, state, placePast, turns, walkOf}
 use Rattle.steps.specs.declared.Stop.{Stop}
 use Rattle.steps.specs.declared.Stop.the-variants.{Failure, NoAllowance, NoPair, RunName}

@@ -1,7 +1,7 @@
 -- What a search shows in the answer buffer, which held `before`.
 use Prim.Native.Nat.{ℕ}
 use mathlib.Core.List.{List}
-use Rattle.term.specs.declared.Part.{Part}
+use Rattle.answers.specs.declared.Part.{Part}
 use Rattle.parts.specs.Shown.{shownParts}
 use Rattle.search.specs.Level.{Reply}
 use Rattle.search.specs.declared.Outcome.{Outcome}

@@ -3,8 +3,8 @@ use Prim.Native.Nat.{ℕ, zero, suc, _+_, _-_}
 use mathlib.Core.List.{List, [], _∷_, _++_}
 use mathlib.Core.Bool.{Bool, true, false}
 use lib.ListN.{getD, drop, set}
-use Rattle.term.specs.Part.{part, boundPart}
-use Rattle.term.specs.declared.Part.{Part}
+use Rattle.answers.specs.Part.{part, boundPart}
+use Rattle.answers.specs.declared.Part.{Part}
 use Rattle.steps.specs.Turn.{variableIn, stepOf}
 use Rattle.search.specs.declared.place.Place.{Place}
 use Rattle.search.specs.declared.place.Remaining.{Remaining}

@@ -1,12 +1,12 @@
 // Lengths of a run name after which the next element can't hold: they are counted, and not tried.
 use crate::place::Place;
+use answers::Part;
 use parts::PARTS;
 use parts::part_of;
 use skips::affordable;
 use skips::chain;
 use skips::seek;
 use term::Code;
-use term::Part;
 use term::bytes_of;
 use term::decode;
 use term::extent;

@@ -7,11 +7,11 @@ use mathlib.Core.Bool.{Bool, true, false, cond, _&&_, and-eq-true-iff}
 use lib.ListN.{length}
 use lib.Dec.{leb, ltb, eqb}
 use borrow.Author.Tests.{le-leb, lt-leb, lt-ltb, le-ltb, eq-eqb, ne-eqb, leb-true, ltb-true, eqb-true}
-use Rattle.term.specs.declared.Refusal.the-variants.{Long, Directory}
+use Rattle.answers.specs.declared.Refusal.the-variants.{Long, Directory}
+use Rattle.byte_answers.specs.declared.Checked.{Checked}
+use Rattle.byte_answers.specs.declared.Checked.the-variants.{Accepted}
 use Rattle.sheet.specs.Sheet.{pastPairs}
 use Rattle.sheet.specs.Check.{longestSheet, entryCount, offsetAt, lengthAt, entriesFollow, directoryAccepted, checkSheet}
-use Rattle.sheet.specs.declared.Checked.{Checked}
-use Rattle.sheet.specs.declared.Checked.the-variants.{Accepted}
 
 -- the pairs from index i on, of n
 

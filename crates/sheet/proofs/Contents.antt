@@ -6,16 +6,16 @@ use mathlib.Core.Path.{_≡_, refl, sym, _∙_}
 use mathlib.Core.List.{List, [], _∷_}
 use mathlib.Core.Bool.{Bool, true, false}
 use lib.ListN.{length}
+use Rattle.answers.specs.declared.Refusal.{Refusal}
+use Rattle.answers.specs.declared.Refusal.the-variants.{Table, Long}
+use Rattle.byte_answers.specs.declared.Read.{Read}
+use Rattle.byte_answers.specs.declared.Read.the-variants.{Ends}
+use Rattle.byte_answers.specs.declared.Checked.{Checked}
+use Rattle.byte_answers.specs.declared.Checked.the-variants.{Accepted}
 use Rattle.term.specs.Table.{tableAccepted}
-use Rattle.reader.specs.declared.Read.{Read}
-use Rattle.reader.specs.declared.Read.the-variants.{Ends}
-use Rattle.term.specs.declared.Refusal.{Refusal}
-use Rattle.term.specs.declared.Refusal.the-variants.{Table, Long}
 use Rattle.sheet.specs.Check.{checkSheet}
 use Rattle.sheet.specs.Entry.{entryAt, entriesFrom, entries, partAt}
 use Rattle.sheet.specs.Contents.{readEntry, stopAt, checkEach, few, checkContents}
-use Rattle.sheet.specs.declared.Checked.{Checked}
-use Rattle.sheet.specs.declared.Checked.the-variants.{Accepted}
 use Rattle.sheet.proofs.Checks.{accepted-directed}
 use Rattle.sheet.proofs.Entries.{part-entry, entries-count}
 

@@ -7,20 +7,20 @@ use mathlib.Core.List.{List, [], _++_, map, flatten}
 use mathlib.Core.Bool.{true}
 use lib.ListN.{length, getD, drop, length-map}
 use borrow.Author.Tests.{eq-eqb}
+use Rattle.byte_answers.specs.Answers.{checkedNumber, checkedCount, writingNumber, writingLength}
+use Rattle.byte_answers.specs.declared.Checked.{Checked}
+use Rattle.byte_answers.specs.declared.Checked.the-variants.{Accepted}
+use Rattle.byte_answers.specs.declared.Writing.{Writing}
+use Rattle.byte_answers.specs.declared.Writing.the-variants.{Written}
 use Rattle.term.specs.Limits.{Octets}
-use Rattle.term.proofs.Numbers.{numbered}
+use Rattle.answers.proofs.Numbers.{numbered}
+use Rattle.byte_answers.proofs.Numbers.{accepted-number}
 use Rattle.sheet.specs.Sheet.{sheetBytes}
 use Rattle.sheet.specs.Check.{checkSheet}
-use Rattle.sheet.specs.Answer.{checkedNumber, checkedCount, writingNumber, writingLength}
 use Rattle.sheet.specs.Entry.{entries}
 use Rattle.sheet.specs.Contents.{checkEach, checkStates}
 use Rattle.sheet.specs.Writing.{split, lengthsAccepted, sheetLength, writing, outputAfter}
 use Rattle.sheet.specs.Demands.{Reading, OneReading, SheetOf, ReadsBack, Writes, Demanded}
-use Rattle.sheet.specs.declared.Checked.{Checked}
-use Rattle.sheet.specs.declared.Checked.the-variants.{Accepted}
-use Rattle.sheet.specs.declared.Writing.{Writing}
-use Rattle.sheet.specs.declared.Writing.the-variants.{Written}
-use Rattle.sheet.proofs.Answers.{accepted-number}
 use Rattle.sheet.proofs.Words.{largestWord}
 use Rattle.sheet.proofs.Checks.{accepted-directed, directed-accepted}
 use Rattle.sheet.proofs.Entries.{entry-of-entries}

@@ -10,18 +10,18 @@ use lib.Seq.{getD-drop}
 use lib.Dec.{ltb}
 use denote.Ref.{RefT, ptr, now}
 use borrow.Author.Tests.{le-leb, lt-leb, lt-ltb, le-ltb, ltb-true, ltb-false}
+use Rattle.answers.specs.declared.Refusal.{Refusal}
+use Rattle.answers.specs.declared.Refusal.the-variants.{Directory}
+use Rattle.byte_answers.specs.Answers.{checkedNumber, checkedCount, placeOffset}
+use Rattle.byte_answers.specs.declared.Checked.{Checked}
+use Rattle.byte_answers.specs.declared.Checked.the-variants.{Accepted}
+use Rattle.byte_answers.specs.declared.Place.{Place}
+use Rattle.byte_answers.specs.declared.Place.the-variants.{At}
 use Rattle.term.specs.Limits.{Octets}
-use Rattle.term.specs.declared.Refusal.{Refusal}
-use Rattle.term.specs.declared.Refusal.the-variants.{Directory}
 use Rattle.sheet.specs.Sheet.{pastPairs}
 use Rattle.sheet.specs.Check.{entryCount, offsetAt, lengthAt, checkSheet}
-use Rattle.sheet.specs.Answer.{checkedNumber, checkedCount, placeOffset}
 use Rattle.sheet.specs.Entry.{entryAt, entriesFrom, entries, checkEntry, placeOf, shownEntry, pairWithin, partAt, partOffset, pointsInto}
-use Rattle.sheet.specs.declared.Checked.{Checked}
-use Rattle.sheet.specs.declared.Checked.the-variants.{Accepted}
-use Rattle.sheet.specs.declared.Place.{Place}
-use Rattle.sheet.specs.declared.Place.the-variants.{At}
-use Rattle.sheet.proofs.Answers.{accepted-number}
+use Rattle.byte_answers.proofs.Numbers.{accepted-number}
 use Rattle.sheet.proofs.Checks.{Directed, accepted-directed, entry-within}
 
 -- the pair of an index, of any bytes

@@ -1,6 +1,5 @@
 -- The laws that the proofs of this crate, and other crates, cite.
 
-pub mod Answers
 pub mod Checks
 pub mod Entries
 pub mod Words

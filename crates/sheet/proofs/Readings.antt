@@ -7,13 +7,13 @@ use mathlib.Core.Bool.{true}
 use lib.ListN.{length, take, drop, length-append, length-drop, take-append-drop, drop-of-length-le, length-map}
 use lib.Seq.{drop-drop, take-at, drop-at, length-take-le}
 use borrow.Author.Tests.{eq-eqb, lt-ltb, eqb-true}
+use Rattle.byte_answers.specs.declared.Checked.the-variants.{Accepted}
 use Rattle.term.specs.Limits.{Octets}
 use Rattle.sheet.specs.Word.{wordBytes, word, wordAt}
 use Rattle.sheet.specs.Sheet.{pairBytes, pastPairs, directory, sheetBytes, NoneEmpty}
 use Rattle.sheet.specs.Check.{longestSheet, entryCount, offsetAt, lengthAt, entriesFollow, checkSheet}
 use Rattle.sheet.specs.Entry.{entryAt, entriesFrom, entries}
 use Rattle.sheet.specs.Demands.{Reading}
-use Rattle.sheet.specs.declared.Checked.the-variants.{Accepted}
 use Rattle.sheet.proofs.Words.{word-back, word-past, word-forth}
 use Rattle.sheet.proofs.Entries.{entries-length}
 use Rattle.sheet.proofs.Checks.{Directed, directed-accepted, follow-true, follow-within}

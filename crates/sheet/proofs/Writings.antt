@@ -8,20 +8,20 @@ use lib.ListN.{length, getD, take, drop, drop-of-length-le}
 use lib.Seq.{sets}
 use lib.Dec.{leb}
 use borrow.Author.Tests.{le-leb, lt-leb, leb-true, leb-false}
+use Rattle.answers.specs.declared.Refusal.{Refusal}
+use Rattle.answers.specs.declared.Refusal.the-variants.{Table, Long, Directory, Full}
+use Rattle.byte_answers.specs.declared.Read.{Read}
+use Rattle.byte_answers.specs.declared.Read.the-variants.{Ends}
+use Rattle.byte_answers.specs.declared.Checked.{Checked}
+use Rattle.byte_answers.specs.declared.Checked.the-variants.{Accepted}
+use Rattle.byte_answers.specs.declared.Writing.{Writing}
+use Rattle.byte_answers.specs.declared.Writing.the-variants.{Written}
 use Rattle.term.proofs.Lists.{rest-part}
 use Rattle.term.specs.Table.{tableAccepted}
-use Rattle.reader.specs.declared.Read.{Read}
-use Rattle.reader.specs.declared.Read.the-variants.{Ends}
-use Rattle.term.specs.declared.Refusal.{Refusal}
-use Rattle.term.specs.declared.Refusal.the-variants.{Table, Long, Directory, Full}
 use Rattle.sheet.specs.Sheet.{sheetBytes}
 use Rattle.sheet.specs.Check.{longestSheet}
 use Rattle.sheet.specs.Contents.{readEntry, checkEach}
 use Rattle.sheet.specs.Writing.{split, lengthsAccepted, sheetLength, checkRecords, writing, outputAfter}
-use Rattle.sheet.specs.declared.Checked.{Checked}
-use Rattle.sheet.specs.declared.Checked.the-variants.{Accepted}
-use Rattle.sheet.specs.declared.Writing.{Writing}
-use Rattle.sheet.specs.declared.Writing.the-variants.{Written}
 use Rattle.sheet.proofs.Lengths.{split-next, lengths-true, split-size}
 use Rattle.sheet.proofs.Stores.{sets-front}
 

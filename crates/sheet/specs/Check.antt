@@ -4,11 +4,11 @@ use mathlib.Core.List.{List}
 use mathlib.Core.Bool.{Bool, cond, _&&_}
 use lib.ListN.{length}
 use lib.Dec.{leb, ltb, eqb}
-use Rattle.term.specs.declared.Refusal.the-variants.{Long, Directory}
+use Rattle.answers.specs.declared.Refusal.the-variants.{Long, Directory}
+use Rattle.byte_answers.specs.declared.Checked.{Checked}
+use Rattle.byte_answers.specs.declared.Checked.the-variants.{Accepted}
 use Rattle.sheet.specs.Word.{wordBytes, wordAt}
 use Rattle.sheet.specs.Sheet.{pastPairs}
-use Rattle.sheet.specs.declared.Checked.{Checked}
-use Rattle.sheet.specs.declared.Checked.the-variants.{Accepted}
 
 abbrev pub longestSheet : ℕ
 longestSheet = 32768

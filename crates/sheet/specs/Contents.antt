@@ -3,15 +3,15 @@ use Prim.Native.Nat.{ℕ, _+_}
 use mathlib.Core.List.{List, [], _∷_}
 use mathlib.Core.Bool.{Bool, true, false, cond}
 use lib.Dec.{leb}
+use Rattle.answers.specs.declared.Refusal.the-variants.{Table, Long}
+use Rattle.byte_answers.specs.declared.Read.{Read}
+use Rattle.byte_answers.specs.declared.Read.the-variants.{Ends}
+use Rattle.byte_answers.specs.declared.Checked.{Checked}
+use Rattle.byte_answers.specs.declared.Checked.the-variants.{Accepted}
 use Rattle.term.specs.Table.{tableAccepted}
 use Rattle.reader.specs.Reading.{shown, readRecord, readPattern}
-use Rattle.reader.specs.declared.Read.{Read}
-use Rattle.reader.specs.declared.Read.the-variants.{Ends}
-use Rattle.term.specs.declared.Refusal.the-variants.{Table, Long}
 use Rattle.sheet.specs.Check.{checkSheet, andThen}
 use Rattle.sheet.specs.Entry.{entries}
-use Rattle.sheet.specs.declared.Checked.{Checked}
-use Rattle.sheet.specs.declared.Checked.the-variants.{Accepted}
 
 -- an entry as a record or as a pattern
 unfoldable pub readEntry : Bool → List ℕ → List ℕ → Read

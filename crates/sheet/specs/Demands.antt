@@ -4,10 +4,10 @@ use mathlib.Core.Path.{_≡_}
 use mathlib.Core.List.{List, [], _++_, map, flatten}
 use mathlib.Core.Logic.{_↔_}
 use lib.ListN.{length, getD, drop}
+use Rattle.byte_answers.specs.Answers.{checkedNumber, checkedCount}
 use Rattle.term.specs.Limits.{Octets}
 use Rattle.sheet.specs.Sheet.{sheetBytes, NoneEmpty}
 use Rattle.sheet.specs.Check.{longestSheet}
-use Rattle.sheet.specs.Answer.{checkedNumber, checkedCount}
 use Rattle.sheet.specs.Entry.{entries, shownEntry}
 use Rattle.sheet.specs.Contents.{checkStates}
 use Rattle.sheet.specs.Writing.{split}

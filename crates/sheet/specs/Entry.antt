@@ -5,14 +5,14 @@ use mathlib.Core.Bool.{Bool, cond, _&&_}
 use lib.ListN.{length, take, drop}
 use lib.Dec.{leb, ltb}
 use denote.Ref.{RefT, ptr}
-use Rattle.term.specs.declared.Refusal.the-variants.{Directory}
+use Rattle.answers.specs.declared.Refusal.the-variants.{Directory}
+use Rattle.byte_answers.specs.Answers.{placeOffset, placeLength}
+use Rattle.byte_answers.specs.declared.Checked.{Checked}
+use Rattle.byte_answers.specs.declared.Checked.the-variants.{Accepted}
+use Rattle.byte_answers.specs.declared.Place.{Place}
+use Rattle.byte_answers.specs.declared.Place.the-variants.{At}
 use Rattle.sheet.specs.Sheet.{pastPairs}
 use Rattle.sheet.specs.Check.{entryCount, offsetAt, lengthAt, checkSheet, andThen}
-use Rattle.sheet.specs.Answer.{placeOffset, placeLength}
-use Rattle.sheet.specs.declared.Checked.{Checked}
-use Rattle.sheet.specs.declared.Checked.the-variants.{Accepted}
-use Rattle.sheet.specs.declared.Place.{Place}
-use Rattle.sheet.specs.declared.Place.the-variants.{At}
 
 unfoldable pub entryAt : List ℕ → ℕ → List ℕ
 entryAt s i = take (lengthAt s i) (drop (offsetAt s i) s)

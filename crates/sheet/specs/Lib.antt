@@ -3,7 +3,6 @@
 pub mod Word
 pub mod Sheet
 pub mod Check
-pub mod Answer
 pub mod Entry
 pub mod Contents
 pub mod Writing

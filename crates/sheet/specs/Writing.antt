@@ -4,15 +4,15 @@ use mathlib.Core.List.{List, [], _∷_, _++_}
 use mathlib.Core.Bool.{Bool, true, cond, _&&_}
 use lib.ListN.{length, take, drop}
 use lib.Dec.{leb, ltb, eqb}
+use Rattle.answers.specs.declared.Refusal.the-variants.{Table, Long, Directory, Full}
+use Rattle.byte_answers.specs.declared.Checked.{Checked}
+use Rattle.byte_answers.specs.declared.Checked.the-variants.{Accepted}
+use Rattle.byte_answers.specs.declared.Writing.{Writing}
+use Rattle.byte_answers.specs.declared.Writing.the-variants.{Written}
 use Rattle.term.specs.Table.{tableAccepted}
-use Rattle.term.specs.declared.Refusal.the-variants.{Table, Long, Directory, Full}
 use Rattle.sheet.specs.Sheet.{pastPairs, sheetBytes}
 use Rattle.sheet.specs.Check.{longestSheet}
 use Rattle.sheet.specs.Contents.{checkEach}
-use Rattle.sheet.specs.declared.Checked.{Checked}
-use Rattle.sheet.specs.declared.Checked.the-variants.{Accepted}
-use Rattle.sheet.specs.declared.Writing.{Writing}
-use Rattle.sheet.specs.declared.Writing.the-variants.{Written}
 
 -- the records
 unfoldable pub split : List ℕ → List ℕ → List (List ℕ)

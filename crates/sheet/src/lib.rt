@@ -1,6 +1,9 @@
 // Sheets of patterns or of records: how they are checked, read entry by entry, and written.
-use reader::Read;
-use term::Refusal;
+use answers::Refusal;
+use byte_answers::Checked;
+use byte_answers::Place;
+use byte_answers::Read;
+use byte_answers::Writing;
 ghost use mathlib.Core.Path.{_≡_};
 ghost use mathlib.Core.Bool.{true};
 ghost use Prim.Native.Nat.{_+_, _≤_, _<_};
@@ -8,6 +11,7 @@ ghost use lib.Dec.{leb};
 ghost use lib.ListN.{length};
 ghost use lib.Seq.{sets};
 ghost use denote.Ref.{ptr};
+ghost use Rattle.byte_answers.specs.Answers.{checkedNumber, checkedCount, writingNumber, writingLength, placeOffset};
 ghost use Rattle.term.specs.Moment.{old, new};
 ghost use Rattle.sheet.specs.Word.{wordBytes, word, wordAt};
 ghost use Rattle.sheet.specs.Sheet.{pastPairs, directory, sheetBytes};
@@ -15,7 +19,6 @@ ghost use Rattle.sheet.specs.Check.{longestSheet, entryCount, offsetAt, 
 ghost use Rattle.sheet.specs.Entry.{entries, checkEntry, placeOf, shownEntry, partAt, partOffset, pointsInto};
 ghost use Rattle.sheet.specs.Contents.{readEntry, checkEach, few, checkContents, checkStates, checkRules};
 ghost use Rattle.sheet.specs.Writing.{split, sum, lengthsAccepted, sheetLength, checkRecords, writing, outputAfter};
-ghost use Rattle.sheet.specs.Answer.{checkedNumber, checkedIndex, checkedCount, writingNumber, writingIndex, writingLength, placeNumber, placeOffset, placeLength};
 ghost use Rattle.sheet.specs.Demands.{OneReading, Demanded};
 
 // The most bytes of a sheet.
@@ -29,116 +32,6 @@ const WORD: usize = 2;
 
 // The bytes of a pair in the directory, an offset and a length.
 const PAIR: usize = 4;
-
-// What a check shows: the number of entries, or a refusal with the entry's index, 0 where no entry is meant.
-pub enum Checked {
-    Accepted(usize),
-    Refused(Refusal, usize),
-}
-
-// What a writing shows: the sheet's length, or a refusal with the record's index, 0 where no record is meant.
-pub enum Writing {
-    Written(usize),
-    Refused(Refusal, usize),
-}
-
-// Where an entry lies in its sheet: offset and length in bytes, or why sheet or index is refused.
-pub enum Place {
-    At(u16, u16),
-    Refused(Refusal),
-}
-
-impl Checked {
-    // Document 01's number, or 0.
-    pub fn number(self) -> u8
-        ensures { λ r. ⌜ r ≡ checkedNumber self ⌝ }
-    {
-        match self {
-            Checked::Accepted(_) => 0,
-            Checked::Refused(r, _) => r.number(),
-        }
-    }
-
-    // The index of the entry that is refused.
-    pub fn index(self) -> usize
-        ensures { λ r. ⌜ r ≡ checkedIndex self ⌝ }
-    {
-        match self {
-            Checked::Accepted(_) => 0,
-            Checked::Refused(_, i) => i,
-        }
-    }
-
-    // The number of entries of a sheet that is accepted.
-    pub fn count(self) -> usize
-        ensures { λ r. ⌜ r ≡ checkedCount self ⌝ }
-    {
-        match self {
-            Checked::Accepted(n) => n,
-            Checked::Refused(_, _) => 0,
-        }
-    }
-}
-
-impl Writing {
-    pub fn number(self) -> u8
-        ensures { λ r. ⌜ r ≡ writingNumber self ⌝ }
-    {
-        match self {
-            Writing::Written(_) => 0,
-            Writing::Refused(r, _) => r.number(),
-        }
-    }
-
-    pub fn index(self) -> usize
-        ensures { λ r. ⌜ r ≡ writingIndex self ⌝ }
-    {
-        match self {
-            Writing::Written(_) => 0,
-            Writing::Refused(_, i) => i,
-        }
-    }
-
-    // The length of the sheet that was written.
-    pub fn length(self) -> usize
-        ensures { λ r. ⌜ r ≡ writingLength self ⌝ }
-    {
-        match self {
-            Writing::Written(n) => n,
-            Writing::Refused(_, _) => 0,
-        }
-    }
-}
-
-impl Place {
-    pub fn number(self) -> u8
-        ensures { λ r. ⌜ r ≡ placeNumber self ⌝ }
-    {
-        match self {
-            Place::At(_, _) => 0,
-            Place::Refused(r) => r.number(),
-        }
-    }
-
-    // The entry's offset, and 0 where it is refused; so its length.
-    pub fn offset(self) -> u16
-        ensures { λ r. ⌜ r ≡ placeOffset self ⌝ }
-    {
-        match self {
-            Place::At(offset, _) => offset,
-            Place::Refused(_) => 0,
-        }
-    }
-
-    pub fn length(self) -> u16
-        ensures { λ r. ⌜ r ≡ placeLength self ⌝ }
-    {
-        match self {
-            Place::At(_, length) => length,
-            Place::Refused(_) => 0,
-        }
-    }
-}
 
 // The 16-bit number at a place, low byte first.
 fn word_at(s: &[u8], at: usize) -> u16

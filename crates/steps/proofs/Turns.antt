@@ -10,6 +10,7 @@ use lib.ListN.{length, getD, take, drop, length-drop}
 use denote.Enum.Declared
 use types.Run.{OneOf, miss}
 use borrow.Author.Tests.{le-leb, eq-eqb, ne-eqb}
+use Rattle.answers.specs.declared.Part.{Part}
 use Rattle.term.proofs.Bools.{cond-all}
 use Rattle.term.proofs.Code as codes
 use Rattle.term.proofs.Codes.{decode-below}
@@ -18,7 +19,6 @@ use Rattle.term.specs.Code.{variables, decodeOf, VariableBelow}
 use Rattle.term.specs.Extent.{entryOf}
 use Rattle.term.specs.declared.Code.{Code}
 use Rattle.term.specs.declared.Code.the-variants.{Symbol, Name, Run, Complement}
-use Rattle.term.specs.declared.Part.{Part}
 use Rattle.steps.specs.Turn.{symbolStep, pairStep, plainStep, codeStep, stepOf, variableOf, variableIn}
 use Rattle.steps.specs.declared.Step.the-variants.{Fails, Opens, Passes}
 use Rattle.steps.specs.declared.Step.{Step}

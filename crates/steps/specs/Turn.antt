@@ -5,14 +5,15 @@ use mathlib.Core.List.{List}
 use mathlib.Core.Bool.{Bool, false, cond, _&&_, _||_}
 use lib.ListN.{length, getD, take}
 use lib.Dec.{leb, eqb}
+use Rattle.answers.specs.Part.{isAbsent}
+use Rattle.answers.specs.declared.Part.{Part}
 use Rattle.term.specs.Table.{list}
 use Rattle.term.specs.Code.{decodeOf}
 use Rattle.term.specs.Extent.{entryOf, extentOf}
-use Rattle.term.specs.Part.{isAbsent, partBytes}
+use Rattle.term.specs.Part.{partBytes}
 use Rattle.term.specs.Same.{sameByte, samePart}
 use Rattle.term.specs.declared.Code.{Code}
 use Rattle.term.specs.declared.Code.the-variants.{Symbol, Name, Run, Complement}
-use Rattle.term.specs.declared.Part.{Part}
 use Rattle.steps.specs.declared.Stop.the-variants.{Failure, NoAllowance, NoPair, RunName}
 use Rattle.steps.specs.declared.Step.{Step}
 use Rattle.steps.specs.declared.Step.the-variants.{Stops, Fails, Closes, Opens, Passes, Binds, PutsBy}

@@ -1,9 +1,9 @@
 // One turn of the search on bytes: what comes of the next pair of pattern and record.
+use answers::Part;
 use parts::PARTS;
 use parts::part_of;
 use term::Code;
 use term::LIST;
-use term::Part;
 use term::bytes_of;
 use term::decode;
 use term::entry_of;

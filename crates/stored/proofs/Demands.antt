@@ -8,18 +8,21 @@ use lib.ListN.{length, drop}
 use lib.Seq.{sets}
 use lib.Dec.{leb}
 use borrow.Author.Tests.{le-leb, lt-leb, leb-true, leb-false, eq-eqb}
+use Rattle.answers.specs.Refusal.{numberOf}
+use Rattle.answers.specs.declared.Refusal.{Refusal}
+use Rattle.answers.specs.declared.Refusal.the-variants.{Table, Long, Spare, Full}
+use Rattle.byte_answers.specs.Answers.{moveNumber, moveLength}
+use Rattle.byte_answers.specs.declared.Read.{Read}
+use Rattle.byte_answers.specs.declared.Read.the-variants.{Ends}
+use Rattle.byte_answers.specs.declared.Move.{Move}
+use Rattle.byte_answers.specs.declared.Move.the-variants.{Written}
 use Rattle.term.specs.Limits.{nesting, longestRecord, Octets, TermAccepted}
 use Rattle.term.specs.Table.{tableAccepted}
-use Rattle.term.specs.Refusal.{numberOf}
 use Rattle.term.specs.Term.{Term, termTree, termOf, termBytes}
 use Rattle.term.specs.Tree.{Tree, empty, more, encode}
-use Rattle.term.specs.declared.Refusal.{Refusal}
-use Rattle.term.specs.declared.Refusal.the-variants.{Table, Long, Spare, Full}
-use Rattle.term.proofs.Numbers.{numbered}
+use Rattle.answers.proofs.Numbers.{numbered}
 use Rattle.term.proofs.Trees.{term-back, term-tree}
 use Rattle.reader.specs.Reading.{Parsed, refused, read, shown, join, chain, readAll, readTree, unlessSpare, readWhole, mapParsed, readRecord}
-use Rattle.reader.specs.declared.Read.{Read}
-use Rattle.reader.specs.declared.Read.the-variants.{Ends}
 use Rattle.reader.proofs.Answers.{refused-shown, ends-shown}
 use Rattle.reader.proofs.Inverse.{complete}
 use Rattle.reader.proofs.Steps.{whole-refused, whole-spare, whole-all}
@@ -27,11 +30,9 @@ use Rattle.reader.proofs.Typed.{record-read}
 use Rattle.sheet.proofs.Stores.{sets-front}
 use Rattle.stored.specs.Form.{store, stores, storedBytes, longestStored}
 use Rattle.stored.specs.Reading.{readStoredTree, unlessLong, readForm, readStored}
-use Rattle.stored.specs.Move.{moveNumber, moveLength, bytesBy, storing, restoring, moved, outputAfter}
+use Rattle.stored.specs.Move.{bytesBy, storing, restoring, moved, outputAfter}
 use Rattle.stored.specs.Passes.{stretched, stripped, recordTrees, storedTrees, Putting}
 use Rattle.stored.specs.Demands.{RecordOf, StoredOf, Demanded}
-use Rattle.stored.specs.declared.Move.{Move}
-use Rattle.stored.specs.declared.Move.the-variants.{Written}
 use Rattle.stored.proofs.Forms.{stretched-term, stripped-term}
 use Rattle.stored.proofs.Inverse.{stored-short, stored-complete, read-sound, Sound, form-sound}
 

@@ -10,6 +10,8 @@ use lib.ListN.{length, getD, drop}
 use lib.Seq.{drop-drop, drop-length, drop-at, getD-drop}
 use lib.Dec.{leb, eqb}
 use borrow.Author.Tests.{eqb-true, leb-true, le-leb, lt-leb, eq-eqb}
+use Rattle.answers.specs.declared.Refusal.{Refusal}
+use Rattle.answers.specs.declared.Refusal.the-variants.{Short}
 use Rattle.term.specs.Code.{codeIn, byteOf}
 use Rattle.term.specs.Table.{isList}
 use Rattle.term.specs.Tree.{Tree, Trees, branch, empty, more, number, listCode, own, encode}
@@ -18,8 +20,6 @@ use Rattle.term.specs.Limits.{nesting, longestRecord, Written, Counted, Shape, 
 use Rattle.reader.specs.Node.{openNode, codeNode, nodeAt}
 use Rattle.reader.specs.Reading.{Parsed, refused, read, join, chain, readAll, grow, enter, unlessSpare, mapParsed}
 use Rattle.term.specs.declared.Code.the-variants.{Symbol}
-use Rattle.term.specs.declared.Refusal.{Refusal}
-use Rattle.term.specs.declared.Refusal.the-variants.{Short}
 use Rattle.reader.specs.declared.Node.{Node}
 use Rattle.reader.specs.declared.Node.the-variants.{Open}
 use Rattle.term.proofs.Bools.{cond-all}

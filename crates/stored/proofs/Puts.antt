@@ -8,12 +8,12 @@ use mathlib.Core.Bool.{Bool, true, false, cond, _||_}
 use lib.Dec.{ltb}
 use lib.ListN.{length, getD, set, drop, take, length-drop}
 use lib.Seq.{sets, set-comm, drop-drop}
+use Rattle.answers.specs.declared.Refusal.{Refusal}
 use Rattle.term.proofs.Lists.{rest-part}
 use Rattle.term.specs.Code.{codeIn}
 use Rattle.term.specs.Limits.{nesting}
 use Rattle.term.specs.Tree.{Tree, Trees, branch, empty, more, number, listCode, own}
 use Rattle.term.specs.declared.Code.{Code}
-use Rattle.term.specs.declared.Refusal.{Refusal}
 use Rattle.reader.specs.Frame.{frame}
 use Rattle.reader.specs.Node.{openNode, codeNode, nodeAt}
 use Rattle.reader.specs.Reading.{Parsed, refused, read, join, chain, readAll, grow, enter, readTree}

@@ -8,20 +8,20 @@ use mathlib.Core.Bool.{Bool, true, false, cond, _||_}
 use lib.Dec.{ltb}
 use lib.ListN.{length, getD, set, drop, take, length-drop}
 use lib.Seq.{drop-drop, getD-drop}
+use Rattle.answers.specs.declared.Refusal.{Refusal}
+use Rattle.answers.specs.declared.Refusal.the-variants.{Length}
+use Rattle.byte_answers.specs.declared.Read.{Read}
+use Rattle.byte_answers.specs.declared.Read.the-variants.{Ends}
 use Rattle.term.proofs.Lists.{rest-part}
 use Rattle.term.specs.Code.{codeIn}
 use Rattle.term.specs.Limits.{nesting, Octets}
 use Rattle.term.specs.Tree.{Trees}
 use Rattle.term.specs.declared.Code.{Code}
-use Rattle.term.specs.declared.Refusal.{Refusal}
-use Rattle.term.specs.declared.Refusal.the-variants.{Length}
 use Rattle.reader.specs.Frame.{frame}
 use Rattle.reader.specs.Reading.{Parsed, refused, read, shown, readAll, grow, enter, HandsOn}
 use Rattle.reader.specs.declared.Frame.{Frame}
 use Rattle.reader.specs.declared.Node.{Node}
 use Rattle.reader.specs.declared.Node.the-variants.{Open}
-use Rattle.reader.specs.declared.Read.{Read}
-use Rattle.reader.specs.declared.Read.the-variants.{Ends}
 use Rattle.reader.proofs.Answers.{Got, opened-at, ends-shown}
 use Rattle.reader.proofs.Frames.{restOf, none}
 use Rattle.reader.proofs.Steps.{plus, andThen, shown-chain, all-none, all-more}

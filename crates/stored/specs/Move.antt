@@ -5,24 +5,14 @@ use mathlib.Core.List.{List, [], _++_}
 use mathlib.Core.Bool.{cond}
 use lib.ListN.{length, drop}
 use lib.Dec.{leb}
-use Rattle.term.specs.Refusal.{numberOf}
+use Rattle.answers.specs.declared.Refusal.the-variants.{Table, Full}
+use Rattle.byte_answers.specs.declared.Move.{Move}
+use Rattle.byte_answers.specs.declared.Move.the-variants.{Written}
 use Rattle.term.specs.Table.{tableAccepted}
 use Rattle.term.specs.Term.{Term, termBytes}
 use Rattle.reader.specs.Reading.{Parsed, refused, read, readRecord}
-use Rattle.term.specs.declared.Refusal.the-variants.{Table, Full}
 use Rattle.stored.specs.Form.{storedBytes}
 use Rattle.stored.specs.Reading.{readStored}
-use Rattle.stored.specs.declared.Move.{Move}
-use Rattle.stored.specs.declared.Move.the-variants.{Written}
-
--- its number, 0 where the bytes were written, and their length, 0 where it is refused
-abbrev pub moveNumber : Move → ℕ
-moveNumber (Written n) = 0
-moveNumber (Move.Refused r) = numberOf r
-
-abbrev pub moveLength : Move → ℕ
-moveLength (Written n) = n
-moveLength (Move.Refused r) = 0
 
 -- the bytes to be written, or why there are none
 unfoldable pub bytesBy : (Term → List ℕ) → Parsed Term → Parsed (List ℕ)

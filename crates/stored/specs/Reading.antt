@@ -5,6 +5,7 @@ use mathlib.Core.List.{List, []}
 use mathlib.Core.Bool.{Bool, true, false, cond}
 use lib.ListN.{length, getD, drop}
 use lib.Dec.{leb, eqb}
+use Rattle.answers.specs.declared.Refusal.the-variants.{Short, Deep, Long, Length}
 use Rattle.term.specs.Code.{codeIn}
 use Rattle.term.specs.Tree.{Tree, Trees, encode}
 use Rattle.term.specs.Term.{Term, termOf}
@@ -13,7 +14,6 @@ use Rattle.reader.specs.Node.{nodeAt}
 use Rattle.reader.specs.Reading.{Parsed, refused, read, readAll, enter, unlessSpare, mapParsed}
 use Rattle.reader.specs.declared.Node.{Node}
 use Rattle.reader.specs.declared.Node.the-variants.{Open}
-use Rattle.term.specs.declared.Refusal.the-variants.{Short, Deep, Long, Length}
 use Rattle.sheet.specs.Word.{wordBytes, wordAt}
 use Rattle.stored.specs.Form.{longestStored}
 

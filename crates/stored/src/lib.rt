@@ -1,22 +1,24 @@
 // The stored form of records, in which lists tell their length: the move from the old form to it and back.
+use answers::Refusal;
+use byte_answers::Move;
+use byte_answers::Read;
 use reader::FRAMES;
 use reader::Frame;
 use reader::Node;
-use reader::Read;
 use term::NESTING;
-use term::Refusal;
 ghost use mathlib.Core.Path.{_≡_};
 ghost use mathlib.Core.Bool.{false};
 ghost use Prim.Native.Nat.{_+_, _≤_};
 ghost use lib.ListN.{length, set};
 ghost use lib.Seq.{sets};
+ghost use Rattle.byte_answers.specs.Answers.{moveNumber, moveLength};
 ghost use Rattle.term.specs.Moment.{old, new};
 ghost use Rattle.term.specs.Limits.{nesting, longestRecord};
 ghost use Rattle.reader.specs.Frame.{frame};
 ghost use Rattle.reader.specs.Reading.{shown};
 ghost use Rattle.stored.specs.Form.{longestStored};
 ghost use Rattle.stored.specs.Reading.{storedNode, readStoredTree, readForm};
-ghost use Rattle.stored.specs.Move.{moveNumber, moveLength, storing, restoring, moved, outputAfter};
+ghost use Rattle.stored.specs.Move.{storing, restoring, moved, outputAfter};
 ghost use Rattle.stored.specs.Passes.{stretched, stripped, ownOf, ownSize, storedSize, Stands, agreesAt, withTold, recordTrees, storedTrees, Putting};
 ghost use Rattle.stored.specs.Demands.{StoreDemanded, RestoreDemanded};
 
@@ -31,34 +33,6 @@ const BEFORE: usize = 2;
 
 // The most nodes whose children are read at once: those of the frames around, and of the innermost.
 const OPEN: usize = FRAMES + 1;
-
-// What a move shows: the length of what was written, or why it is refused.
-pub enum Move {
-    Written(usize),
-    Refused(Refusal),
-}
-
-impl Move {
-    // Document 01's number, or 0.
-    pub fn number(self) -> u8
-        ensures { λ r. ⌜ r ≡ moveNumber self ⌝ }
-    {
-        match self {
-            Move::Written(_) => 0,
-            Move::Refused(r) => r.number(),
-        }
-    }
-
-    // The length of what was written.
-    pub fn length(self) -> usize
-        ensures { λ r. ⌜ r ≡ moveLength self ⌝ }
-    {
-        match self {
-            Move::Written(n) => n,
-            Move::Refused(_) => 0,
-        }
-    }
-}
 
 // The checks of a node of the stored form.
 fn stored_node(table: &[u8], s: &[u8], left: u8) -> Node

@@ -1,7 +1,6 @@
 -- The laws that the proofs of this crate, and other crates, cite.
 pub mod Bools
 pub mod Lists
-pub mod Numbers
 pub mod Tables
 pub mod Codes
 pub mod Trees

@@ -5,7 +5,6 @@ pub mod Tree
 pub mod Term
 pub mod Pattern
 pub mod Limits
-pub mod Refusal
 pub mod Extent
 pub mod Class
 pub mod Same

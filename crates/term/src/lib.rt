@@ -1,4 +1,5 @@
 // Symbol tables, class lists and codes: what they stand for, which are accepted, where a term ends, and when two parts are the same.
+use answers::Part;
 ghost use mathlib.Core.Path.{_≡_};
 ghost use mathlib.Core.Bool.{true, false};
 ghost use mathlib.Core.List.{[]};
@@ -7,11 +8,10 @@ ghost use lib.ListN.{length};
 ghost use Rattle.term.specs.Moment.{old};
 ghost use Rattle.term.specs.Table.{entryAccepted, tableAccepted};
 ghost use Rattle.term.specs.Code.{decodeOf};
-ghost use Rattle.term.specs.Refusal.{numberOf};
 ghost use Rattle.term.specs.Extent.{kidsOf, entryOf, extentOf};
 ghost use Rattle.term.specs.Class.{classOf, entryClassed, classesAccepted};
 ghost use Rattle.term.specs.Same.{countNext, sameByte, samePart, Compares};
-ghost use Rattle.term.specs.Part.{boundPart, isAbsent, partBytes};
+ghost use Rattle.term.specs.Part.{partBytes};
 
 // The most symbols that a table has.
 pub const LARGEST_TABLE: usize = 200;
@@ -37,9 +37,6 @@ pub const LIST: u8 = 255;
 // The most children of any other symbol.
 const MOST_CHILDREN: u8 = 8;
 
-// The offset of the absent mark: no part within the longest record has it.
-const NOWHERE: u16 = 65535;
-
 // What a byte of a pattern stands for. A name or a run name holds its variable's number.
 pub enum Code {
     Symbol(u8),
@@ -47,32 +44,6 @@ pub enum Code {
     Run(u8),
     Complement,
     Refused,
-}
-
-// Why an input is refused.
-pub enum Refusal {
-    Table,
-    Short,
-    Spare,
-    BadCode,
-    Deep,
-    Long,
-    Stray,
-    Narrow,
-    Directory,
-    Full,
-    Unread,
-    Class,
-    Unknown,
-    Length,
-    NotPlain,
-}
-
-// A part of a record: offset and length in bytes, and the number of its elements.
-pub struct Part {
-    pub offset: u16,
-    pub length: u16,
-    pub elements: u8,
 }
 
 pub fn decode(b: u8) -> Code
@@ -84,31 +55,6 @@ pub fn decode(b: u8) -> Code
         232..=247 => Code::Run(b - 200),
         248 => Code::Complement,
         _ => Code::Refused,
-    }
-}
-
-impl Refusal {
-    // Document 01's number.
-    pub fn number(self) -> u8
-        ensures { λ r. ⌜ r ≡ numberOf self ⌝ }
-    {
-        match self {
-            Refusal::Table => 1,
-            Refusal::Short => 2,
-            Refusal::Spare => 3,
-            Refusal::BadCode => 4,
-            Refusal::Deep => 5,
-            Refusal::Long => 6,
-            Refusal::Stray => 7,
-            Refusal::Narrow => 8,
-            Refusal::Directory => 9,
-            Refusal::Full => 12,
-            Refusal::Unread => 13,
-            Refusal::Class => 14,
-            Refusal::Unknown => 15,
-            Refusal::Length => 17,
-            Refusal::NotPlain => 23,
-        }
     }
 }
 
@@ -306,32 +252,6 @@ pub fn same(table: &[u8], classes: &[u8], x: &[u8], y: &[u8]) -> bool
         i = i + 1;
     }
     true
-}
-
-impl Part {
-    // The absent mark.
-    pub const ABSENT: Part = Part {
-        offset: NOWHERE,
-        length: 0,
-        elements: 0,
-    };
-
-    // A part that a name or a run name is bound to.
-    pub fn bound(offset: usize, length: usize, elements: u8) -> Part
-        ensures { λ r. ⌜ r ≡ boundPart offset length elements ⌝ }
-    {
-        Part {
-            offset: (offset % 65536) as u16,
-            length: (length % 65536) as u16,
-            elements: elements,
-        }
-    }
-
-    pub fn is_absent(self) -> bool
-        ensures { λ r. ⌜ r ≡ isAbsent self ⌝ }
-    {
-        self.offset == NOWHERE
-    }
 }
 
 // The bytes of a part of a record: none where it does not lie within the record.

@@ -7,11 +7,11 @@ use crate::shown;
 use crate::shown::Answered;
 use crate::shown::Shown;
 use crate::text;
+use byte_answers::Writing;
 use matcher::match_one_with_classes;
 use matcher::next_with_classes;
 use plain::match_plain_with_classes;
 use rules::match_rules_with_classes;
-use sheet::Writing;
 
 // The most symbols that a class list names here.
 const SYMBOLS: usize = 256;

@@ -1,12 +1,12 @@
 // Outcomes as text: each word and number with a blank before it. A text that has no more room is cut.
 use crate::text;
-use cost::Cost;
-use matcher::Answer;
-use reader::Read;
-use rules::RuleAnswer;
-use sheet::Checked;
-use sheet::Place;
-use stored::Move;
+use answers::Answer;
+use answers::Cost;
+use answers::RuleAnswer;
+use byte_answers::Checked;
+use byte_answers::Move;
+use byte_answers::Place;
+use byte_answers::Read;
 
 // The numbers of an entry, the entries of an answer, and those of the buffer around it.
 const ENTRY: usize = parts::ENTRY_WIDTH;

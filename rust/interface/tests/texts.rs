@@ -22,6 +22,8 @@ fn code_of(name: &str) -> String {
 /// The code of the proved crates, without comments.
 fn rattle() -> String {
     let crates = [
+        "answers",
+        "byte_answers",
         "term",
         "reader",
         "parts",

@@ -3,7 +3,7 @@ use native.Mathlib.Omega.{arith}
 use mathlib.Core.Bool.{false}
 use mathlib.Core.Path.{ap, _∙_}
 use borrow.Author.Needs.{needs}
-use Rattle.sheet.specs.Answer.{checkedIndex}
+use Rattle.byte_answers.specs.Answers.{checkedIndex}
 use Rattle.qonveshir.specs.Shown.{checkShown}
 use Rattle.qonveshir.proofs.Indices.{contents-index}
 use Rattle.qonveshir.proofs.qonveshir_check_rules.Statement.{statement}

@@ -4,7 +4,7 @@ use mathlib.Core.Option.{none}
 use mathlib.Core.Path.{ap, _∙_}
 use lib.ListN.{length}
 use borrow.Author.Needs.{needs}
-use Rattle.rules.specs.Answer.{ruleIndex}
+use Rattle.answers.specs.Answers.{ruleIndex}
 use Rattle.qonveshir.specs.Shown.{rulesShown}
 use Rattle.qonveshir.proofs.Indices.{rules-index}
 use Rattle.qonveshir.proofs.qonveshir_match_rules.Statement.{statement}

@@ -3,7 +3,7 @@ use native.Mathlib.Omega.{arith}
 use mathlib.Core.Path.{_≡_, ap, _∙_}
 use lib.ListN.{length}
 use borrow.Author.Needs.{needs}
-use Rattle.sheet.specs.Answer.{writingIndex}
+use Rattle.byte_answers.specs.Answers.{writingIndex}
 use Rattle.qonveshir.specs.Shown.{writingShown}
 use Rattle.qonveshir.proofs.Indices.{writing-index}
 use Rattle.qonveshir.proofs.qonveshir_write_sheet.Statement.{statement}

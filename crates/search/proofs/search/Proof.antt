@@ -4,9 +4,9 @@ use mathlib.Core.Path.{refl, subst}
 use lib.ListN.{length, replicate}
 use borrow.Author.Needs.{needs}
 use borrow.Author.Tests.{le-leb, lt-leb}
+use Rattle.answers.specs.Part.{absent}
 use Rattle.term.specs.Limits.{longestRecord, longestPattern}
 use Rattle.term.specs.Code.{variables}
-use Rattle.term.specs.Part.{absent}
 use Rattle.search.specs.Level.{startOf}
 use Rattle.parts.specs.Packed.{partPlaces}
 use Rattle.search.specs.Inner.Memory.{Sized}

@@ -5,8 +5,8 @@ use mathlib.Core.List.{List}
 use mathlib.Core.Bool.{Bool, true, false, cond}
 use lib.ListN.{length, getD, set}
 use lib.Dec.{ltb}
+use Rattle.answers.specs.Part.{boundPart}
 use Rattle.term.specs.Code.{variables}
-use Rattle.term.specs.Part.{boundPart}
 use Rattle.search.specs.State.{place, placeFrom}
 use Rattle.parts.specs.Packed.{packed, unpacked}
 use Rattle.search.specs.Inner.Memory.{marks, marksOf, Holding}

@@ -5,9 +5,9 @@ use mathlib.Core.Path.{_≡_}
 use mathlib.Core.List.{List, [], _∷_}
 use mathlib.Core.Bool.{true, false}
 use lib.ListN.{length, getD, set}
+use Rattle.answers.specs.Part.{isAbsent}
 use Rattle.term.specs.Code.{variables}
 use Rattle.term.specs.Limits.{longestPattern}
-use Rattle.term.specs.Part.{isAbsent}
 use Rattle.parts.specs.Packed.{bit, partIn, partPlaces}
 use Rattle.search.specs.State.{Frame, PutBy, State, frame, putBy, partInState}
 use Rattle.search.specs.declared.place.Place.{Place}

@@ -5,10 +5,10 @@ use mathlib.Core.List.{List}
 use mathlib.Core.Bool.{Bool, true, false, cond}
 use lib.ListN.{length, getD, take, drop, set}
 use lib.Dec.{eqb}
+use Rattle.answers.specs.Part.{part, boundPart}
+use Rattle.answers.specs.declared.Part.{Part}
 use Rattle.term.specs.Code.{variables}
 use Rattle.term.specs.Extent.{extentOf}
-use Rattle.term.specs.Part.{part, boundPart}
-use Rattle.term.specs.declared.Part.{Part}
 use Rattle.search.specs.State.{PutBy, State, place, state}
 use Rattle.search.specs.Level.{Reply, reply, failedAt, spentAt, startOf, orElse, complementsOf, stopBy, levelOf, levels, endOf}
 use Rattle.parts.specs.Packed.{bit, partIn, partsIn}

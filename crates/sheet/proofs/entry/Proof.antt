@@ -1,7 +1,7 @@
 -- `sheet::entry` meets its contract.
 use mathlib.Core.Path.{sym, ap, _∙_}
 use borrow.Author.Needs.{needs}
-use Rattle.sheet.specs.Answer.{checkedNumber}
+use Rattle.byte_answers.specs.Answers.{checkedNumber}
 use Rattle.sheet.proofs.Entries.{no-entry, entry-of-part}
 use Rattle.sheet.proofs.entry.Statement.{statement}
 use Rattle.sheet.proofs.entry.Tie as tie

@@ -33,7 +33,7 @@ use Rattle.search.proofs.given.pairs.Reads as pairs-reads
 use Rattle.search.proofs.given.resumed.Reads as resumed-reads
 use Rattle.search.proofs.level.start_level.Reads as start-level-reads
 use Rattle.search.proofs.walk.wide.Reads as wide-reads
-use Rattle.term.proofs.Part.bound.Reads as bound-reads
+use Rattle.answers.proofs.Part.bound.Reads as bound-reads
 use Rattle.search.proofs.given.+given_length+given_rest.{statement}
 use Rattle.search.proofs.given.+given_length+given_rest.Tie.{close}
 

@@ -66,7 +66,7 @@ use Rattle.search.proofs.walk.onward.Reads as onward-reads
 use Rattle.search.proofs.skip.skip_where.Reads as skip-where-reads
 use Rattle.search.proofs.skip.wanted.Reads as wanted-reads
 use Rattle.search.proofs.walk.wide.Reads as wide-reads
-use Rattle.term.proofs.Part.bound.Reads as bound-reads
+use Rattle.answers.proofs.Part.bound.Reads as bound-reads
 use Rattle.search.proofs.level.+complement+complements+follow+lengths+level+rest+start_level.{statement}
 use Rattle.search.proofs.level.+complement+complements+follow+lengths+level+rest+start_level.Tie.{close}
 

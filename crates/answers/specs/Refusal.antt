@@ -1,7 +1,7 @@
 -- Document 01's number for each refusal, and document 02's from 14 on (10 and 11, none and spent, are answers).
 use Prim.Native.Nat.{ℕ}
-use Rattle.term.specs.declared.Refusal.{Refusal}
-use Rattle.term.specs.declared.Refusal.the-variants.{Table, Short, Spare, BadCode, Deep, Long, Stray, Narrow, Directory, Full, Unread, Class, Unknown, Length, NotPlain}
+use Rattle.answers.specs.declared.Refusal.{Refusal}
+use Rattle.answers.specs.declared.Refusal.the-variants.{Table, Short, Spare, BadCode, Deep, Long, Stray, Narrow, Directory, Full, Unread, Class, Unknown, Length, NotPlain}
 
 abbrev pub numberOf : Refusal → ℕ
 numberOf Table = 1
