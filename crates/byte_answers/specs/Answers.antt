@@ -1,5 +1,8 @@
 -- What the answers show: document 01's number, 0 where nothing is refused, and the values beside it.
 use Prim.Native.Nat.{ℕ}
+use mathlib.Core.Path.{_≡_}
+use mathlib.Core.List.{List, _++_}
+use lib.ListN.{length, drop}
 use Rattle.answers.specs.Refusal.{numberOf}
 use Rattle.byte_answers.specs.declared.Read.{Read}
 use Rattle.byte_answers.specs.declared.Checked.{Checked}
@@ -64,3 +67,9 @@ moveNumber (Move.Refused r) = numberOf r
 abbrev pub moveLength : Move → ℕ
 moveLength (Move.Written n) = n
 moveLength (Move.Refused r) = 0
+
+-- a writing or a move shows that s was written: number 0 and the length of s; s is at the front of the output, and past it stays what was there
+pub record Writes (before : List ℕ) (number size : ℕ) (after s : List ℕ) : Type 0 where
+  pub written : number ≡ 0
+  pub whole : size ≡ length s
+  pub output : after ≡ s ++ drop size before

@@ -26,11 +26,11 @@ use Rattle.anti_pattern.specs.Answer.{Matching, bound, nothing, spent, answer}
 use Rattle.sheet.specs.Check.{longestSheet, entryCount, directoryAccepted, checkSheet, andThen}
 use Rattle.sheet.specs.Contents.{readEntry, stopAt, checkEach, few, checkContents, checkRules}
 use Rattle.sheet.specs.Entry.{entries}
-use Rattle.sheet.specs.Writing.{split, lengthsAccepted, sheetLength, checkRecords, withRoom, writing}
+use Rattle.writing.specs.Writing.{split, lengthsAccepted, sheetLength, checkRecords, withRoom, writing}
 use Rattle.sheet.proofs.Checks.{accepted-directed}
 use Rattle.sheet.proofs.Contents.{contents-passed}
 use Rattle.sheet.proofs.Entries.{entries-count}
-use Rattle.sheet.proofs.Lengths.{split-length}
+use Rattle.writing.proofs.Lengths.{split-length}
 use Rattle.call.specs.Brought.{languageOf, broughtAccepted}
 use Rattle.call.specs.Call.{answerWidth, checks, answerBy}
 use Rattle.call.specs.Verdict.{check, reading, both}

@@ -21,8 +21,8 @@ ghost use Rattle.rules.specs.Call.{answerOf as rulesAnswer, bufferOf as rulesBu
 ghost use Rattle.rules.specs.Demands.{DemandedOf as RulesDemandedOf};
 ghost use Rattle.sheet.specs.Entry.{placeOf};
 ghost use Rattle.sheet.specs.Contents.{checkRules, checkStates};
-ghost use Rattle.sheet.specs.Writing.{writing, outputAfter};
-ghost use Rattle.sheet.specs.Demands.{Demanded as SheetDemanded};
+ghost use Rattle.writing.specs.Writing.{writing, outputAfter};
+ghost use Rattle.writing.specs.Demands.{Demanded as SheetDemanded};
 ghost use Rattle.stored.specs.Demands.{StoreDemanded, RestoreDemanded};
 ghost use Rattle.stored.specs.Move.{storing, restoring, moved, outputAfter as outputMoved};
 ghost use Rattle.qonveshir.specs.Demands.{PlainDemandedOf};
@@ -248,7 +248,7 @@ pub extern "C" fn qonveshir_write_sheet(
     ensures contents { λ _. ⌜ new output ≡ outputAfter (old table) (old records) (old lengths) (old output) ⌝ }
     ensures demand { λ r. ⌜ SheetDemanded (old table) (old records) (old lengths) (old output) (r .number) (r .count) (new output) ⌝ }
 {
-    let w = sheet::write_sheet(table, records, lengths, output);
+    let w = writing::write_sheet(table, records, lengths, output);
     shown(w.number(), w.index(), w.length() as u64)
 }
 

@@ -6,7 +6,7 @@ use mathlib.Core.Path.{_≡_, refl, sym, ap, _∙_}
 use mathlib.Core.List.{List, _++_, append-nil}
 use lib.ListN.{length, length-append, drop-of-length-le}
 use lib.Seq.{sets, length-sets}
-use Rattle.sheet.proofs.Stores.{sets-append, sets-front}
+use Rattle.term.proofs.Stores.{sets-append, sets-front}
 use borrow.Author.Tests.{ne-eqb}
 use Rattle.kinds.specs.Kind.{symbol, name, run, complement, rangeKind}
 use Rattle.report_lines.specs.Decimal.{decimalOf, decimal}

@@ -24,7 +24,7 @@ use Rattle.sheet.specs.Contents.{mostRules, checkRules}
 use Rattle.sheet.proofs.Checks.{accepted-directed, follow-true, follow-within}
 use Rattle.sheet.proofs.Contents.{contents-passed}
 use Rattle.sheet.proofs.Entries.{entries-count}
-use Rattle.sheet.proofs.Stores.{sets-front}
+use Rattle.term.proofs.Stores.{sets-front}
 use Rattle.rules.proofs.Rules.{rules-few}
 use Rattle.rules.specs.Trial.{Trial, boundAt, noneOf, spentAt, tryOne, tryEach, tryRules}
 use Rattle.call.specs.Call.{checks, answerBy}

@@ -5,7 +5,7 @@ use mathlib.Core.Path.{_≡_, sym}
 use mathlib.Core.List.{List, [], _∷_, _++_}
 use lib.ListN.{length, set, length-append}
 use lib.Seq.{sets}
-use Rattle.sheet.proofs.Stores.{sets-append}
+use Rattle.term.proofs.Stores.{sets-append}
 use Rattle.report_lines.specs.Line.{field, line}
 
 -- a text that is stored, and the byte after it

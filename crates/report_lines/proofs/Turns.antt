@@ -13,7 +13,7 @@ use Rattle.sheet.specs.Check.{entryCount}
 use Rattle.sheet.specs.Entry.{entries, shownEntry}
 use Rattle.sheet.proofs.Checks.{accepted-directed}
 use Rattle.sheet.proofs.Entries.{entries-count}
-use Rattle.sheet.proofs.Stores.{sets-append}
+use Rattle.term.proofs.Stores.{sets-append}
 use Rattle.call.specs.Call.{answerWidth}
 use Rattle.rules.specs.Call.{answerOf}
 use Rattle.report_lines.specs.Line.{header, answerLine}

@@ -5,7 +5,4 @@ pub mod Entries
 pub mod Words
 pub mod Readings
 pub mod Contents
-pub mod Lengths
-pub mod Stores
-pub mod Writings
 pub mod Demands

@@ -27,7 +27,7 @@ use Rattle.reader.proofs.Answers.{refused-shown, ends-shown}
 use Rattle.reader.proofs.Inverse.{complete}
 use Rattle.reader.proofs.Steps.{whole-refused, whole-spare, whole-all}
 use Rattle.reader.proofs.Typed.{record-read}
-use Rattle.sheet.proofs.Stores.{sets-front}
+use Rattle.term.proofs.Stores.{sets-front}
 use Rattle.stored.specs.Form.{store, stores, storedBytes, longestStored}
 use Rattle.stored.specs.Reading.{readStoredTree, unlessLong, readForm, readStored}
 use Rattle.stored.specs.Move.{bytesBy, storing, restoring, moved, outputAfter}

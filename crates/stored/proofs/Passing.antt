@@ -10,7 +10,7 @@ use lib.Seq.{sets, drop-drop}
 use Rattle.term.proofs.Lists.{next-at}
 use Rattle.term.specs.Same.{countNext}
 use Rattle.term.specs.Table.{isList}
-use Rattle.sheet.proofs.Stores.{sets-append}
+use Rattle.term.proofs.Stores.{sets-append}
 use Rattle.stored.specs.Reading.{lengthBytes}
 use Rattle.stored.specs.Passes.{stretched, stripped, ownSize, storedSize}
 

@@ -26,7 +26,7 @@ use Rattle.reader.proofs.Nodes.{NodeSound, sound-node}
 use Rattle.reader.proofs.Steps.{all-more, node-within}
 use Rattle.reader.proofs.Inverse.{TreesSound, sound-all, sound, tree-unfold}
 use Rattle.sheet.specs.Word.{word}
-use Rattle.sheet.proofs.Stores.{sets-append}
+use Rattle.term.proofs.Stores.{sets-append}
 use Rattle.stored.specs.Form.{tell, store, stores, longestStored}
 use Rattle.stored.specs.Passes.{recordTrees, storedTrees, Putting, ownOf, ownSize, storedSize, Stands, withTold}
 use Rattle.stored.proofs.Forms.{store-append, branch-length, more-length}

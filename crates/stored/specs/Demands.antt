@@ -9,7 +9,7 @@ use Rattle.term.specs.Limits.{TermAccepted}
 use Rattle.reader.specs.Reading.{Parsed, read}
 use Rattle.term.specs.Table.{tableAccepted}
 use Rattle.term.specs.Term.{Term, termBytes}
-use Rattle.sheet.specs.Demands.{Writes}
+use Rattle.byte_answers.specs.Answers.{Writes}
 use Rattle.stored.specs.Form.{storedBytes, longestStored}
 use Rattle.stored.specs.Move.{storing, restoring}
 

@@ -401,7 +401,7 @@ fn write(table: &[u8], records: &[u8], lengths: &[u16], room: usize, stated: &[u
     if text::ROOM < room {
         return shown::nothing();
     }
-    let written = sheet::write_sheet(table, records, lengths, &mut output[0..room]);
+    let written = writing::write_sheet(table, records, lengths, &mut output[0..room]);
     match written {
         Writing::Written(_) => shown::show_written(written.length(), &output, stated),
         Writing::Refused(_, _) => shown::show_unwritten(written.number(), written.index(), &output),

@@ -32,6 +32,7 @@ fn rattle() -> String {
         "plain",
         "cost",
         "sheet",
+        "writing",
         "stored",
         "rules",
         "qonveshir",

@@ -6,7 +6,7 @@ use mathlib.Core.Path.{_≡_, refl, sym, ap, _∙_}
 use mathlib.Core.List.{List}
 use lib.Seq.{sets}
 use lib.ListN.{length, drop, set, length-set}
-use Rattle.sheet.proofs.Stores.{bytes-next, bytes-end}
+use Rattle.term.proofs.Stores.{bytes-next, bytes-end}
 use Rattle.report_lines.proofs.Stores.{field-stored}
 use Rattle.report_lines.proofs.put_field.Statement.{statement}
 use Rattle.report_lines.proofs.put_field.Tie as tie

@@ -1,12 +1,12 @@
--- `sheet::write_sheet` meets its contract.
+-- `writing::write_sheet` meets its contract.
 use native.Mathlib.Omega.{arith}
 use mathlib.Core.Path.{sym, _∙_}
 use borrow.Author.Needs.{needs}
-use Rattle.sheet.proofs.Writings.{records-passed, writing-refused, writing-full, writing-written}
-use Rattle.sheet.proofs.Lengths.{lengths-true}
-use Rattle.sheet.proofs.Demands.{writing-shown}
-use Rattle.sheet.proofs.write_sheet.Statement.{statement}
-use Rattle.sheet.proofs.write_sheet.Tie as tie
+use Rattle.writing.proofs.Writings.{records-passed, writing-refused, writing-full, writing-written}
+use Rattle.writing.proofs.Lengths.{lengths-true}
+use Rattle.writing.proofs.Demands.{writing-shown}
+use Rattle.writing.proofs.write_sheet.Statement.{statement}
+use Rattle.writing.proofs.write_sheet.Tie as tie
 
 check-records-requires : tie.Need-check-records-requires
 check-records-requires c κs = search needs

@@ -1,11 +1,11 @@
--- `sheet::put_word` meets its contract.
+-- `writing::put_word` meets its contract.
 use native.Mathlib.Numerals.{add-one}
 use native.Mathlib.Omega.{arith}
 use lib.ListN.{length-set}
 use borrow.Author.Needs.{needs}
 use Rattle.sheet.specs.Word.{word}
-use Rattle.sheet.proofs.put_word.Statement.{statement}
-use Rattle.sheet.proofs.put_word.Tie as tie
+use Rattle.writing.proofs.put_word.Statement.{statement}
+use Rattle.writing.proofs.put_word.Tie as tie
 
 cast-output : tie.Need-cast-output
 cast-output c = search needs

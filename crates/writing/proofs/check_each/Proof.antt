@@ -1,4 +1,4 @@
--- `sheet::check_each` meets its contract. The invariant: the lengths from `i` on are those of the bytes left, whose records decide.
+-- `writing::check_each` meets its contract. The invariant: the lengths from `i` on are those of the bytes left, whose records decide.
 -- The measure is what is left of the lengths.
 use Prim.Native.Nat.{_≤_, _-_, _+_}
 use native.Mathlib.Omega.{arith}
@@ -8,12 +8,12 @@ use lib.Seq.{length-take-le}
 use lib.ListN.{length, getD, take, drop, length-drop}
 use borrow.Author.Needs.{needs}
 use Rattle.term.proofs.Lists.{rest-part}
-use Rattle.sheet.specs.Writing.{split, sum}
-use Rattle.sheet.specs.Contents.{checkEach}
-use Rattle.sheet.proofs.Writings.{records-refused, records-read, records-end}
-use Rattle.sheet.proofs.Lengths.{sum-next}
-use Rattle.sheet.proofs.check_each.Statement.{statement}
-use Rattle.sheet.proofs.check_each.Tie as tie
+use Rattle.sheet.specs.Contents.{readEntry, checkEach}
+use Rattle.writing.specs.Writing.{split, sum}
+use Rattle.writing.proofs.Writings.{records-refused, records-read, records-end}
+use Rattle.writing.proofs.Lengths.{sum-next}
+use Rattle.writing.proofs.check_each.Statement.{statement}
+use Rattle.writing.proofs.check_each.Tie as tie
 
 abbrev Inv-loop : tie.InvT-loop
 Inv-loop table records lengths rest₀ i₀ rest i = (i ≤ length lengths) × (length rest ≡ sum (drop i lengths)) × (checkEach true table 0 (split records lengths) ≡ checkEach true table i (split rest (drop i lengths)))
@@ -33,23 +33,24 @@ shared-slice-read-n c = omega arith
 cast-n : tie.Need-cast-n Inv-loop μ-loop
 cast-n c = omega (arith, c .shared-slice-known4 .given (c .before .before .loop .i))
 
-slice-aggregate-read-entry : tie.Need-slice-aggregate-read-entry Inv-loop μ-loop
-slice-aggregate-read-entry c =
+slice-aggregate-read-record : tie.Need-slice-aggregate-read-record Inv-loop μ-loop
+slice-aggregate-read-record c =
     let turn = c .before .before .before .loop in
     let ns = c .before .before .before .before .before .before .before .args .lengths .now in
     sym (length-take-le (getD ns (turn .i) 0) (turn .rest .now) (omega (arith, sum-next ns (turn .i) (c .before .before .loop-test .taken))))
 
-read-entry-requires : tie.Need-read-entry-requires Inv-loop μ-loop
-read-entry-requires c κs = search needs
+read-record-requires : tie.Need-read-record-requires Inv-loop μ-loop
+read-record-requires c κs = search needs
 
 enum-known-read : tie.Need-enum-known-read Inv-loop μ-loop
 enum-known-read c = search needs
 
 returns : tie.Need-returns Inv-loop μ-loop
+unfolding readEntry
 returns c =
     let args = c .before .before .before .before .before .before .before .before .before .before .before .args in
     let turn = c .before .before .before .before .before .before .before .loop in
-    let e = sym (c .before .before .before .read-entry .ensures) ∙ c .before .read .given .1 in
+    let e = sym (c .before .before .before .read-record .ensures) ∙ c .before .read .given .1 in
     sym (turn .inv .2 ∙ records-refused (args .table .now) (turn .rest .now) (args .lengths .now) (turn .i) _ (c .before .before .before .before .before .before .loop-test .taken) e)
 
 enum-told : tie.Need-enum-told Inv-loop μ-loop
@@ -71,6 +72,7 @@ loop-less : tie.Need-loop-less Inv-loop μ-loop
 loop-less c = omega arith
 
 loop-again : tie.Need-loop-again Inv-loop μ-loop
+unfolding readEntry
 loop-again c =
     let args = c .before .before .before .before .before .before .before .before .before .before .before .args in
     let turn = c .before .before .before .before .before .before .before .loop in
@@ -79,7 +81,7 @@ loop-again c =
     let n = getD ns (turn .i) 0 in
     let more : length (take (length rest - n) (drop n rest)) ≡ sum (drop (turn .i + 1) ns) =
     omega (arith, ap length (rest-part n rest), length-drop n rest, sum-next ns (turn .i) (c .before .before .before .before .before .before .loop-test .taken)) in
-    let e = sym (c .before .before .before .read-entry .ensures) ∙ c .before .enum-told .given .1 in
+    let e = sym (c .before .before .before .read-record .ensures) ∙ c .before .enum-told .given .1 in
     (omega arith, more, turn .inv .2 ∙ records-read (args .table .now) rest ns (turn .i) _ (c .before .before .before .before .before .before .loop-test .taken) e)
 
 returns-2 : tie.Need-returns-2 Inv-loop μ-loop
@@ -98,8 +100,8 @@ check-each-spec =
     mul-n
     shared-slice-read-n
     cast-n
-    slice-aggregate-read-entry
-    read-entry-requires
+    slice-aggregate-read-record
+    read-record-requires
     enum-known-read
     returns
     enum-told

@@ -1,39 +1,19 @@
--- Bytes stored one after the other: what is left to store, and the sheet as a whole.
-use Prim.Native.Nat.{ℕ, zero, suc, _+_, _≤_, _<_}
+-- A sheet stored: pair by pair, and as a whole.
+use Prim.Native.Nat.{ℕ, _+_, _≤_, _<_}
 use native.Mathlib.Omega.{arith}
 use mathlib.Core.Path.{_≡_, ap, _∙_}
-use mathlib.Core.List.{List, [], _∷_, _++_}
-use lib.ListN.{length, getD, set, drop, drop-of-length-le}
-use lib.Seq.{sets, sets-eq}
+use mathlib.Core.List.{List, _++_}
+use lib.ListN.{length, getD, drop, drop-of-length-le}
+use lib.Seq.{sets}
 use Rattle.term.proofs.Lists.{next-at}
 use Rattle.sheet.specs.Word.{wordBytes, word}
 use Rattle.sheet.specs.Sheet.{pastPairs, directory, sheetBytes}
-use Rattle.sheet.specs.Writing.{split, sum}
 use Rattle.sheet.proofs.Readings.{directory-length}
-use Rattle.sheet.proofs.Lengths.{split-sheet}
-
-pub sets-append : (l : List ℕ) (i : ℕ) (vs ws : List ℕ) → sets l i (vs ++ ws) ≡ sets (sets l i vs) (i + length vs) ws
-sets-append l i [] ws = let e : i + zero ≡ i = omega arith in rw e
-sets-append l i (v ∷ vs) ws =
-    let e : suc i + length vs ≡ i + suc (length vs) = omega arith in
-    rw (← e) (sets-append (set l i v) (suc i) vs ws)
-
--- at the front of an output
-pub sets-front : (out s : List ℕ) (n : ℕ) → length s ≡ n → n ≤ length out → sets out 0 s ≡ s ++ drop n out
-sets-front out s n e h =
-    let z : 0 + length s ≡ n = omega arith in
-    sets-eq s out 0 (omega arith) ∙ ap (λ (k : ℕ). s ++ drop k out) z
+use Rattle.term.proofs.Stores.{sets-append}
+use Rattle.writing.specs.Writing.{split, sum}
+use Rattle.writing.proofs.Lengths.{split-sheet}
 
 module _ (l : List ℕ) (i at : ℕ) where
-  -- the byte at an index
-  pub bytes-next : (bs : List ℕ) → i < length bs → sets l (at + i) (drop i bs) ≡ sets (set l (at + i) (getD bs i 0)) (at + (i + 1)) (drop (i + 1) bs)
-  bytes-next bs h =
-      let e : at + (i + 1) ≡ suc (at + i) = omega arith in
-      rw (next-at bs i h, e)
-
-  pub bytes-end : (bs : List ℕ) → length bs ≤ i → sets l (at + i) (drop i bs) ≡ l
-  bytes-end bs h = rw (drop-of-length-le bs h)
-
   -- the pair at an index
   pub pairs-next : (ns : List ℕ) → i < length ns
       → sets l (pastPairs i) (directory at (drop i ns))

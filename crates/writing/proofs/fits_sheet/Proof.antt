@@ -1,12 +1,12 @@
--- `sheet::fits_sheet` meets its contract.
+-- `writing::fits_sheet` meets its contract.
 use native.Mathlib.Omega.{arith}
 use mathlib.Core.Path.{sym}
 use borrow.Author.Tests.{lt-leb}
 use borrow.Author.Needs.{needs}
-use Rattle.sheet.specs.Writing.{sheetLength}
 use Rattle.sheet.specs.Check.{longestSheet}
-use Rattle.sheet.proofs.fits_sheet.Statement.{statement}
-use Rattle.sheet.proofs.fits_sheet.Tie as tie
+use Rattle.writing.specs.Writing.{sheetLength}
+use Rattle.writing.proofs.fits_sheet.Statement.{statement}
+use Rattle.writing.proofs.fits_sheet.Tie as tie
 
 returns : tie.Need-returns
 returns c = sym (lt-leb (sheetLength (c .before .args .n) (c .before .args .total)) longestSheet (omega arith))

@@ -1,13 +1,13 @@
--- `sheet::put_bytes` meets its contract. The invariant: the bytes from `i` on are still to be stored. The measure is how many they are.
+-- `writing::put_bytes` meets its contract. The invariant: the bytes from `i` on are still to be stored. The measure is how many they are.
 use Prim.Native.Nat.{_≤_, _-_, _+_}
 use native.Mathlib.Omega.{arith}
 use native.Mathlib.Nat.{add-zero}
 use mathlib.Core.Path.{_≡_, refl, sym, _∙_}
 use lib.Seq.{sets}
 use lib.ListN.{length, drop, length-set}
-use Rattle.sheet.proofs.Stores.{bytes-next, bytes-end}
-use Rattle.sheet.proofs.put_bytes.Statement.{statement}
-use Rattle.sheet.proofs.put_bytes.Tie as tie
+use Rattle.term.proofs.Stores.{bytes-next, bytes-end}
+use Rattle.writing.proofs.put_bytes.Statement.{statement}
+use Rattle.writing.proofs.put_bytes.Tie as tie
 
 abbrev Inv-loop : tie.InvT-loop
 Inv-loop bytes output₀ at i₀ output i = (i ≤ length bytes) × (length output ≡ length output₀) × (sets output₀ at bytes ≡ sets output (at + i) (drop i bytes))

@@ -10,12 +10,12 @@ use lib.Dec.{ltb, eqb}
 use borrow.Author.Tests.{lt-ltb, eq-eqb, ne-eqb, ltb-true, eqb-true, eqb-false}
 use Rattle.term.proofs.Lists.{next-at}
 use Rattle.term.specs.Limits.{Octets}
 use Rattle.sheet.specs.Word.{word}
 use Rattle.sheet.specs.Sheet.{pastPairs, directory, sheetBytes, NoneEmpty}
 use Rattle.sheet.specs.Check.{longestSheet}
-use Rattle.sheet.specs.Writing.{split, sum, noneZero, lengthsAccepted, sheetLength}
 use Rattle.sheet.proofs.Words.{largestWord, word-octets, joined-octets}
 use Rattle.sheet.proofs.Readings.{written-length}
+use Rattle.writing.specs.Writing.{split, sum, noneZero, lengthsAccepted, sheetLength}
 
 -- the check of the lengths
 

@@ -1,9 +1,9 @@
--- `sheet::put_sheet` meets its contract.
+-- `writing::put_sheet` meets its contract.
 use mathlib.Core.Path.{sym}
 use borrow.Author.Needs.{needs}
-use Rattle.sheet.proofs.Stores.{sheet-stored}
-use Rattle.sheet.proofs.put_sheet.Statement.{statement}
-use Rattle.sheet.proofs.put_sheet.Tie as tie
+use Rattle.writing.proofs.Stores.{sheet-stored}
+use Rattle.writing.proofs.put_sheet.Statement.{statement}
+use Rattle.writing.proofs.put_sheet.Tie as tie
 
 cast-put-word : tie.Need-cast-put-word
 cast-put-word c = search needs

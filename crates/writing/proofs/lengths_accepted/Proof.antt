@@ -1,13 +1,13 @@
--- `sheet::lengths_accepted` meets its contract. The invariant: the lengths from `i` on decide, of which the bytes left are to be the sum.
+-- `writing::lengths_accepted` meets its contract. The invariant: the lengths from `i` on decide, of which the bytes left are to be the sum.
 -- The measure is what is left of the lengths.
 use Prim.Native.Nat.{_≤_, _-_}
 use native.Mathlib.Omega.{arith}
 use mathlib.Core.Path.{_≡_, refl, sym, _∙_}
 use lib.ListN.{length, drop}
-use Rattle.sheet.specs.Writing.{lengthsAccepted}
-use Rattle.sheet.proofs.Lengths.{lengths-zero, lengths-over, lengths-next, lengths-end}
-use Rattle.sheet.proofs.lengths_accepted.Statement.{statement}
-use Rattle.sheet.proofs.lengths_accepted.Tie as tie
+use Rattle.writing.specs.Writing.{lengthsAccepted}
+use Rattle.writing.proofs.Lengths.{lengths-zero, lengths-over, lengths-next, lengths-end}
+use Rattle.writing.proofs.lengths_accepted.Statement.{statement}
+use Rattle.writing.proofs.lengths_accepted.Tie as tie
 
 abbrev Inv-loop : tie.InvT-loop
 Inv-loop lengths total left₀ i₀ left i = (i ≤ length lengths) × (left ≤ total) × (lengthsAccepted lengths total ≡ lengthsAccepted (drop i lengths) left)

@@ -1,11 +1,11 @@
--- `sheet::check_records` meets its contract.
+-- `writing::check_records` meets its contract.
 use mathlib.Core.Path.{sym, _∙_}
 use borrow.Author.Tests.{not-true, not-false}
 use borrow.Author.Needs.{needs}
-use Rattle.sheet.proofs.Writings.{joined-table, joined-lengths, joined-long, joined-each}
-use Rattle.sheet.proofs.Lengths.{lengths-true}
-use Rattle.sheet.proofs.check_records.Statement.{statement}
-use Rattle.sheet.proofs.check_records.Tie as tie
+use Rattle.writing.proofs.Writings.{joined-table, joined-lengths, joined-long, joined-each}
+use Rattle.writing.proofs.Lengths.{lengths-true}
+use Rattle.writing.proofs.check_records.Statement.{statement}
+use Rattle.writing.proofs.check_records.Tie as tie
 
 check-table-requires : tie.Need-check-table-requires
 check-table-requires c κs = search needs

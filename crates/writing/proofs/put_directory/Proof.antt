@@ -1,18 +1,18 @@
--- `sheet::put_directory` meets its contract. The invariant: the pairs from `i` on are still to be stored, and entries of their lengths end
+-- `writing::put_directory` meets its contract. The invariant: the pairs from `i` on are still to be stored, and entries of their lengths end
 -- within the longest sheet. The measure is how many pairs they are.
 use Prim.Native.Nat.{_≤_, _-_, _+_}
 use native.Mathlib.Omega.{arith}
 use mathlib.Core.Path.{_≡_, refl, sym, _∙_}
 use lib.Seq.{sets}
 use lib.ListN.{length, drop}
 use Rattle.sheet.specs.Word.{wordBytes}
-use Rattle.sheet.specs.Writing.{sum}
 use Rattle.sheet.specs.Check.{longestSheet}
 use Rattle.sheet.specs.Sheet.{pastPairs, directory}
-use Rattle.sheet.proofs.Stores.{pairs-next, pairs-end}
-use Rattle.sheet.proofs.Lengths.{sum-next}
-use Rattle.sheet.proofs.put_directory.Statement.{statement}
-use Rattle.sheet.proofs.put_directory.Tie as tie
+use Rattle.writing.specs.Writing.{sum}
+use Rattle.writing.proofs.Stores.{pairs-next, pairs-end}
+use Rattle.writing.proofs.Lengths.{sum-next}
+use Rattle.writing.proofs.put_directory.Statement.{statement}
+use Rattle.writing.proofs.put_directory.Tie as tie
 
 abbrev Inv-loop : tie.InvT-loop
 Inv-loop lengths output₀ at₀ i₀ output at i = (i ≤ length lengths) × (length output ≡ length output₀) × (at + sum (drop i lengths) ≤ longestSheet) × (sets output₀ wordBytes (directory (pastPairs (length lengths)) lengths) ≡ sets output (pastPairs i) (directory at (drop i lengths)))

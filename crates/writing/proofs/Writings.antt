@@ -18,12 +18,12 @@ use Rattle.byte_answers.specs.declared.Writing.{Writing}
 use Rattle.byte_answers.specs.declared.Writing.the-variants.{Written}
 use Rattle.term.proofs.Lists.{rest-part}
 use Rattle.term.specs.Table.{tableAccepted}
 use Rattle.sheet.specs.Sheet.{sheetBytes}
 use Rattle.sheet.specs.Check.{longestSheet}
 use Rattle.sheet.specs.Contents.{readEntry, checkEach}
-use Rattle.sheet.specs.Writing.{split, lengthsAccepted, sheetLength, checkRecords, writing, outputAfter}
-use Rattle.sheet.proofs.Lengths.{split-next, lengths-true, split-size}
-use Rattle.sheet.proofs.Stores.{sets-front}
+use Rattle.term.proofs.Stores.{sets-front}
+use Rattle.writing.specs.Writing.{split, lengthsAccepted, sheetLength, checkRecords, writing, outputAfter}
+use Rattle.writing.proofs.Lengths.{split-next, lengths-true, split-size}
 
 -- the records from index i on
 
