@@ -3,19 +3,19 @@ use Prim.Native.Nat.{ℕ, zero, suc, _+_, _-_, _≤_, _<_}
 use native.Mathlib.Omega.{arith}
 use mathlib.Core.Path.{_≡_, refl, sym, ap, _∙_}
 use mathlib.Core.List.{List, [], _∷_}
-use mathlib.Core.Bool.{Bool, true, false}
+use mathlib.Core.Bool.{Bool, true, false, cond, false≢true}
 use lib.ListN.{length, getD, drop, length-drop}
 use lib.Seq.{getD-drop}
-use lib.Dec.{eqb}
-use borrow.Author.Tests.{lt-ltb, le-ltb, eqb-true, eq-eqb, ne-eqb}
+use lib.Dec.{ltb, eqb}
+use borrow.Author.Tests.{ltb-true, lt-ltb, le-ltb, eqb-true, eq-eqb, ne-eqb}
 use Rattle.byte_answers.specs.declared.Read.the-variants.{Ends}
 use Rattle.term.specs.Code.{decodeOf}
-use Rattle.term.specs.Table.{list, largestTable}
+use Rattle.term.specs.Table.{list}
 use Rattle.term.specs.Limits.{nesting, longestRecord}
 use Rattle.term.specs.declared.Code.the-variants.{Symbol}
 use Rattle.reader.specs.Frame.{frame}
 use Rattle.reader.specs.Node.{openNode, nodeAt}
-use Rattle.reader.specs.Reading.{shown, readTree, readWhole, SurelyRead}
+use Rattle.reader.specs.Reading.{shown, readTree, readWhole, childless, SurelyRead}
 use Rattle.reader.specs.declared.Frame.{Frame}
 use Rattle.reader.specs.declared.Node.the-variants.{Open}
 use Rattle.reader.proofs.Nodes.{node-open}
@@ -29,20 +29,25 @@ surely records table s false h = tt
 
 -- A symbol without children
 
-module _ (table s : List ℕ) (b : ℕ) (one : length s ≡ 1) (is : b ≡ getD s 0 0) (below : b < largestTable) (known : b < length table) where
-  leaf-node : getD table b 0 ≡ 0 → nodeAt table false false nesting s ≡ Open 1 (getD table b 0) false (nesting - 1)
-  unfolding decodeOf openNode
-  leaf-node z =
-      node-open table false false nesting s (Symbol b) (λ e. omega arith) (rw (← is, lt-ltb b largestTable below)) (lt-ltb b (length table) known) (λ e. omega arith)
+module _ (table s : List ℕ) (b : ℕ) (one : length s ≡ 1) (is : decodeOf (getD s 0 0) ≡ Symbol b) where
+  in-table : (x : Bool) → ltb b (length table) ≡ x → cond x (eqb (getD table b 0) 0) false ≡ true → (b < length table) × (getD table b 0 ≡ 0)
+  in-table true e h = (ltb-true b (length table) e, eqb-true (getD table b 0) 0 h)
+  in-table false e h = absurd (false≢true h)
+
+  leaf-node : b < length table → getD table b 0 ≡ 0 → nodeAt table false false nesting s ≡ Open 1 (getD table b 0) false (nesting - 1)
+  unfolding openNode
+  leaf-node known z =
+      node-open table false false nesting s (Symbol b) (λ e. omega arith) (sym is) (lt-ltb b (length table) known) (λ e. omega arith)
       ∙ rw (ne-eqb (getD table b 0) list (λ e. omega arith))
 
-  pub leaf-read : SurelyRead false table s (eqb (getD table b 0) 0)
+  pub leaf-read : SurelyRead false table s (childless table b)
   leaf-read =
-      surely false table s (eqb (getD table b 0) 0) (λ e.
-      let z = eqb-true (getD table b 0) 0 e in
+      surely false table s (childless table b) (λ e.
+      let k = in-table (ltb b (length table)) refl e in
       ap shown (whole-tree false table s (omega arith))
       ∙ whole-all s (readTree table false nesting false s) (length s)
-      (tree-open table false nesting false s (leaf-node z) ∙ ap (plus 1) (all-none (readTree table false (nesting - 1) false) (getD table b 0) (drop 1 s) z) ∙ ap Ends (sym one))
+      (tree-open table false nesting false s (leaf-node (k .0) (k .1))
+      ∙ ap (plus 1) (all-none (readTree table false (nesting - 1) false) (getD table b 0) (drop 1 s) (k .1)) ∙ ap Ends (sym one))
       (omega arith) (omega arith))
 
 -- Fewer than 32 nodes with children

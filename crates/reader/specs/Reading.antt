@@ -4,7 +4,7 @@ use mathlib.Core.Path.{_≡_}
 use mathlib.Core.List.{List}
 use mathlib.Core.Bool.{Bool, true, false, cond}
 use lib.ListN.{length, getD, drop}
-use lib.Dec.{leb, eqb}
+use lib.Dec.{leb, ltb, eqb}
 use Rattle.answers.specs.declared.Refusal.{Refusal}
 use Rattle.answers.specs.declared.Refusal.the-variants.{Short, Spare, Long}
 use Rattle.byte_answers.specs.declared.Read.{Read}
@@ -76,6 +76,10 @@ unlessSpare s (read t n) = cond (eqb n (length s)) (read t n) (refused Spare)
 unfoldable pub readWhole : Bool → List ℕ → List ℕ → Parsed Tree
 readWhole records table s =
     cond (leb (length s) (longest records)) (unlessSpare s (readTree table records nesting false s)) (refused Long)
+
+-- a symbol of the table that has no children
+abbrev pub childless : List ℕ → ℕ → Bool
+childless table b = cond (ltb b (length table)) (eqb (getD table b 0) 0) false
 
 -- true where s is known to be one tree; false says nothing
 abbrev pub SurelyRead : Bool → List ℕ → List ℕ → Bool → Type 0

@@ -2,7 +2,6 @@
 use answers::Refusal;
 use byte_answers::Read;
 use term::Code;
-use term::LARGEST_TABLE;
 use term::LIST;
 use term::LONGEST_PATTERN;
 use term::LONGEST_RECORD;
@@ -16,7 +15,7 @@ ghost use Rattle.term.specs.Code.{codeIn};
 ghost use Rattle.term.specs.Limits.{nesting, longest};
 ghost use Rattle.reader.specs.Node.{listNode, unlessDeep, codeNode, nodeAt};
 ghost use Rattle.reader.specs.Frame.{frame};
-ghost use Rattle.reader.specs.Reading.{shown, readTree, HandsOn, readWhole, SurelyRead, readRecord, readPattern};
+ghost use Rattle.reader.specs.Reading.{shown, readTree, HandsOn, readWhole, childless, SurelyRead, readRecord, readPattern};
 
 // The most frames around a tree that is being read.
 pub const FRAMES: usize = NESTING as usize;
@@ -228,6 +227,17 @@ fn longest_of(records: bool) -> usize
     }
 }
 
+// Whether a symbol of the table has no children.
+fn is_childless(table: &[u8], b: u8) -> bool
+    ensures { λ r. ⌜ r ≡ childless (old table) b ⌝ }
+{
+    let i = wide(b);
+    if table.len() <= i {
+        return false;
+    }
+    table[i] == 0
+}
+
 // Whether s is surely a pattern: a symbol without children needs no frames. A record is never asked.
 fn is_leaf(records: bool, table: &[u8], s: &[u8]) -> bool
     ensures { λ r. ⌜ SurelyRead records (old table) (old s) r ⌝ }
@@ -238,14 +248,14 @@ fn is_leaf(records: bool, table: &[u8], s: &[u8]) -> bool
     if s.len() != 1 {
         return false;
     }
-    let i = wide(s[0]);
-    if LARGEST_TABLE <= i {
-        return false;
+    let code = decode(s[0]);
+    match code {
+        Code::Symbol(b) => is_childless(table, b),
+        Code::Name(_) => false,
+        Code::Run(_) => false,
+        Code::Complement => false,
+        Code::Refused => false,
     }
-    if table.len() <= i {
-        return false;
-    }
-    table[i] == 0
 }
 
 // The whole of s as one tree.
