@@ -6,7 +6,7 @@ use lib.ListN.{length, drop}
 use Rattle.answers.specs.Refusal.{numberOf}
 use Rattle.byte_answers.specs.declared.Read.{Read}
 use Rattle.byte_answers.specs.declared.Checked.{Checked}
-use Rattle.byte_answers.specs.declared.Place.{Place}
+use Rattle.byte_answers.specs.declared.EntryPlace.{EntryPlace}
 use Rattle.byte_answers.specs.declared.Writing.{Writing}
 use Rattle.byte_answers.specs.declared.Move.{Move}
 
@@ -33,18 +33,18 @@ abbrev pub checkedCount : Checked → ℕ
 checkedCount (Checked.Accepted n) = n
 checkedCount (Checked.Refused r i) = 0
 
-abbrev pub placeNumber : Place → ℕ
-placeNumber (Place.At offset length) = 0
-placeNumber (Place.Refused r) = numberOf r
+abbrev pub placeNumber : EntryPlace → ℕ
+placeNumber (EntryPlace.At offset length) = 0
+placeNumber (EntryPlace.Refused r) = numberOf r
 
 -- an entry that is refused has offset and length 0
-abbrev pub placeOffset : Place → ℕ
-placeOffset (Place.At offset length) = offset
-placeOffset (Place.Refused r) = 0
+abbrev pub placeOffset : EntryPlace → ℕ
+placeOffset (EntryPlace.At offset length) = offset
+placeOffset (EntryPlace.Refused r) = 0
 
-abbrev pub placeLength : Place → ℕ
-placeLength (Place.At offset length) = length
-placeLength (Place.Refused r) = 0
+abbrev pub placeLength : EntryPlace → ℕ
+placeLength (EntryPlace.At offset length) = length
+placeLength (EntryPlace.Refused r) = 0
 
 abbrev pub writingNumber : Writing → ℕ
 writingNumber (Writing.Written n) = 0

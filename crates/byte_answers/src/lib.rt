@@ -71,18 +71,18 @@ impl Checked {
 }
 
 // Where an entry lies in its sheet: offset and length in bytes, or why sheet or index is refused.
-pub enum Place {
+pub enum EntryPlace {
     At(u16, u16),
     Refused(Refusal),
 }
 
-impl Place {
+impl EntryPlace {
     pub fn number(self) -> u8
         ensures { λ r. ⌜ r ≡ placeNumber self ⌝ }
     {
         match self {
-            Place::At(_, _) => 0,
-            Place::Refused(r) => r.number(),
+            EntryPlace::At(_, _) => 0,
+            EntryPlace::Refused(r) => r.number(),
         }
     }
 
@@ -91,8 +91,8 @@ impl Place {
         ensures { λ r. ⌜ r ≡ placeOffset self ⌝ }
     {
         match self {
-            Place::At(offset, _) => offset,
-            Place::Refused(_) => 0,
+            EntryPlace::At(offset, _) => offset,
+            EntryPlace::Refused(_) => 0,
         }
     }
 
@@ -100,8 +100,8 @@ impl Place {
         ensures { λ r. ⌜ r ≡ placeLength self ⌝ }
     {
         match self {
-            Place::At(_, length) => length,
-            Place::Refused(_) => 0,
+            EntryPlace::At(_, length) => length,
+            EntryPlace::Refused(_) => 0,
         }
     }
 }

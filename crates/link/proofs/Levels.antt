@@ -23,7 +23,7 @@ use Rattle.anti_pattern.proofs.Metering.{Split, enough, over, split}
 use Rattle.anti_pattern.proofs.Steps.{step-found, step-refute, step-length, step-last-length, length-used-up}
 use Rattle.search.specs.State.{PutBy, State}
 use Rattle.search.specs.Level.{Reply, reply, spentAt, startOf, tried, orElse, lengthsOf, insideOf, andThen, complementsOf, levels}
-use Rattle.search.specs.declared.Outcome.the-variants.{Found}
+use Rattle.search.specs.declared.Finding.the-variants.{Found}
 use Rattle.term.proofs.Joins.{sizes-join, sizes-none}
 use Rattle.link.proofs.Represents.{Limited, bytesLeft, Stands, Shown, Waits, AllWait, Represents, Agrees, is-found, is-failed, is-spent}
 use Rattle.link.proofs.Places.{here-stands, past-leaf}

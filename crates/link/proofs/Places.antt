@@ -20,7 +20,8 @@ use Rattle.term.proofs.Sizes.{arity, childrenBytes, past-tree, past-terms, term
 use Rattle.anti_pattern.specs.Search.{Env}
 use Rattle.anti_pattern.proofs.Machine.{Frame, Pending, frame}
 use Rattle.anti_pattern.proofs.Facts.{count-join}
-use Rattle.search.specs.State.{Frame as Counts, frame as counts, State, state, placePast, entered, reopened, alone}
+use Rattle.search.specs.State.{remaining, State, state, placePast, entered, reopened, alone}
+use Rattle.search.specs.declared.place.Remaining.{Remaining}
 use Rattle.search.specs.declared.place.Place.{Place}
 use Rattle.term.proofs.Joins.{bytes-join, sizes-join, fit-split, leaf-length}
 use Rattle.link.proofs.Represents.{Limited, codesLeft, bytesLeft, Stacked, Here, Stands, Shown, Represents}
@@ -65,17 +66,17 @@ past-own l a false s n bs h = past-front l a 1 (s ∷ []) bs h refl
 
 -- whether a node is open around
 
-pub stacked-alone : (table : List ℕ) (frames : List Counts) (at : ℕ) → Stacked table frames at [] → frames ≡ []
+pub stacked-alone : (table : List ℕ) (frames : List Remaining) (at : ℕ) → Stacked table frames at [] → frames ≡ []
 stacked-alone table [] at h = refl
 stacked-alone table (c ∷ cs) at h = absurd h
 
-pub stacked-open : (table : List ℕ) (frames : List Counts) (at : ℕ) (f : Frame) (fs : List Frame) → Stacked table frames at (f ∷ fs)
-    → (c : Counts) × (cs : List Counts) × (frames ≡ c ∷ cs)
+pub stacked-open : (table : List ℕ) (frames : List Remaining) (at : ℕ) (f : Frame) (fs : List Frame) → Stacked table frames at (f ∷ fs)
+    → (c : Remaining) × (cs : List Remaining) × (frames ≡ c ∷ cs)
 stacked-open table [] at f fs h = absurd h
 stacked-open table (c ∷ cs) at f fs h = (c, cs, refl)
 
 -- behind the last child pattern of a level nothing of the pattern is left
-pub behind-last : (table : List ℕ) (frames : List Counts) (at children : ℕ) (qs : Children) (fs : List Frame) → Stacked table frames at fs
+pub behind-last : (table : List ℕ) (frames : List Remaining) (at children : ℕ) (qs : Children) (fs : List Frame) → Stacked table frames at fs
     → children ≡ suc (arity qs) → alone frames && eqb children 1 ≡ true → childrenBytes table qs (codesLeft table fs) ≡ []
 unfolding encode
 behind-last table [] at children end [] h k e = refl
@@ -84,7 +85,7 @@ behind-last table [] at children (run v qs) [] h k e = absurd (omega (arith, eqb
 behind-last table [] at children qs (f ∷ fs) h k e = absurd h
 behind-last table (c ∷ cs) at children qs fs h k e = absurd (false≢true e)
 
-module _ (table pattern bytes : List ℕ) (p : Place) (frames : List Counts) where
+module _ (table pattern bytes : List ℕ) (p : Place) (frames : List Remaining) where
   -- past a child that holds of the elements w
   pub here-past : (cs qs : Children) (c : Tree) (w us : Terms) (fs : List Frame) (codes : ℕ) → childTrees cs ≡ more c (childTrees qs)
       → length (encode table c []) ≡ codes → Here table pattern bytes p frames cs (w ⧺ us) fs
@@ -122,7 +123,7 @@ module _ (table pattern bytes : List ℕ) (p : Place) (frames : List Counts) whe
   -- into a node
   pub here-open : (s r : ℕ) → getD table s 0 ≡ getD table r 0 → (ps qs : Children) (us ts : Terms) (fs : List Frame)
       → Here table pattern bytes p frames (plain (symbol s ps) qs) (node r us :: ts) fs
-      → Here table pattern bytes (entered p (arity ps) (count us) (width table s)) (counts (p .children - 1) (p .elements - 1) ∷ frames)
+      → Here table pattern bytes (entered p (arity ps) (count us) (width table s)) (remaining (p .children - 1) (p .elements - 1) ∷ frames)
       ps us (frame qs ts (p .node + size table (node r us)) ∷ fs)
   unfolding encode size
   here-open s r alike ps qs us ts fs h =
@@ -146,7 +147,7 @@ module _ (table pattern bytes : List ℕ) (p : Place) (frames : List Counts) whe
         few = omega (arith, h .few, some-width (isList table s), front pattern (p .at) s _ codes .0);
         around = (
           record {
-            counted = ap₂ counts k e;
+            counted = ap₂ remaining k e;
             at = n;
             patterns = limited-rest (h .patterns-limited);
             elements = limited-rest (h .elements-limited);
@@ -158,7 +159,7 @@ module _ (table pattern bytes : List ℕ) (p : Place) (frames : List Counts) whe
       }
 
   -- out of it
-  pub here-close : (c : Counts) (f : Frame) (fs : List Frame) → Here table pattern bytes p (c ∷ frames) end nil (f ∷ fs)
+  pub here-close : (c : Remaining) (f : Frame) (fs : List Frame) → Here table pattern bytes p (c ∷ frames) end nil (f ∷ fs)
       → Here table pattern bytes (reopened p c) frames (f .patterns) (f .elements) fs
   unfolding encode size
   here-close c f fs h =
@@ -168,15 +169,15 @@ module _ (table pattern bytes : List ℕ) (p : Place) (frames : List Counts) whe
         codes = h .codes;
         stands = h .stands;
         within = h .within;
-        children = ap (λ (x : Counts). x .children) (h .around .0 .counted);
-        elements = ap (λ (x : Counts). x .elements) (h .around .0 .counted);
+        children = ap (λ (x : Remaining). x .children) (h .around .0 .counted);
+        elements = ap (λ (x : Remaining). x .elements) (h .around .0 .counted);
         few = omega (arith, h .few);
         around = subst (λ (m : ℕ). Stacked table frames m fs) z (h .around .1);
         patterns-limited = h .around .0 .patterns;
         elements-limited = h .around .0 .elements;
       }
 
-  pub close-at : (c : Counts) (f : Frame) (fs : List Frame) → Here table pattern bytes p (c ∷ frames) end nil (f ∷ fs) → f .at ≡ p .node
+  pub close-at : (c : Remaining) (f : Frame) (fs : List Frame) → Here table pattern bytes p (c ∷ frames) end nil (f ∷ fs) → f .at ≡ p .node
   unfolding size
   close-at c f fs h = omega (arith, h .around .0 .at)
 

@@ -17,10 +17,11 @@ use Rattle.anti_pattern.specs.Search.{Env}
 use Rattle.anti_pattern.specs.Place.{assignedPart}
 use Rattle.anti_pattern.proofs.Machine.{Frame, Pending}
 use Rattle.anti_pattern.proofs.Meter.{Metered, met, missed, usedUp}
-use Rattle.search.specs.State.{Frame as Counts, frame as counts, PutBy, State}
+use Rattle.search.specs.State.{remaining, PutBy, State}
+use Rattle.search.specs.declared.place.Remaining.{Remaining}
 use Rattle.search.specs.Level.{Reply, reply, failedAt, spentAt}
 use Rattle.search.specs.declared.place.Place.{Place}
-use Rattle.search.specs.declared.Outcome.the-variants.{Found}
+use Rattle.search.specs.declared.Finding.the-variants.{Found}
 
 -- trees within the limits
 pub record Limited (table : List ℕ) (records : Bool) (ts : Trees) : Type 0 where
@@ -40,21 +41,21 @@ bytesLeft table [] bs = bs
 bytesLeft table (f ∷ fs) bs = termsBytes table (f .elements) (bytesLeft table fs bs)
 
 -- a frame around: its counts, and the place of its first element left
-pub record Around (table : List ℕ) (c : Counts) (node : ℕ) (f : Frame) : Type 0 where
-  pub counted : c ≡ counts (arity (f .patterns)) (count (f .elements))
+pub record Around (table : List ℕ) (c : Remaining) (node : ℕ) (f : Frame) : Type 0 where
+  pub counted : c ≡ remaining (arity (f .patterns)) (count (f .elements))
   pub at : f .at ≡ node
   pub patterns : Limited table false (childTrees (f .patterns))
   pub elements : Limited table true (termTrees (f .elements))
 
 -- the elements of each frame around stand behind those of the frame within it
-abbrev pub Stacked : List ℕ → List Counts → ℕ → List Frame → Type 0
+abbrev pub Stacked : List ℕ → List Remaining → ℕ → List Frame → Type 0
 Stacked table [] node [] = Unit {0}
 Stacked table [] node (f ∷ fs) = ⊥
 Stacked table (c ∷ cs) node [] = ⊥
 Stacked table (c ∷ cs) node (f ∷ fs) = Around table c node f × Stacked table cs (node + sizes table (f .elements)) fs
 
 -- the child patterns and elements of the innermost frame come next, then those of the frames around; each of these took a byte of the pattern or more
-pub record Here (table pattern bytes : List ℕ) (p : Place) (frames : List Counts) (qs : Children) (ts : Terms) (fs : List Frame) : Type 0 where
+pub record Here (table pattern bytes : List ℕ) (p : Place) (frames : List Remaining) (qs : Children) (ts : Terms) (fs : List Frame) : Type 0 where
   pub bytes-after : List ℕ
   pub codes : drop (p .at) pattern ≡ childrenBytes table qs (codesLeft table fs)
   pub stands : drop (p .node) bytes ≡ termsBytes table ts (bytesLeft table fs bytes-after)

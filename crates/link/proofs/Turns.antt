@@ -27,7 +27,8 @@ use Rattle.term.proofs.Extents.{entry-symbol, extent-tree}
 use Rattle.anti_pattern.proofs.Machine.{Frame}
 use Rattle.anti_pattern.specs.Search.{behind}
 use Rattle.steps.specs.Turn.{stepOf, variableIn, variableOf, standsOf, overStep, symbolStep, assignedStep, nameStep, complementStep, pairStep, plainStep, codeStep}
-use Rattle.search.specs.State.{Frame as Counts, alone, variableAt, stepAt}
+use Rattle.search.specs.State.{alone, variableAt, stepAt}
+use Rattle.search.specs.declared.place.Remaining.{Remaining}
 use Rattle.search.specs.declared.place.Place.{Place}
 use Rattle.steps.specs.declared.Step.the-variants.{Stops, Fails, Closes, Opens, Passes, Binds, PutsBy}
 use Rattle.steps.specs.declared.Stop.the-variants.{Failure, NoAllowance, NoPair}
@@ -96,7 +97,7 @@ some-bytes table bytes at (node s us) ts bs h = front bytes at s _ (h ∙ node-b
 
 -- at a place
 
-module _ (table classes pattern bytes : List ℕ) (p : Place) (frames : List Counts) (fs : List Frame) where
+module _ (table classes pattern bytes : List ℕ) (p : Place) (frames : List Remaining) (fs : List Frame) where
   -- a child pattern: a run name too
   module _ (cs qs : Children) (c : Tree) (ts : Terms) (z : childTrees cs ≡ more c (childTrees qs)) (h : Here table pattern bytes p frames cs ts fs) where
     some-children : 0 < p .children
@@ -170,7 +171,7 @@ module _ (table classes pattern bytes : List ℕ) (p : Place) (frames : List Cou
 
 -- the pairs
 
-module _ (table : List ℕ) (small : length table ≤ 200) (classes pattern bytes : List ℕ) (p : Place) (frames : List Counts) (fs : List Frame) where
+module _ (table : List ℕ) (small : length table ≤ 200) (classes pattern bytes : List ℕ) (p : Place) (frames : List Remaining) (fs : List Frame) where
   -- an unassigned name takes the node
   pub name-binds : (cs : Children) (t : Term) (ts : Terms) (v : ℕ) → Here table pattern bytes p frames cs (t :: ts) fs
       → nameStep table classes bytes (drop (p .node) bytes) v absent (p .elements) ≡ Binds v (sizes table (single t))

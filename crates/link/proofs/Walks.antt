@@ -33,7 +33,8 @@ use Rattle.anti_pattern.proofs.Machinery.{machine-end, machine-over, machine-sh
 use Rattle.anti_pattern.proofs.Metering.{Split, enough, over, split}
 use Rattle.anti_pattern.proofs.Steps.{pair-counts}
 use Rattle.steps.specs.Turn.{stepOf, variableOf, overStep, assignedStep, symbolStep, nameStep, runStep, pairStep, codeStep}
-use Rattle.search.specs.State.{Frame as Counts, frame as counts, PutBy, putBy, place, State, state, partInState, placePast, entered, closedBy, closed, alone, variableAt, stepAt, walkBy, Walked, walkOf, turns}
+use Rattle.search.specs.State.{remaining, PutBy, putBy, place, State, state, partInState, placePast, entered, closedBy, closed, alone, variableAt, stepAt, walkBy, Walked, walkOf, turns}
+use Rattle.search.specs.declared.place.Remaining.{Remaining}
 use Rattle.search.specs.Level.{levels}
 use Rattle.search.specs.declared.place.Place.{Place}
 use Rattle.steps.specs.declared.Step.{Step}
@@ -164,7 +165,7 @@ module _ (table : List ℕ) (small : length table ≤ 200) (classes : List ℕ) 
 
     opens : (children elements width : ℕ) → step ≡ Opens children elements width
         → searched (suc turns) s left
-        ≡ searched turns (state (s .parts) (counts (s .place .children - 1) (s .place .elements - 1) ∷ s .frames) (s .waiting)
+        ≡ searched turns (state (s .parts) (remaining (s .place .children - 1) (s .place .elements - 1) ∷ s .frames) (s .waiting)
         (entered (s .place) children elements width)) (left - 1)
     unfolding walkOf walkBy
     opens children elements width h = rw h
@@ -197,7 +198,7 @@ module _ (table : List ℕ) (small : length table ≤ 200) (classes : List ℕ) 
       rw (ne-eqb (suc elements) 0 (λ z. omega arith)) (k .failure-anywhere _ _ left)
 
   -- so past a complement that was its last
-  past-last : (turns : ℕ) (parts : List Part) (frames : List Counts) (waiting : List PutBy) (p : Place) (codes size left : ℕ)
+  past-last : (turns : ℕ) (parts : List Part) (frames : List Remaining) (waiting : List PutBy) (p : Place) (codes size left : ℕ)
       → searched turns (state parts frames waiting (placePast p 1 codes (cond (alone frames && eqb (p .children) 1) 0 size))) left
       ≡ searched turns (state parts frames waiting (placePast p 1 codes size)) left
   past-last turns parts (f ∷ frames) waiting p codes size left = refl
@@ -552,9 +553,9 @@ module _ (table : List ℕ) (small : length table ≤ 200) (classes : List ℕ) 
     on-close : (f : Frame) (fs : List Frame) → Ready (suc turns) s end nil (f ∷ fs) e ds → Agreed turns goes s (f ∷ fs) e ds left end nil
     on-close f fs h = let o = stacked-open table (s .frames) _ f fs (h .is .here .around) in go (o .0) (o .1) (o .2)
       where
-        go : (c : Counts) (cs : List Counts) → s .frames ≡ c ∷ cs → Agreed turns goes s (f ∷ fs) e ds left end nil
+        go : (c : Remaining) (cs : List Remaining) → s .frames ≡ c ∷ cs → Agreed turns goes s (f ∷ fs) e ds left end nil
         go c cs x =
-            let g = subst (λ (l : List Counts). Here table pattern bytes (s .place) l end nil (f ∷ fs)) x (h .is .here) in
+            let g = subst (λ (l : List Remaining). Here table pattern bytes (s .place) l end nil (f ∷ fs)) x (h .is .here) in
             let b : (y : ℕ → Tries) → machine table classes y (frame end nil (s .place .node) ∷ f ∷ fs) e ds
             ≡ machine table classes y (frame (f .patterns) (f .elements) (closedBy (c ∷ cs) s .place .node) ∷ fs) e ds =
             λ y. machine-end table classes y (s .place .node) (f ∷ fs) e ds
@@ -562,8 +563,8 @@ module _ (table : List ℕ) (small : length table ≤ 200) (classes : List ℕ) 
             carry
             (k .same (frame end nil (s .place .node) ∷ f ∷ fs) (frame (f .patterns) (f .elements) (closedBy (c ∷ cs) s .place .node) ∷ fs) e e ds ds b left)
             (closes turns s left (turn-end table classes pattern bytes _ (s .place) left (alone (s .frames)) (h .is .here .children) (h .is .here .elements)
-            ∙ ap (λ (l : List Counts). cond (alone l) (Stops NoPair) Closes) x)
-            ∙ ap (λ (l : List Counts). searched turns (closedBy l s) left) x)
+            ∙ ap (λ (l : List Remaining). cond (alone l) (Stops NoPair) Closes) x)
+            ∙ ap (λ (l : List Remaining). searched turns (closedBy l s) left) x)
             (goes (closedBy (c ∷ cs) s) (f .patterns) (f .elements) fs e ds left
             (record {
               is = record { here = here-close table pattern bytes (s .place) cs c f fs g; shown = h .is .shown; waiting = h .is .waiting };
@@ -578,7 +579,7 @@ module _ (table : List ℕ) (small : length table ≤ 200) (classes : List ℕ) 
     on-end h =
         carry (k .same (frame end nil (s .place .node) ∷ []) [] e e ds ds (λ y. machine-end table classes y (s .place .node) [] e ds) left)
         (stops turns s left NoPair (turn-end table classes pattern bytes _ (s .place) left (alone (s .frames)) (h .is .here .children) (h .is .here .elements)
-        ∙ ap (λ (l : List Counts). cond (alone l) (Stops NoPair) Closes) (stacked-alone table (s .frames) _ (h .is .here .around))))
+        ∙ ap (λ (l : List Remaining). cond (alone l) (Stops NoPair) Closes) (stacked-alone table (s .frames) _ (h .is .here .around))))
         (k .end-fits s e ds (h .is .shown) (h .is .waiting) (omega (arith, h .few))
         (k .known-same (frame end nil (s .place .node) ∷ []) [] e e ds ds (λ y. machine-end table classes y (s .place .node) [] e ds) (λ j m. m) (h .known)) left)
 

@@ -7,10 +7,10 @@ use Rattle.anti_pattern.specs.Next.{Following, follows, unknown}
 use Rattle.search.specs.Level.{Reply, searchOf}
 use Rattle.search.specs.Given.{Pass, ends}
 use Rattle.search.specs.Following.{nextPass}
-use Rattle.search.specs.declared.Outcome.{Outcome}
-use Rattle.search.specs.declared.Outcome.the-variants.{Found, Failed, Spent}
+use Rattle.search.specs.declared.Finding.{Finding}
+use Rattle.search.specs.declared.Finding.the-variants.{Found, Failed, Spent}
 
-abbrev pub repliedBy : Outcome → ℕ → ℕ → List Part → Matching
+abbrev pub repliedBy : Finding → ℕ → ℕ → List Part → Matching
 repliedBy Found allowance left parts = bound parts (allowance - left)
 repliedBy Failed allowance left parts = nothing (allowance - left)
 repliedBy Spent allowance left parts = spent allowance

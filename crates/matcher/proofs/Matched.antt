@@ -17,8 +17,8 @@ use Rattle.search.specs.Level.{Reply, endOf, searchOf}
 use Rattle.parts.specs.Shown.{answerWidth, shownParts}
 use Rattle.search.specs.Shown.{shownBy, shownIn}
 use Rattle.search.specs.declared.Ended.{Ended}
-use Rattle.search.specs.declared.Outcome.{Outcome}
-use Rattle.search.specs.declared.Outcome.the-variants.{Found, Failed, Spent}
+use Rattle.search.specs.declared.Finding.{Finding}
+use Rattle.search.specs.declared.Finding.the-variants.{Found, Failed, Spent}
 use Rattle.search.proofs.Lefts.{search-left}
 use Rattle.call.specs.Call.{written}
 use Rattle.link.specs.OnBytes.{repliedBy, outcomeOnBytes}
@@ -29,7 +29,7 @@ pub left-within : (table classes pattern bytes : List ℕ) (allowance : ℕ) (e 
 left-within table classes pattern bytes allowance e s = rw s (search-left table classes bytes pattern allowance)
 
 -- what is told does not depend on the parts
-pub told-parts : (o : Outcome) (allowance left : ℕ) (ps : List Part) → told (repliedBy o allowance left []) ≡ told (repliedBy o allowance left ps)
+pub told-parts : (o : Finding) (allowance left : ℕ) (ps : List Part) → told (repliedBy o allowance left []) ≡ told (repliedBy o allowance left ps)
 told-parts Found allowance left ps = refl
 told-parts Failed allowance left ps = refl
 told-parts Spent allowance left ps = refl
@@ -46,7 +46,7 @@ module _ (table classes pattern bytes before : List ℕ) (allowance : ℕ) where
 
   module _ (wide : answerWidth ≤ length before) where
     -- what the search shows is what its answer writes
-    pub shown-by : (o : Outcome) (left : ℕ) (parts : List Part) → shownBy o parts before ≡ written (boundParts (repliedBy o allowance left parts)) before
+    pub shown-by : (o : Finding) (left : ℕ) (parts : List Part) → shownBy o parts before ≡ written (boundParts (repliedBy o allowance left parts)) before
     unfolding shownBy shownParts
     shown-by Found left parts = rw (le-ltb (length before) answerWidth wide)
     shown-by Failed left parts = refl

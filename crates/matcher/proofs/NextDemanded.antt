@@ -31,7 +31,7 @@ use Rattle.search.specs.Given.{Pass, ends}
 use Rattle.parts.specs.Shown.{answerWidth}
 use Rattle.search.specs.declared.Followed.{Followed}
 use Rattle.search.specs.declared.Known.the-variants.{Ended as KnownEnds, Unknown as Strange}
-use Rattle.search.specs.declared.Outcome.{Outcome}
+use Rattle.search.specs.declared.Finding.{Finding}
 use Rattle.search.proofs.Lefts.{following-left}
 use Rattle.call.specs.Brought.{classesOf, languageOf, broughtAccepted}
 use Rattle.call.specs.Call.{written}
@@ -66,7 +66,7 @@ module _ (table classes pattern bytes given before : List ℕ) (allowance : ℕ)
   abbrev OnBytes : Answer → List ℕ → Type 0
   OnBytes a after = (a ≡ toldNext (followingOnBytes table classes pattern bytes given allowance)) × (after ≡ shownPass pass before)
 
-  ended-told : (p : Pass) (o : Outcome) (e : Followed) → e .known ≡ KnownEnds o → e ≡ followedOf allowance p
+  ended-told : (p : Pass) (o : Finding) (e : Followed) → e .known ≡ KnownEnds o → e ≡ followedOf allowance p
       → told (repliedBy o allowance (e .left) []) ≡ toldNext (repliedPass allowance p)
   ended-told (ends r) o e h s =
       let z : o ≡ r .outcome = cc in
@@ -77,7 +77,7 @@ module _ (table classes pattern bytes given before : List ℕ) (allowance : ℕ)
   unknown-told (ends r) e h s = let z : _≡_ {A = ℕ} 0 1 = cc in absurd (omega arith)
   unknown-told Pass.unknown e h s = refl
 
-  pub next-ended : (o : Outcome) (e : Followed) → e .known ≡ KnownEnds o → e ≡ followedOf allowance pass
+  pub next-ended : (o : Finding) (e : Followed) → e .known ≡ KnownEnds o → e ≡ followedOf allowance pass
       → (a : Answer) → a ≡ told (repliedBy o allowance (e .left) []) → (after : List ℕ) → after ≡ shownPass pass before → OnBytes a after
   unfolding followingOnBytes
   next-ended o e h s a i after f = (i ∙ ended-told pass o e h s, f)

@@ -2,8 +2,8 @@
 use answers::Answer;
 use answers::Refusal;
 use byte_answers::Read;
+use search::Finding;
 use search::Known;
-use search::Outcome;
 ghost use mathlib.Core.Path.{_≡_};
 ghost use mathlib.Core.List.{[]};
 ghost use mathlib.Core.Option.{none, some};
@@ -79,14 +79,14 @@ fn check_input(
 }
 
 // A search that ends with so much of the allowance left.
-fn ended(outcome: Outcome, allowance: u32, left: u32) -> Answer
+fn ended(outcome: Finding, allowance: u32, left: u32) -> Answer
     requires { ⌜ left ≤ allowance ⌝ }
     ensures { λ r. ⌜ r ≡ told (repliedBy outcome allowance left []) ⌝ }
 {
     match outcome {
-        Outcome::Found => Answer::Bound(allowance - left),
-        Outcome::Failed => Answer::None(allowance - left),
-        Outcome::Spent => Answer::Spent(allowance),
+        Finding::Found => Answer::Bound(allowance - left),
+        Finding::Failed => Answer::None(allowance - left),
+        Finding::Spent => Answer::Spent(allowance),
     }
 }
 

@@ -6,7 +6,7 @@ use Rattle.answers.specs.declared.Answer.{Answer}
 use Rattle.answers.specs.declared.RuleAnswer.{RuleAnswer}
 use Rattle.byte_answers.specs.Answers.{checkedNumber, checkedIndex, writingNumber, writingIndex, writingLength, placeNumber, placeOffset, placeLength, moveNumber, moveLength}
 use Rattle.byte_answers.specs.declared.Checked.{Checked}
-use Rattle.byte_answers.specs.declared.Place.{Place}
+use Rattle.byte_answers.specs.declared.EntryPlace.{EntryPlace}
 use Rattle.byte_answers.specs.declared.Writing.{Writing}
 use Rattle.byte_answers.specs.declared.Move.{Move}
 use Rattle.qonveshir.specs.declared.Outcome.{Outcome}
@@ -37,7 +37,7 @@ writingShown w = outcome (writingNumber w) (writingIndex w) (writingLength w)
 abbrev pub checkShown : Checked → Outcome
 checkShown c = outcome (checkedNumber c) (checkedIndex c) 0
 
-abbrev pub placeShown : Place → Part
+abbrev pub placeShown : EntryPlace → Part
 placeShown p = partShown (placeNumber p) (placeOffset p) (placeLength p)
 
 -- the count of a cost is the bound

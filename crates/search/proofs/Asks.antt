@@ -38,7 +38,7 @@ pub record Takes (codes bytes : ℕ) (p : Place) (left k n size : ℕ) : Type 0 
   pub node : p .node + size ≤ bytes
 
 -- the variable of this place, which is not assigned
-pub record Free (pattern : List ℕ) (had : Part) (at v : ℕ) : Type 0 where
+pub record Vacant (pattern : List ℕ) (had : Part) (at v : ℕ) : Type 0 where
   pub below : v < variables
   pub here : v ≡ variableAt pattern at
   pub absent : isAbsent had ≡ true
@@ -47,12 +47,12 @@ abbrev pub Asks : Bool → List ℕ → List ℕ → Part → Place → ℕ → 
 Asks outermost pattern bytes had p left (Stops Failure) = Unit {0}
 Asks outermost pattern bytes had p left (Stops NoAllowance) = Unit {0}
 Asks outermost pattern bytes had p left (Stops NoPair) = Unit {0}
-Asks outermost pattern bytes had p left (Stops (RunName v)) = Free pattern had (p .at) v × Ready (length pattern) v p
+Asks outermost pattern bytes had p left (Stops (RunName v)) = Vacant pattern had (p .at) v × Ready (length pattern) v p
 Asks outermost pattern bytes had p left Fails = 0 < left
 Asks outermost pattern bytes had p left Closes = outermost ≡ false
 Asks outermost pattern bytes had p left (Opens children elements width) = Takes (length pattern) (length bytes) p left 1 width width
 Asks outermost pattern bytes had p left (Passes elements size) = Takes (length pattern) (length bytes) p left elements 1 size
-Asks outermost pattern bytes had p left (Binds v size) = Free pattern had (p .at) v × Takes (length pattern) (length bytes) p left 1 1 size
+Asks outermost pattern bytes had p left (Binds v size) = Vacant pattern had (p .at) v × Takes (length pattern) (length bytes) p left 1 1 size
 Asks outermost pattern bytes had p left (PutsBy n size) = Takes (length pattern) (length bytes) p left 1 n size
 
 span-within : (table s : List ℕ) (counting : Bool) (n : ℕ) → spanOf table s counting n ≤ length s

@@ -17,7 +17,7 @@ use Rattle.search.specs.Inner.Replies.{runStart}
 use Rattle.search.specs.Inner.Halts.{Begun, Levels}
 use Rattle.search.specs.declared.place.Place.{Place}
 use Rattle.search.specs.declared.marks.Marks.{Marks}
-use Rattle.search.specs.declared.Outcome.{Outcome}
+use Rattle.search.specs.declared.Finding.{Finding}
 use Rattle.search.proofs.Held.{kept-part}
 use Rattle.search.proofs.Kept.{restored, past, past-holds, none-free}
 
@@ -26,7 +26,7 @@ place-is p q a b c d =
     let e : place (p .children) (p .elements) (p .at) (p .node) ≡ place (q .children) (q .elements) (q .at) (q .node) = rw (a, b, c, d) in e
 
 -- marks and place are handed in halves
-pub level-from : {i : Handed} {c : Change} {v : ℕ} {halts : Bool} {least : ℕ} {k m : Marks} {q p : Place} {o : Outcome} → k ≡ m → q ≡ p
+pub level-from : {i : Handed} {c : Change} {v : ℕ} {halts : Bool} {least : ℕ} {k m : Marks} {q p : Place} {o : Finding} → k ≡ m → q ≡ p
     → Levels i c v halts least k q o → Levels i c v halts least m p o
 level-from {i} {c} {v} {halts} {least} {k} {m} {q} {p} {o} e f r =
     subst (λ (x : Marks). Levels i c v halts least x p o) e (subst (λ (x : Place). Levels i c v halts least k x o) f r)

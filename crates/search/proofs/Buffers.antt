@@ -9,7 +9,8 @@ use lib.ListN.{length, getD, set, length-set}
 use lib.Seq.{getD-set-same, getD-set-other}
 use borrow.Author.Tests.{eq-eqb, ne-eqb}
 use Rattle.search.specs.Inner.Memory.{frameIn, outer, Linked, putByIn, Queued, Inside, Insides, Sized}
-use Rattle.search.specs.State.{Frame, PutBy, alone}
+use Rattle.search.specs.State.{PutBy, alone}
+use Rattle.search.specs.declared.place.Remaining.{Remaining}
 use Rattle.search.specs.declared.marks.Marks.{Marks}
 
 -- the same below n
@@ -45,7 +46,7 @@ module _ {parts stack : List ℕ} (z : Sized parts stack) (i x : ℕ) where
 
 -- Open nodes
 
-pub linked-kept : (stack stack′ : List ℕ) (n : ℕ) → Below n stack stack′ → (inner : ℕ) (fs : List Frame) → inner ≤ n
+pub linked-kept : (stack stack′ : List ℕ) (n : ℕ) → Below n stack stack′ → (inner : ℕ) (fs : List Remaining) → inner ≤ n
     → Linked stack inner fs → Linked stack′ inner fs
 linked-kept stack stack′ n k inner [] low h = h
 linked-kept stack stack′ n k inner (f ∷ fs) low h =
@@ -59,7 +60,7 @@ linked-kept stack stack′ n k inner (f ∷ fs) low h =
           (linked-kept stack stack′ n k (outer (getD stack (inner - 1) 0)) fs (omega arith) (h .3)),
     )
 
-pub linked-push : (stack : List ℕ) (inner n x : ℕ) (f : Frame) (fs : List Frame) → inner ≤ n → n < length stack → frameIn x ≡ f → outer x ≡ inner
+pub linked-push : (stack : List ℕ) (inner n x : ℕ) (f : Remaining) (fs : List Remaining) → inner ≤ n → n < length stack → frameIn x ≡ f → outer x ≡ inner
     → Linked stack inner fs → Linked (set stack n x) (n + 1) (f ∷ fs)
 linked-push stack inner n x f fs low room is out h =
     let z : n + 1 - 1 ≡ n = omega arith in
@@ -71,11 +72,11 @@ linked-push stack inner n x f fs low room is out h =
       subst (λ (i : ℕ). Linked (set stack n x) i fs) (sym o) (linked-kept stack (set stack n x) n (below-set stack n x) inner fs low h),
     )
 
-pub linked-alone : (stack : List ℕ) (inner : ℕ) (fs : List Frame) → Linked stack inner fs → eqb inner 0 ≡ alone fs
+pub linked-alone : (stack : List ℕ) (inner : ℕ) (fs : List Remaining) → Linked stack inner fs → eqb inner 0 ≡ alone fs
 linked-alone stack inner [] h = eq-eqb inner 0 h
 linked-alone stack inner (f ∷ fs) h = let p = h .0 in ne-eqb inner 0 (λ e. omega arith)
 
-pub linked-length : (stack : List ℕ) (inner : ℕ) (fs : List Frame) → Linked stack inner fs → length fs ≤ inner
+pub linked-length : (stack : List ℕ) (inner : ℕ) (fs : List Remaining) → Linked stack inner fs → length fs ≤ inner
 linked-length stack inner [] h = omega arith
 linked-length stack inner (f ∷ fs) h =
     let l = h .2 in

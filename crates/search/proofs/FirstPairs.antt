@@ -18,7 +18,8 @@ use Rattle.term.specs.Extent.{entryOf, extentOf}
 use Rattle.term.specs.declared.Code.{Code}
 use Rattle.term.specs.declared.Code.the-variants.{Symbol, Name}
 use Rattle.steps.specs.Turn.{stepOf, standsOf, symbolStep, assignedStep, nameStep, pairStep, codeStep, overStep}
-use Rattle.search.specs.State.{turns, Frame, PutBy, State, place, state, placePast, partInState, walked, stepAt, variableAt, walkBy, walkOf}
+use Rattle.search.specs.State.{turns, PutBy, State, place, state, placePast, partInState, walked, stepAt, variableAt, walkBy, walkOf}
+use Rattle.search.specs.declared.place.Remaining.{Remaining}
 use Rattle.search.specs.Level.{reply, failedAt, startOf, complementsOf, levelOf, endOf}
 use Rattle.search.specs.Inner.Replies.{turned, replyWith, oppositeOf, insideIn, EndsAtOnce, EndsInside, ComplementIs}
 use Rattle.parts.specs.Packed.{partIn, partOf}
@@ -30,8 +31,8 @@ use Rattle.steps.specs.declared.Step.{Step}
 use Rattle.steps.specs.declared.Step.the-variants.{Fails, Passes, Binds}
 use Rattle.steps.specs.declared.Stop.the-variants.{Failure, NoPair}
 use Rattle.search.specs.declared.Ended.{Ended}
-use Rattle.search.specs.declared.Outcome.{Outcome}
-use Rattle.search.specs.declared.Outcome.the-variants.{Found, Failed, Spent}
+use Rattle.search.specs.declared.Finding.{Finding}
+use Rattle.search.specs.declared.Finding.the-variants.{Found, Failed, Spent}
 use Rattle.steps.proofs.Turns.{symbol-leaf}
 use Rattle.search.proofs.Steps.{plain-pair, step-at}
 use Rattle.search.proofs.Walks.{walk-suc}
@@ -97,7 +98,7 @@ module _ (table classes pattern bytes : List ℕ) (node left b : ℕ) (some : le
         (walk-agrees shown (symbol-leaf table classes here there b (rw there-first s) e entry z)) refl);
   }
 
-end-with : (o : Outcome) (left : ℕ) (shown : List Part) → endOf (replyWith o left shown) ≡ record { outcome = o; left = left }
+end-with : (o : Finding) (left : ℕ) (shown : List Part) → endOf (replyWith o left shown) ≡ record { outcome = o; left = left }
 end-with Found left shown = refl
 end-with Failed left shown = refl
 end-with Spent left shown = refl
@@ -166,7 +167,7 @@ module _ (table classes pattern bytes : List ℕ) (assigned : ℕ) (parts : List
     }
 
 -- where any parts are right, those that the buffers hold are
-pub ends-inside : {table classes pattern bytes : List ℕ} {assigned : ℕ} {parts : List ℕ} {node left : ℕ} {o : Outcome}
+pub ends-inside : {table classes pattern bytes : List ℕ} {assigned : ℕ} {parts : List ℕ} {node left : ℕ} {o : Finding}
     → EndsAtOnce table classes pattern bytes node left o → EndsInside table classes pattern bytes assigned parts node left o
 ends-inside {left = left} {o = o} d = record {
   some = d .some;
@@ -177,11 +178,11 @@ ends-inside {left = left} {o = o} d = record {
 starts : (stack : List ℕ) (end node : ℕ) (s : State) → Linked stack 0 (s .frames) → Queued stack end end (s .waiting) → s .place ≡ place 1 1 0 node
     → s ≡ startOf (s .parts) node
 starts stack end node s l q e =
-    ap (λ (fs : List Frame). state (s .parts) fs (s .waiting) (s .place)) (none-open (s .frames) l)
+    ap (λ (fs : List Remaining). state (s .parts) fs (s .waiting) (s .place)) (none-open (s .frames) l)
     ∙ ap (λ (cs : List PutBy). state (s .parts) [] cs (s .place)) (none-put (s .waiting) q)
     ∙ ap (state (s .parts) [] []) e
   where
-    none-open : (fs : List Frame) → Linked stack 0 fs → fs ≡ []
+    none-open : (fs : List Remaining) → Linked stack 0 fs → fs ≡ []
     none-open [] h = refl
     none-open (f ∷ fs) h = absurd (omega (arith, h .0))
 
@@ -191,7 +192,7 @@ starts stack end node s l q e =
 
 -- a complement whose inside ends at its first pair
 pub complement-ends : (inp : Handed) (d : PutBy) (within : d .at + 1 + d .size ≤ length (inp .pattern)) (assigned left : ℕ) (parts stack : List ℕ) (m : Marks)
-    {o o′ : Outcome} → EndsInside (inp .table) (inp .classes) (taken (inp .pattern) d within) (inp .bytes) assigned parts (d .node) left o → o′ ≡ turned o
+    {o o′ : Finding} → EndsInside (inp .table) (inp .classes) (taken (inp .pattern) d within) (inp .bytes) assigned parts (d .node) left o → o′ ≡ turned o
     → ComplementIs inp (lentOf assigned left parts stack ⇒ lentOf assigned (left - 1) parts stack) d m o′
 complement-ends inp d within assigned left parts stack m {o} {o′} ends e = record {
   replies = λ s h n l.
@@ -202,5 +203,5 @@ complement-ends inp d within assigned left parts stack m {o} {o′} ends e = rec
   kept = kept-all;
 }
   where
-    ended : Outcome → ℕ → Ended
+    ended : Finding → ℕ → Ended
     ended x l = record { outcome = x; left = l }

@@ -28,9 +28,9 @@ use Rattle.search.specs.declared.place.Place.{Place}
 use Rattle.search.specs.declared.marks.Marks.{Marks}
 use Rattle.steps.specs.declared.Stop.{Stop}
 use Rattle.steps.specs.declared.Stop.the-variants.{Failure, NoAllowance, NoPair, RunName}
-use Rattle.search.specs.declared.walk.Reached.{Reached}
-use Rattle.search.specs.declared.Outcome.{Outcome}
-use Rattle.search.specs.declared.Outcome.the-variants.{Found, Failed, Spent}
+use Rattle.search.specs.declared.walk.Stopped.{Stopped}
+use Rattle.search.specs.declared.Finding.{Finding}
+use Rattle.search.specs.declared.Finding.the-variants.{Found, Failed, Spent}
 use Rattle.search.specs.declared.Known.{Known}
 use Rattle.search.specs.declared.Known.the-variants.{Ended, Unknown}
 use Rattle.parts.proofs.Masks.{bit-still}
@@ -115,7 +115,7 @@ module _ (inp : Handed) (was : Lent) (v n node : ℕ) (m : Marks) (p : Place) wh
     kept = kept-all;
   }
 
-pub further-level : {inp : Handed} {assigned left : ℕ} {parts stack : List ℕ} {got : Lent} {m : Marks} {p : Place} {o : Outcome} (v n node : ℕ)
+pub further-level : {inp : Handed} {assigned left : ℕ} {parts stack : List ℕ} {got : Lent} {m : Marks} {p : Place} {o : Finding} (v n node : ℕ)
     → n < p .elements → (left ≡ 0 → ⊥) → p .at < length (inp .pattern) → p .node ≤ node → (e : ℕ)
     → e ≡ extentOf (inp .table) (take (length (inp .bytes) - node) (drop node (inp .bytes)))
     → LevelIs inp (lentOf assigned (left - 1) parts stack ⇒ got) v (n + 1) (node + e - p .node) (p .elements) m (placePast p 0 1 0) o
@@ -144,7 +144,7 @@ unfolding givenOf afterGiven
 given-stops zero table classes pattern bytes g s left stop l end x h e f = absurd (omega arith)
 given-stops (suc n) table classes pattern bytes g s left stop l end x h e f = let z : suc n - 1 ≡ n = omega arith in rw e (f ∙ rw z)
 
-pub given-follows : {inp : Handed} (g : List ℕ) {was got : Lent} {m : Marks} {p : Place} {r : Reached} {parts stack : List ℕ} {x : Known}
+pub given-follows : {inp : Handed} (g : List ℕ) {was got : Lent} {m : Marks} {p : Place} {r : Stopped} {parts stack : List ℕ} {x : Known}
     → HeldAt inp was m p → Walks inp was m p parts stack r
     → GivenFollows inp g (lentOf (r .assigned) (r .left) parts stack ⇒ got) (r .stop) (r .marks) (r .place) x → GivenIs inp g (was ⇒ got) m p x
 given-follows g {was} {got} {r = r} {x = x} holding walks follows = record {
@@ -155,15 +155,15 @@ given-follows g {was} {got} {r = r} {x = x} holding walks follows = record {
   kept = moved-keeps (walks (holding .state) (holding .holds) .moved) (follows .kept);
 }
 
-resumed-by : (o : Outcome) (left assigned : ℕ) (parts : List ℕ)
+resumed-by : (o : Finding) (left assigned : ℕ) (parts : List ℕ)
     → passBy (resumedAs o) left assigned parts ≡ resumedBy (replyOf o left assigned parts .outcome) (replyOf o left assigned parts .left)
 resumed-by Found left assigned parts = refl
 resumed-by Failed left assigned parts = refl
 resumed-by Spent left assigned parts = refl
 
 -- with no pair left, what comes of a level from there
-pub given-ends : {inp : Handed} (g : List ℕ) {was got : Lent} {m : Marks} {p : Place} {r : Reached} {parts stack : List ℕ}
-    → HeldAt inp was m p → Walks inp was m p parts stack r → r .stop ≡ NoPair → (x : Known) {o : Outcome} → x ≡ resumedAs o
+pub given-ends : {inp : Handed} (g : List ℕ) {was got : Lent} {m : Marks} {p : Place} {r : Stopped} {parts stack : List ℕ}
+    → HeldAt inp was m p → Walks inp was m p parts stack r → r .stop ≡ NoPair → (x : Known) {o : Finding} → x ≡ resumedAs o
     → RestIs inp (lentOf (r .assigned) (r .left) parts stack ⇒ got) (r .marks) (r .place) o → GivenIs inp g (was ⇒ got) m p x
 given-ends {inp} g {was} {got} {r = r} holding walks e x {o} is rest = record {
   replies = λ s h k l.
@@ -310,7 +310,7 @@ module _ (inp : Handed) (g : List ℕ) (was : Lent) (v n node : ℕ) (m : Marks)
         kept = taken-kept;
       }
 
-      pub given-goes-on : resuming x ≡ true → {o : Outcome} {got′ : Lent}
+      pub given-goes-on : resuming x ≡ true → {o : Finding} {got′ : Lent}
           → FurtherIs inp (lentOf (was .assigned) (got .left) (got .parts) (got .stack) ⇒ got′) v n size m p o
           → GivenFollows inp g (was ⇒ got′) (RunName v) m p (Ended o)
       given-goes-on f r = record {
@@ -321,7 +321,7 @@ module _ (inp : Handed) (g : List ℕ) (was : Lent) (v n node : ℕ) (m : Marks)
       }
 
 -- pairs that fail
-pub given-unknown : {inp : Handed} (g : List ℕ) {was : Lent} {m : Marks} {p : Place} {r : Reached} {parts stack : List ℕ} (assigned left : ℕ)
+pub given-unknown : {inp : Handed} (g : List ℕ) {was : Lent} {m : Marks} {p : Place} {r : Stopped} {parts stack : List ℕ} (assigned left : ℕ)
     → HeldAt inp was m p → PairsAre inp was m p parts stack r → r .stop ≡ Failure
     → GivenIs inp g (was ⇒ lentOf assigned left parts stack) m p Unknown
 given-unknown {inp} g {was} {m} {stack = stack} assigned left holding pairs e =

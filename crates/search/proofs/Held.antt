@@ -17,7 +17,8 @@ use Rattle.term.specs.Limits.{longestRecord}
 use Rattle.term.specs.Code.{variables}
 use Rattle.parts.specs.Packed.{bit, packed, partIn}
 use Rattle.search.specs.Inner.Memory.{frameIn, outer, openedMarks, closedMarks, Linked, putByIn, putByMarks, LiesIn, Kept}
-use Rattle.search.specs.State.{Frame, PutBy, State, frame, putBy, state, placePast, entered, reopened}
+use Rattle.search.specs.State.{PutBy, State, remaining, putBy, state, placePast, entered, reopened}
+use Rattle.search.specs.declared.place.Remaining.{Remaining}
 use Rattle.search.specs.declared.marks.Marks.{Marks}
 use Rattle.search.specs.declared.place.Place.{Place}
 use Rattle.search.proofs.Asks.{Takes}
@@ -100,7 +101,7 @@ module _ {codes bytes assigned : ℕ} {parts stack : List ℕ} {m : Marks} {p : 
 
 -- Steps
 
-module _ (codes bytes assigned : ℕ) (parts stack : List ℕ) (m : Marks) (p : Place) (vs : List Part) (fs : List Frame) (cs : List PutBy)
+module _ (codes bytes assigned : ℕ) (parts stack : List ℕ) (m : Marks) (p : Place) (vs : List Part) (fs : List Remaining) (cs : List PutBy)
     (h : LiesIn codes bytes assigned parts stack m p (state vs fs cs p)) where
   -- a variable whose part is the absent mark is not assigned
   pub unassigned : (v : ℕ) → v < variables → isAbsent (partIn assigned parts v) ≡ true → bit assigned v ≡ false
@@ -110,7 +111,7 @@ module _ (codes bytes assigned : ℕ) (parts stack : List ℕ) (m : Marks) (p : 
       by true i = sym e ∙ ap isAbsent (sym (h .shown v low)) ∙ h .present v low i
       by false i = refl
 
-  pub holds-closed : (gs : List Frame) → Linked stack (outer (getD stack (m .inner - 1) 0)) gs → outer (getD stack (m .inner - 1) 0) < m .inner
+  pub holds-closed : (gs : List Remaining) → Linked stack (outer (getD stack (m .inner - 1) 0)) gs → outer (getD stack (m .inner - 1) 0) < m .inner
       → LiesIn codes bytes assigned parts stack (closedMarks m (getD stack (m .inner - 1) 0))
       (reopened p (frameIn (getD stack (m .inner - 1) 0)))
       (state vs gs cs (reopened p (frameIn (getD stack (m .inner - 1) 0))))
@@ -130,9 +131,9 @@ module _ (codes bytes assigned : ℕ) (parts stack : List ℕ) (m : Marks) (p : 
   }
 
   pub holds-opened : (left children elements width x : ℕ) → Takes codes bytes p left 1 width width
-      → (frameIn x ≡ frame (p .children - 1) (p .elements - 1)) × (outer x ≡ m .inner)
+      → (frameIn x ≡ remaining (p .children - 1) (p .elements - 1)) × (outer x ≡ m .inner)
       → LiesIn codes bytes assigned parts (set stack (m .frames) x) (openedMarks m) (entered p children elements width)
-      (state vs (frame (p .children - 1) (p .elements - 1) ∷ fs) cs (entered p children elements width))
+      (state vs (remaining (p .children - 1) (p .elements - 1) ∷ fs) cs (entered p children elements width))
   holds-opened left children elements width x t is =
       let z = h .sized .of-stack in
       let room = h .room in
@@ -144,7 +145,7 @@ module _ (codes bytes assigned : ℕ) (parts stack : List ℕ) (m : Marks) (p : 
         all-variables = h .all-variables;
         shown = h .shown;
         present = h .present;
-        linked = linked-push stack (m .inner) (m .frames) x (frame (p .children - 1) (p .elements - 1)) fs (h .innermost) (omega arith) (is .0)
+        linked = linked-push stack (m .inner) (m .frames) x (remaining (p .children - 1) (p .elements - 1)) fs (h .innermost) (omega arith) (is .0)
             (is .1)
             (h .linked);
         innermost = le-refl (m .frames + 1);

@@ -18,7 +18,7 @@ use Rattle.search.specs.State.{PutBy, State, place, state, placePast}
 use Rattle.search.specs.Level.{startOf}
 use Rattle.parts.specs.Packed.{bit, packed, unpacked, partIn, partsIn}
 use Rattle.search.specs.Inner.Memory.{marks, Inside, Sized, LiesIn, Kept}
-use Rattle.search.specs.Inner.Replies.{given, inside, Free}
+use Rattle.search.specs.Inner.Replies.{given, inside, Assignable}
 use Rattle.search.specs.declared.place.Place.{Place}
 use Rattle.search.specs.declared.marks.Marks.{Marks}
 use Rattle.parts.proofs.Shown.{parts-shown}
@@ -94,7 +94,7 @@ past-holds {p = p} l h = rw (h .place) (holds-moved h (placePast p 0 1 0) (omega
 
 -- One more variable is assigned
 
-pub none-free : {assigned : ℕ} → Free assigned variables
+pub none-free : {assigned : ℕ} → Assignable assigned variables
 none-free = record { below = omega arith; free = λ l. absurd (omega (arith, l)) }
 
 -- v is given n elements of so many bytes

@@ -20,8 +20,8 @@ use Rattle.steps.specs.declared.Step.{Step}
 use Rattle.steps.specs.declared.Step.the-variants.{Stops, Fails, Closes, Opens, Passes, Binds, PutsBy}
 use Rattle.steps.specs.declared.Stop.{Stop}
 use Rattle.steps.specs.declared.Stop.the-variants.{Failure, NoAllowance, NoPair, RunName}
-use Rattle.search.specs.declared.Outcome.{Outcome}
-use Rattle.search.specs.declared.Outcome.the-variants.{Found, Failed, Spent}
+use Rattle.search.specs.declared.Finding.{Finding}
+use Rattle.search.specs.declared.Finding.the-variants.{Found, Failed, Spent}
 
 -- of two replies, and of one after the other
 
@@ -32,7 +32,7 @@ either false x y h k = k
 or-left : (r : Reply) (next : ℕ → Reply) {n : ℕ} → ((l : ℕ) → next l .left ≤ l) → r .left ≤ n → orElse r next .left ≤ n
 or-left r next h k = either (failed (r .outcome)) (next (r .left)) r (le-trans (h (r .left)) k) k
 
-refuted-left : (o : Outcome) (left : ℕ) (next : ℕ → Reply) {n : ℕ} → ((l : ℕ) → next l .left ≤ l) → left ≤ n → refuted o left next .left ≤ n
+refuted-left : (o : Finding) (left : ℕ) (next : ℕ → Reply) {n : ℕ} → ((l : ℕ) → next l .left ≤ l) → left ≤ n → refuted o left next .left ≤ n
 refuted-left Found left next h k = k
 refuted-left Failed left next h k = le-trans (h left) k
 refuted-left Spent left next h k = k
@@ -50,7 +50,7 @@ leaves-more : {m n : ℕ} {p : Pass} → Leaves m p → m ≤ n → Leaves n p
 leaves-more (leaves h) k = leaves (le-trans h k)
 leaves-more unknown-leaves k = unknown-leaves
 
-resumed-leaves : {n : ℕ} (o : Outcome) (left : ℕ) → left ≤ n → Leaves n (resumedBy o left)
+resumed-leaves : {n : ℕ} (o : Finding) (left : ℕ) → left ≤ n → Leaves n (resumedBy o left)
 resumed-leaves Found left h = leaves h
 resumed-leaves Failed left h = unknown-leaves
 resumed-leaves Spent left h = leaves h

@@ -22,7 +22,7 @@ use Rattle.parts.specs.Packed.{bit, packed, partPlaces, partsIn}
 use Rattle.search.specs.Inner.Memory.{marks, putByIn, Queued, Insides, Sized, Holding, Kept}
 use Rattle.search.specs.Inner.Lent.{Handed, Lent, Change, inputOf, lentOf, _⇒_, Held, Keeps, levelsIn, levelIn}
 use Rattle.search.specs.Inner.Bounds.{Moved}
-use Rattle.search.specs.Inner.Replies.{failure, found, turned, replyOf, replyIn, endIn, oppositeOf, insideIn, given, triesOf, runStart, inside, Free, Resting, Testable, LevelIs, RestIs, FollowIs, ComplementIs, ComplementsAre}
+use Rattle.search.specs.Inner.Replies.{failure, found, turned, replyOf, replyIn, endIn, oppositeOf, insideIn, given, triesOf, runStart, inside, Assignable, Resting, Testable, LevelIs, RestIs, FollowIs, ComplementIs, ComplementsAre}
 use Rattle.search.specs.Inner.Onward.{Onward}
 use Rattle.search.specs.Inner.Skips.{behindIn, Skips, Lengthened, Lengthens}
 use Rattle.search.specs.Inner.Halts.{Reports, Told, Halts, Halting, HaltsOr, RestBy, Begun, Levels}
@@ -30,12 +30,12 @@ use Rattle.search.specs.declared.place.Place.{Place}
 use Rattle.search.specs.declared.marks.Marks.{Marks}
 use Rattle.steps.specs.declared.Stop.{Stop}
 use Rattle.steps.specs.declared.Stop.the-variants.{Failure, NoAllowance, NoPair, RunName}
-use Rattle.search.specs.declared.walk.Reached.{Reached}
+use Rattle.search.specs.declared.walk.Stopped.{Stopped}
 use Rattle.search.specs.declared.skip.Lengthening.{Lengthening}
 use Rattle.search.specs.declared.skip.Skipped.{Skipped}
 use Rattle.search.specs.declared.Ended.{Ended}
-use Rattle.search.specs.declared.Outcome.{Outcome}
-use Rattle.search.specs.declared.Outcome.the-variants.{Found, Failed, Spent}
+use Rattle.search.specs.declared.Finding.{Finding}
+use Rattle.search.specs.declared.Finding.the-variants.{Found, Failed, Spent}
 use Rattle.parts.proofs.Masks.{bit-new, bit-still, packed-longer, packed-below}
 use Rattle.search.proofs.Held.{kept-part}
 use Rattle.search.proofs.Kept.{kept-all, kept-then, kept-back, restored, past, past-holds, given-holds, start-holds, first-holds, state-shown}
@@ -47,19 +47,19 @@ use Rattle.search.proofs.Begins.{place-is, level-from, run-here, none-b
 -- Replies
 
 module _ (x : Lent) where
-  reply-outcome : (o : Outcome) → replyIn o x .outcome ≡ o
+  reply-outcome : (o : Finding) → replyIn o x .outcome ≡ o
   reply-outcome Found = refl
   reply-outcome Failed = refl
   reply-outcome Spent = refl
 
-  reply-left : (o : Outcome) → replyIn o x .left ≡ x .left
+  reply-left : (o : Finding) → replyIn o x .left ≡ x .left
   reply-left Found = refl
   reply-left Failed = refl
   reply-left Spent = refl
 
 -- The rest of a level, by what its pairs come to
 
-pub rest-follows : {inp : Handed} {was got : Lent} {m : Marks} {p : Place} {r : Reached} {parts stack : List ℕ} {o : Outcome} {halts : Bool}
+pub rest-follows : {inp : Handed} {was got : Lent} {m : Marks} {p : Place} {r : Stopped} {parts stack : List ℕ} {o : Finding} {halts : Bool}
     → HeldAt inp was m p → Onward halts inp was m p parts stack r
     → FollowIs inp (lentOf (r .assigned) (r .left) parts stack ⇒ got) (r .stop) (r .marks) (r .place) o → RestIs inp (was ⇒ got) m p o
 rest-follows holding onward follows = record {
@@ -127,7 +127,7 @@ module _ (inp : Handed) (was : Lent) (v first behind most : ℕ) (m : Marks) (st
     -- the variable is assigned
     pub record Marked (seen : ℕ) : Type 0 where
       pub holding : HeldAt inp was m start
-      pub free : Free (was .assigned) v
+      pub free : Assignable (was .assigned) v
       pub short : length (inp .bytes) ≤ longestRecord
       pub byte : n < 256
       pub is-seen : seen ≡ bitOr (was .assigned) (2 ^ v)
@@ -159,7 +159,7 @@ module _ (inp : Handed) (was : Lent) (v first behind most : ℕ) (m : Marks) (st
       }
 
       -- what the rest of the level makes of it
-      module _ {o : Outcome} {got : Lent} (rest : RestIs inp (lentOf seen left parts stack ⇒ got) m p o) where
+      module _ {o : Finding} {got : Lent} (rest : RestIs inp (lentOf seen left parts stack ⇒ got) m p o) where
         abbrev answer : Reply
         answer = replyIn o got
 
@@ -169,7 +169,7 @@ module _ (inp : Handed) (was : Lent) (v first behind most : ℕ) (m : Marks) (st
         turn-kept : Keeps was m got
         turn-kept = kept-again (λ i b. rw (q .is-seen) (bit-still (was .assigned) v i b)) (t .kept) (rest .kept)
 
-        abbrev replied : (o′ : Outcome) → Type 0
+        abbrev replied : (o′ : Finding) → Type 0
         replied o′ = LevelIs inp (was ⇒ got) v first behind most m start o′
 
         fails : failed o ≡ true → failed (answer .outcome) ≡ true
@@ -295,7 +295,7 @@ module _ (inp : Handed) (was : Lent) (v first behind most : ℕ) (m : Marks) (st
           }
 
       -- and where the level halts
-      module _ {o : Outcome} {got : Lent} where
+      module _ {o : Finding} {got : Lent} where
         try-halt : v ≡ variables → first ≡ 0 → most ≡ 0 → behind ≡ 0
             → Halts inp (lentOf seen left parts stack ⇒ got) m p o → Halts inp (was ⇒ got) m start o
         try-halt is-v is-first is-most none r = record {
@@ -324,9 +324,9 @@ module _ (inp : Handed) (was : Lent) (v first behind most : ℕ) (m : Marks) (st
             begins : (s : State) → Starts s → Moved inp was m start (lentOf seen left parts stack) m p (given s v n size)
             begins s h = moved-to (moved-none h) (λ i b. rw (q .is-seen) (bit-still (was .assigned) v i b)) (t .kept) (omega arith, omega arith, refl) (omega (arith, t .at)) (marked-holds s h)
 
-      module _ {halts : Bool} {o : Outcome} {got : Lent} (a : Halting halts v first most behind)
+      module _ {halts : Bool} {o : Finding} {got : Lent} (a : Halting halts v first most behind)
           (rest : RestBy halts inp (lentOf seen left parts stack ⇒ got) m p o) where
-        abbrev repliedBy : Lent → Outcome → Type 0
+        abbrev repliedBy : Lent → Finding → Type 0
         repliedBy got′ o′ = HaltsOr halts inp (was ⇒ got′) m start o′ (LevelIs inp (was ⇒ got′) v first behind most m start o′)
 
         halt-by : halts ≡ true → Halts inp (was ⇒ got) m start o
@@ -342,7 +342,7 @@ module _ (inp : Handed) (was : Lent) (v first behind most : ℕ) (m : Marks) (st
         try-spent-by f i z = record { halted = λ h. absurd (omega (arith, a .none h .2, i)); going = λ h. try-spent (rest .going h) f i z }
 
         -- none is left that can hold
-        pub over-by : n < most → {o′ : Outcome} {got′ : Lent} → LevelIs inp (was ⇒ got′) v first behind most m start o′ → repliedBy got′ o′
+        pub over-by : n < most → {o′ : Finding} {got′ : Lent} → LevelIs inp (was ⇒ got′) v first behind most m start o′ → repliedBy got′ o′
         over-by i r = record { halted = λ h. absurd (omega (arith, a .none h .2, i)); going = λ h. r }
 
         -- another length is tried only where it does not halt
@@ -389,8 +389,8 @@ module _ (inp : Handed) (was : Lent) (v : ℕ) (halts : Bool) (least : ℕ) (m :
     pub turn-holding : Begins → HeldAt inp (lentOf seen left parts stack) m p
     turn-holding b = marked-holding _ _ _ _ _ _ _ _ (turns .turn b .trying) (marked b)
 
-    module _ {o : Outcome} {got : Lent} (rest : RestBy halts inp (lentOf seen left parts stack ⇒ got) m p o) where
-      abbrev Replied : Outcome → Type 0
+    module _ {o : Finding} {got : Lent} (rest : RestBy halts inp (lentOf seen left parts stack ⇒ got) m p o) where
+      abbrev Replied : Finding → Type 0
       Replied o′ = Levels inp (was ⇒ got) v halts least m p₀ o′
 
       pub turn-hit : failed o ≡ false → Replied o
@@ -450,7 +450,7 @@ module _ (inp : Handed) (was : Lent) (v : ℕ) (halts : Bool) (least : ℕ) (m :
 
 -- What a level that starts does
 
-module _ {inp : Handed} {was got : Lent} {m : Marks} {p : Place} {o : Outcome} (holding : HeldAt inp was m p) (small : p .elements < 256) where
+module _ {inp : Handed} {was got : Lent} {m : Marks} {p : Place} {o : Finding} (holding : HeldAt inp was m p) (small : p .elements < 256) where
   pub rest-starts : Levels inp (was ⇒ got) variables false 255 m p o → RestIs inp (was ⇒ got) m p o
   unfolding triesOf none-begun
   rest-starts r =
@@ -473,7 +473,7 @@ module _ {inp : Handed} {was got : Lent} {m : Marks} {p : Place} {o : Outcome} (
 pub level-run : {inp : Handed} {assigned left : ℕ} {parts stack : List ℕ} {got : Lent} {m : Marks} {p : Place} (v w n size x : ℕ) → w ≡ v
     → HeldAt inp (lentOf assigned left parts stack) m p → p .at < length (inp .pattern) → v < variables → bit assigned v ≡ false
     → n ≤ p .elements → p .elements < 256 → p .node + size ≤ length (inp .bytes) → x ≡ packed (boundPart (p .node) size n)
-    → {o : Outcome} (q : Place) → q ≡ placePast p n 1 size
+    → {o : Finding} (q : Place) → q ≡ placePast p n 1 size
     → Levels inp (lentOf assigned left (set parts w x) stack ⇒ got) w false 0 m q o
     → LevelIs inp (lentOf assigned left parts stack ⇒ got) v n size (p .elements) m (placePast p 0 1 0) o
 unfolding run-begun
@@ -509,7 +509,7 @@ module _ {inp : Handed} {assigned left : ℕ} {parts stack : List ℕ} {m : Mark
   every : (s : State) → Held inp (lentOf assigned left parts stack) m q s → most - 0 ≡ s .place .elements - 0
   every s h = omega (arith, all, ap (λ (y : Place). y .elements) (h .place))
 
-  pub level-skipped : (size : ℕ) → q .node + size ≡ r .node → {o : Outcome} {got : Lent}
+  pub level-skipped : (size : ℕ) → q .node + size ≡ r .node → {o : Finding} {got : Lent}
       → LevelIs inp (lentOf assigned (left - r .count) parts stack ⇒ got) v (r .lengths) size most m q o
       → LevelIs inp (lentOf assigned left parts stack ⇒ got) v 0 0 most m q o
   level-skipped size is-size x = record {
@@ -547,11 +547,11 @@ module _ (inp : Handed) (was : Lent) (m : Marks) (p : Place) where
     kept = kept-all;
   }
 
-  pub follow-tests : {got : Lent} {o : Outcome} (stop : Stop) → stop ≡ NoPair → ComplementsAre inp (was ⇒ got) m o → FollowIs inp (was ⇒ got) stop m p o
+  pub follow-tests : {got : Lent} {o : Finding} (stop : Stop) → stop ≡ NoPair → ComplementsAre inp (was ⇒ got) m o → FollowIs inp (was ⇒ got) stop m p o
   follow-tests stop e c = rw e (record { replies = λ s h n l. c p .replies s h n (omega (arith, l)); kept = c p .kept })
 
 -- the level past the run name
-pub follow-tries : {inp : Handed} {assigned left : ℕ} {parts stack : List ℕ} {got : Lent} {m : Marks} {p : Place} {o : Outcome} (v : ℕ) → (left ≡ 0 → ⊥)
+pub follow-tries : {inp : Handed} {assigned left : ℕ} {parts stack : List ℕ} {got : Lent} {m : Marks} {p : Place} {o : Finding} (v : ℕ) → (left ≡ 0 → ⊥)
     → p .at < length (inp .pattern)
     → LevelIs inp (lentOf assigned (left - 1) parts stack ⇒ got) v 0 0 (p .elements) m (placePast p 0 1 0) o
     → FollowIs inp (lentOf assigned left parts stack ⇒ got) (RunName v) m p o
@@ -571,7 +571,7 @@ failure-is NoAllowance e = absurd (true≢false (sym e))
 failure-is NoPair e = absurd (true≢false (sym e))
 failure-is (RunName v) e = absurd (true≢false (sym e))
 
-pub rest-fails : {inp : Handed} {was : Lent} {m : Marks} {p : Place} {r : Reached} {parts stack : List ℕ} {halts : Bool}
+pub rest-fails : {inp : Handed} {was : Lent} {m : Marks} {p : Place} {r : Stopped} {parts stack : List ℕ} {halts : Bool}
     → HeldAt inp was m p → Onward halts inp was m p parts stack r → failure (r .stop) ≡ true
     → RestIs inp (was ⇒ lentOf (was .assigned) (r .left) parts stack) m p Failed
 rest-fails {inp} {r = r} {parts = parts} {stack = stack} holding onward e =
@@ -582,7 +582,7 @@ rest-fails {inp} {r = r} {parts = parts} {stack = stack} holding onward e =
 
 -- a level that halts, or does not
 
-module _ (halts : Bool) {inp : Handed} {was : Lent} {m : Marks} {p : Place} {r : Reached} {parts stack : List ℕ}
+module _ (halts : Bool) {inp : Handed} {was : Lent} {m : Marks} {p : Place} {r : Stopped} {parts stack : List ℕ}
     (onward : Onward halts inp was m p parts stack r) where
   pub rest-fails-by : HeldAt inp was m p → failure (r .stop) ≡ true → RestBy halts inp (was ⇒ lentOf (was .assigned) (r .left) parts stack) m p Failed
   rest-fails-by holding e = record {
@@ -596,7 +596,7 @@ module _ (halts : Bool) {inp : Handed} {was : Lent} {m : Marks} {p : Place} {r :
     going = λ h. rest-fails holding onward e;
   }
 
-  pub rest-reports : halts ≡ true → failure (r .stop) ≡ false → {o : Outcome} {parts₂ : List ℕ} → Reports parts (r .stop) (r .marks) (r .place) o parts₂
+  pub rest-reports : halts ≡ true → failure (r .stop) ≡ false → {o : Finding} {parts₂ : List ℕ} → Reports parts (r .stop) (r .marks) (r .place) o parts₂
       → RestBy halts inp (was ⇒ lentOf (r .assigned) (r .left) parts₂ stack) m p o
   rest-reports is-true e {o} {parts₂} reports = record {
     halted = λ h. record {
@@ -609,7 +609,7 @@ module _ (halts : Bool) {inp : Handed} {was : Lent} {m : Marks} {p : Place} {r :
     going = λ h. absurd (true≢false (sym is-true ∙ h));
   }
 
-  pub rest-follows-by : halts ≡ false → HeldAt inp was m p → {o : Outcome} {got : Lent}
+  pub rest-follows-by : halts ≡ false → HeldAt inp was m p → {o : Finding} {got : Lent}
       → FollowIs inp (lentOf (r .assigned) (r .left) parts stack ⇒ got) (r .stop) (r .marks) (r .place) o → RestBy halts inp (was ⇒ got) m p o
   rest-follows-by is-false holding follows = record {
     halted = λ h. absurd (true≢false (sym h ∙ is-false));
@@ -638,7 +638,7 @@ module _ (pattern : List ℕ) (c : PutBy) (within : c .at + 1 + c .size ≤ leng
 
 -- how it ends, where its search does
 pub complement-tests : (inp : Handed) (d : PutBy) (within : d .at + 1 + d .size ≤ length (inp .pattern)) (m : Marks) {c : Change} {k : Marks} {p : Place}
-    {o o′ : Outcome} → length (inp .pattern) ≤ longestPattern → k ≡ inside m → p ≡ place 1 1 0 (d .node)
+    {o o′ : Finding} → length (inp .pattern) ≤ longestPattern → k ≡ inside m → p ≡ place 1 1 0 (d .node)
     → RestIs (inputOf (inp .table) (inp .classes) (taken (inp .pattern) d within) (inp .bytes)) c k p o → o′ ≡ turned o → ComplementIs inp c d m o′
 complement-tests inp d within m {c} {k} {p} {o} {o′} short is-k is-p r e = record {
   replies = λ s h n l.
@@ -654,25 +654,25 @@ complement-tests inp d within m {c} {k} {p} {o} {o′} short is-k is-p r e = rec
         (subst (λ (x : Marks). RestIs (inputOf (inp .table) (inp .classes) (taken (inp .pattern) d within) (inp .bytes)) c x (place 1 1 0 (d .node)) o) is-k
         (subst (λ (x : Place). RestIs (inputOf (inp .table) (inp .classes) (taken (inp .pattern) d within) (inp .bytes)) c k x o) is-p r))
 
-    ended : (x : Outcome) → oppositeOf (replyIn x (c .after)) ≡ endIn (turned x) (c .after)
+    ended : (x : Finding) → oppositeOf (replyIn x (c .after)) ≡ endIn (turned x) (c .after)
     ended Found = refl
     ended Failed = refl
     ended Spent = refl
 
 module _ (assigned left : ℕ) (parts : List ℕ) (next : ℕ → Reply) where
-  refuted-stop : (a o : Outcome) (l : ℕ) → o ≡ turned a → left ≡ l → found o ≡ false → replyOf o left assigned parts ≡ refuted a l next
+  refuted-stop : (a o : Finding) (l : ℕ) → o ≡ turned a → left ≡ l → found o ≡ false → replyOf o left assigned parts ≡ refuted a l next
   refuted-stop Found o l e z f = rw (e, z)
   refuted-stop Failed o l e z f = absurd (true≢false (sym (ap found e) ∙ f))
   refuted-stop Spent o l e z f = rw (e, z)
 
-  refuted-on : (a o : Outcome) (l : ℕ) → o ≡ turned a → left ≡ l → found o ≡ true → refuted a l next ≡ next left
+  refuted-on : (a o : Finding) (l : ℕ) → o ≡ turned a → left ≡ l → found o ≡ true → refuted a l next ≡ next left
   refuted-on Found o l e z f = absurd (true≢false (sym f ∙ ap found e))
   refuted-on Failed o l e z f = rw z
   refuted-on Spent o l e z f = absurd (true≢false (sym f ∙ ap found e))
 
 -- The loop over complements
 
-abbrev ended : Outcome → ℕ → Ended
+abbrev ended : Finding → ℕ → Ended
 ended o left = record { outcome = o; left = left }
 
 none : (lv : List ℕ → State → ℕ → Reply) (pattern : List ℕ) (shown : List Part) (stack : List ℕ) (i end left : ℕ) → end ≤ i → (cs : List PutBy) → Queued stack i end cs
@@ -681,7 +681,7 @@ unfolding complementsOf
 none lv pattern shown stack i end left h [] q = refl
 none lv pattern shown stack i end left h (c ∷ cs) q = absurd (omega (arith, q .0))
 
-module _ (lv : List ℕ → State → ℕ → Reply) (pattern : List ℕ) (shown : List Part) (c : PutBy) (cs : List PutBy) (left left′ : ℕ) (o : Outcome)
+module _ (lv : List ℕ → State → ℕ → Reply) (pattern : List ℕ) (shown : List Part) (c : PutBy) (cs : List PutBy) (left left′ : ℕ) (o : Finding)
     (is : ended o left′ ≡ oppositeOf (insideOf lv pattern shown c left)) where
   complements-stop : (assigned : ℕ) (parts : List ℕ) → found o ≡ false → replyOf o left′ assigned parts ≡ complementsOf lv pattern shown (c ∷ cs) left
   unfolding complementsOf
@@ -746,7 +746,7 @@ module _ (inp : Handed) (was : Lent) (m : Marks) where
           let q = t .remains p s (r .holding .holds) in
           next p s (r .holding .holds) (q .rest) (q .queued) (q .insides)
 
-      module _ {o : Outcome} {got : Lent}
+      module _ {o : Finding} {got : Lent}
           (c : ComplementIs inp (lentOf seen left parts stack ⇒ got) (putByIn (getD stack (255 - i) 0)) m o) where
         test-kept : Keeps was m got
         test-kept = kept-then {m₁ = inside m} (λ v b. rw (t .same-mask) b) (le-refl (m .frames)) (le-refl (m .waiting)) (t .kept) (c .kept)
@@ -802,7 +802,7 @@ module _ (table classes pattern bytes : List ℕ) (allowance : ℕ) where
   unfolding searchOf
   search-over h = rw h
 
-  pub search-within : {parts stack : List ℕ} {p : Place} {o : Outcome} {got : Lent}
+  pub search-within : {parts stack : List ℕ} {p : Place} {o : Finding} {got : Lent}
       → length pattern ≤ longestPattern → length bytes ≤ longestRecord → Sized parts stack → p ≡ place 1 1 0 0
       → RestIs (inputOf table classes pattern bytes) (lentOf 0 allowance parts stack ⇒ got) (marks 0 0 0 0) p o
       → replyIn o got ≡ searchOf table classes pattern bytes allowance

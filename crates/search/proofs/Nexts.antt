@@ -21,8 +21,8 @@ use Rattle.search.specs.Inner.Memory.{marks, Sized}
 use Rattle.search.specs.Inner.Lent.{Lent, inputOf, lentOf, _⇒_}
 use Rattle.parts.specs.Packed.{partsIn}
 use Rattle.search.specs.Shown.{shownBy}
-use Rattle.search.specs.declared.Outcome.{Outcome}
-use Rattle.search.specs.declared.Outcome.the-variants.{Found, Failed, Spent}
+use Rattle.search.specs.declared.Finding.{Finding}
+use Rattle.search.specs.declared.Finding.the-variants.{Found, Failed, Spent}
 use Rattle.search.specs.declared.Known.{Known}
 use Rattle.search.specs.declared.Known.the-variants.{Ended, Unknown}
 use Rattle.search.proofs.Kept.{first-holds}
@@ -39,7 +39,7 @@ by-pass allowance (Ended Failed) left assigned parts before after s = (refl, s)
 by-pass allowance (Ended Spent) left assigned parts before after s = (refl, s)
 by-pass allowance Unknown left assigned parts before after s = (refl, s)
 
-pub shown-ended : {x : Known} {o : Outcome} (parts : List Part) (before : List ℕ) {after : List ℕ} → after ≡ shownBy o parts before → x ≡ Ended o
+pub shown-ended : {x : Known} {o : Finding} (parts : List Part) (before : List ℕ) {after : List ℕ} → after ≡ shownBy o parts before → x ≡ Ended o
     → after ≡ shownKnown x parts before
 shown-ended parts before s e = s ∙ sym (ap (λ (y : Known). shownKnown y parts before) e)
 

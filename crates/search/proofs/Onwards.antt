@@ -15,12 +15,12 @@ use Rattle.search.specs.State.{State, place, state, placePast}
 use Rattle.search.specs.Level.{tried, levels}
 use Rattle.parts.specs.Packed.{bit, packed}
 use Rattle.search.specs.Inner.Lent.{Handed, Lent, lentOf, Held, levelIn}
-use Rattle.search.specs.Inner.Bounds.{Ready, StopsAt, Unassigned, Moved, WalkIs, Walks, reached}
+use Rattle.search.specs.Inner.Bounds.{Ready, StopsAt, Unassigned, Moved, WalkIs, Walks, stopped}
 use Rattle.search.specs.Inner.Replies.{followIn}
 use Rattle.search.specs.Inner.Onward.{Comes, Onward}
 use Rattle.search.specs.declared.place.Place.{Place}
 use Rattle.search.specs.declared.marks.Marks.{Marks}
-use Rattle.search.specs.declared.walk.Reached.{Reached}
+use Rattle.search.specs.declared.walk.Stopped.{Stopped}
 use Rattle.steps.specs.declared.Stop.{Stop}
 use Rattle.steps.specs.declared.Stop.the-variants.{NoAllowance, RunName}
 use Rattle.search.proofs.Kept.{kept-all}
@@ -49,7 +49,7 @@ module _ (halts : Bool) (i : Handed) (e₀ : Lent) (m₀ : Marks) (p₀ : Place)
   -- and where it halts, it is the walk's
   pub record Ongoing (e : Lent) (m : Marks) (p : Place) : Type 0 where
     pub going : (s : State) → Starting s → Going e m p s
-    pub halted : halts ≡ true → {parts stack : List ℕ} {r : Reached} → Walks i e m p parts stack r → Walks i e₀ m₀ p₀ parts stack r
+    pub halted : halts ≡ true → {parts stack : List ℕ} {r : Stopped} → Walks i e m p parts stack r → Walks i e₀ m₀ p₀ parts stack r
 
   pub on-first : Ongoing e₀ m₀ p₀
   on-first = record {
@@ -61,7 +61,7 @@ module _ (halts : Bool) (i : Handed) (e₀ : Lent) (m₀ : Marks) (p₀ : Place)
     pub on-holding : HeldAt i e₀ m₀ p₀ → HeldAt i e m p
     on-holding h = let g = t .going (h .state) (h .holds) in record { state = g .here; holds = g .moved .holds }
 
-    module _ {parts₁ stack₁ : List ℕ} {r : Reached} (walks : Walks i e m p parts₁ stack₁ r) where
+    module _ {parts₁ stack₁ : List ℕ} {r : Stopped} (walks : Walks i e m p parts₁ stack₁ r) where
       abbrev walk : (s : State) (h : Starting s) → WalkIs i e m p parts₁ stack₁ r (t .going s h .here)
       walk s h = walks (t .going s h .here) (t .going s h .moved .holds)
 
@@ -89,9 +89,9 @@ module _ (halts : Bool) (i : Handed) (e₀ : Lent) (m₀ : Marks) (p₀ : Place)
       -- it ends as another stop, of the same state
       ends : (stop : Stop) (l : ℕ) → StopsAt (length (i .pattern)) (r .place) stop → Unassigned (r .assigned) stop
           → ((s : State) (h : Starting s) (n : ℕ) → levels (i .pattern) (p₀ .at) ≤ n
-          → Comes i (e₀ .left) s n (reached stop l (r .assigned) (r .marks) (r .place)) (walk s h .end))
-          → (halts ≡ true → Walks i e₀ m₀ p₀ parts₁ stack₁ (reached stop l (r .assigned) (r .marks) (r .place)))
-          → Onward halts i e₀ m₀ p₀ parts₁ stack₁ (reached stop l (r .assigned) (r .marks) (r .place))
+          → Comes i (e₀ .left) s n (stopped stop l (r .assigned) (r .marks) (r .place)) (walk s h .end))
+          → (halts ≡ true → Walks i e₀ m₀ p₀ parts₁ stack₁ (stopped stop l (r .assigned) (r .marks) (r .place)))
+          → Onward halts i e₀ m₀ p₀ parts₁ stack₁ (stopped stop l (r .assigned) (r .marks) (r .place))
       ends stop l at un comes halted = record {
         going = λ s h. record {
           end = walk s h .end;
@@ -133,7 +133,7 @@ module _ (halts : Bool) (i : Handed) (e₀ : Lent) (m₀ : Marks) (p₀ : Place)
           last-there = ap (λ (x : Place). x .children) is-place ∙ last
 
         pub on-spent : HeldAt i e₀ m₀ p₀ → r .left ≤ r .place .elements
-            → Onward halts i e₀ m₀ p₀ parts₁ stack₁ (reached NoAllowance 0 (r .assigned) (r .marks) (r .place))
+            → Onward halts i e₀ m₀ p₀ parts₁ stack₁ (stopped NoAllowance 0 (r .assigned) (r .marks) (r .place))
         on-spent hold few =
             ends NoAllowance 0 tt tt
             (λ s h n l. record {

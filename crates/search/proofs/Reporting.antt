@@ -16,18 +16,18 @@ use Rattle.search.specs.State.{State, place, Walked, turns, walked, step
 use Rattle.parts.specs.Packed.{packed, unpacked, partPlaces}
 use Rattle.search.specs.Inner.Memory.{marks, Kept}
 use Rattle.search.specs.Inner.Lent.{Handed, Lent}
-use Rattle.search.specs.Inner.Bounds.{Short, StopsAt, reached, WalkIs, Walks}
+use Rattle.search.specs.Inner.Bounds.{Short, StopsAt, stopped, WalkIs, Walks}
 use Rattle.search.specs.Inner.Replies.{failure}
 use Rattle.search.specs.Inner.Halts.{haltedAs, runOf, stopIn, reportIn, reportedBy, Told, PairsAre}
 use Rattle.search.specs.declared.place.Place.{Place}
 use Rattle.search.specs.declared.marks.Marks.{Marks}
-use Rattle.search.specs.declared.walk.Reached.{Reached}
+use Rattle.search.specs.declared.walk.Stopped.{Stopped}
 use Rattle.steps.specs.declared.Step.{Step}
 use Rattle.steps.specs.declared.Step.the-variants.{Stops, Fails, Closes, Opens, Passes, Binds, PutsBy}
 use Rattle.steps.specs.declared.Stop.{Stop}
 use Rattle.steps.specs.declared.Stop.the-variants.{Failure, NoAllowance, NoPair, RunName}
-use Rattle.search.specs.declared.Outcome.{Outcome}
-use Rattle.search.specs.declared.Outcome.the-variants.{Found}
+use Rattle.search.specs.declared.Finding.{Finding}
+use Rattle.search.specs.declared.Finding.the-variants.{Found}
 use Rattle.parts.proofs.Masks.{part-back}
 use Rattle.search.proofs.Buffers.{sized-part}
 use Rattle.search.proofs.Kept.{restored}
@@ -95,7 +95,7 @@ module _ (parts : List ℕ) (stop : Stop) (m : Marks) (p : Place) where
 
     read-back : (left assigned codes : ℕ) → m .inner < 65536 → m .frames < 65536 → m .waiting < 65536 → p .at < 65536 → p .node < 65536
         → p .children < 256 → p .elements < 256 → StopsAt codes p stop
-        → reportedBy (reportIn parts stop m p) (haltedAs stop) left assigned (m .first) ≡ reached stop left assigned m p
+        → reportedBy (reportIn parts stop m p) (haltedAs stop) left assigned (m .first) ≡ stopped stop left assigned m p
     read-back left assigned codes i f w t n k e h =
         ap (λ (x : Part). readAs x (unpacked (getD report (variables + 1) 0)) (unpacked (getD report (variables + 2) 0)))
         (ap unpacked at-first ∙ read-part (p .node) (p .at) (p .elements) n t e)
@@ -103,14 +103,14 @@ module _ (parts : List ℕ) (stop : Stop) (m : Marks) (p : Place) where
         (ap unpacked at-second ∙ read-part (m .inner) (m .frames) (p .children) i f k)
         ∙ ap (λ (x : Part). readAs (part (p .node) (p .at) (p .elements)) (part (m .inner) (m .frames) (p .children)) x)
         (ap unpacked at-third ∙ read-part (m .waiting) (runOf stop) 0 w (run-fits codes p stop h) (omega arith))
-        ∙ ap (λ (x : Stop). reached x left assigned m p) (read-stop codes p stop h)
+        ∙ ap (λ (x : Stop). stopped x left assigned m p) (read-stop codes p stop h)
       where
         report : List ℕ
         report = reportIn parts stop m p
 
-        readAs : Part → Part → Part → Reached
+        readAs : Part → Part → Part → Stopped
         readAs x y z =
-            reached (stopIn (haltedAs stop) (z .length)) left assigned (marks (y .offset) (y .length) (m .first) (z .offset))
+            stopped (stopIn (haltedAs stop) (z .length)) left assigned (marks (y .offset) (y .length) (m .first) (z .offset))
             (place (y .elements) (x .elements) (x .length) (x .offset))
 
 -- The stop that is read
@@ -128,9 +128,9 @@ fails-only NoAllowance run e = refl
 fails-only NoPair run e = stop-found run
 fails-only (RunName v) run e = stop-found run
 
-module _ {i : Handed} {e₀ : Lent} {m : Marks} {p : Place} {parts′ stack′ : List ℕ} {r : Reached} (pairs : PairsAre i e₀ m p parts′ stack′ r) where
+module _ {i : Handed} {e₀ : Lent} {m : Marks} {p : Place} {parts′ stack′ : List ℕ} {r : Stopped} (pairs : PairsAre i e₀ m p parts′ stack′ r) where
   -- what the walk reached
-  abbrev pub met : Reached
+  abbrev pub met : Stopped
   met = pairs .halts .reached
 
   told-by : (x : Bool) → failure (met .stop) ≡ x → Told x met (pairs .halts .parts) (pairs .outcome) (pairs .assigned) parts′
@@ -144,9 +144,9 @@ module _ {i : Handed} {e₀ : Lent} {m : Marks} {p : Place} {parts′ stack′ :
     where
       by : (x : Bool) → failure (met .stop) ≡ x → failure (met .stop) ≡ failure (r .stop)
       by true e =
-          e ∙ sym (ap (λ (y : Reached). failure (y .stop)) (pairs .is) ∙ ap (λ (o : Outcome). failure (stopIn o run)) (told-by true e .0))
+          e ∙ sym (ap (λ (y : Stopped). failure (y .stop)) (pairs .is) ∙ ap (λ (o : Finding). failure (stopIn o run)) (told-by true e .0))
       by false e =
-          e ∙ sym (ap (λ (y : Reached). failure (y .stop)) (pairs .is) ∙ ap (λ (o : Outcome). failure (stopIn o run)) (told-by false e .1 .ended)
+          e ∙ sym (ap (λ (y : Stopped). failure (y .stop)) (pairs .is) ∙ ap (λ (o : Finding). failure (stopIn o run)) (told-by false e .1 .ended)
           ∙ fails-only (met .stop) run e)
 
   pub met-parts : failure (met .stop) ≡ true → parts′ ≡ pairs .halts .parts
@@ -162,7 +162,7 @@ module _ {i : Handed} {e₀ : Lent} {m : Marks} {p : Place} {parts′ stack′ :
     is-met =
         pairs .is
         ∙ ap (λ (l : List ℕ). reportedBy l (pairs .outcome) (pairs .left) (pairs .assigned) (m .first)) (told .1 .written)
-        ∙ ap (λ (o : Outcome). reportedBy report o (pairs .left) (pairs .assigned) (m .first)) (told .1 .ended)
+        ∙ ap (λ (o : Finding). reportedBy report o (pairs .left) (pairs .assigned) (m .first)) (told .1 .ended)
         ∙ ap (λ (l : ℕ). reportedBy report (haltedAs (met .stop)) l (pairs .assigned) (m .first)) (pairs .halts .same-left)
         ∙ ap (λ (x : ℕ). reportedBy report (haltedAs (met .stop)) (met .left) x (m .first)) (told .0)
         ∙ ap (λ (f : ℕ). reportedBy report (haltedAs (met .stop)) (met .left) (met .assigned) f) (sym (w .moved .same-first))
@@ -173,7 +173,7 @@ module _ {i : Handed} {e₀ : Lent} {m : Marks} {p : Place} {parts′ stack′ :
 
     read-walk : WalkIs i e₀ m p parts′ stack′ r s
     read-walk =
-        subst (λ (y : Reached). WalkIs i e₀ m p parts′ stack′ y s) (sym is-met)
+        subst (λ (y : Stopped). WalkIs i e₀ m p parts′ stack′ y s) (sym is-met)
         (subst (λ (l : List ℕ). WalkIs i e₀ m p l stack′ met s) (sym (told .1 .written)) (record {
           end = w .end;
           so = w .so;

@@ -18,19 +18,19 @@ use Rattle.search.specs.Level.{Reply, levels, endOf, searchOf}
 use Rattle.search.specs.Shown.{shownBy, shownIn}
 use Rattle.search.specs.Inner.Replies.{found, replyWith, replyOf, EndsAtOnce}
 use Rattle.search.specs.declared.Ended.{Ended}
-use Rattle.search.specs.declared.Outcome.{Outcome}
-use Rattle.search.specs.declared.Outcome.the-variants.{Found, Failed, Spent}
+use Rattle.search.specs.declared.Finding.{Finding}
+use Rattle.search.specs.declared.Finding.the-variants.{Found, Failed, Spent}
 use Rattle.search.proofs.Levels.{search-over}
 
 -- What is found is shown, and nothing else
 
-pub found-shown : (o : Outcome) (ps : List Part) (before after : List ℕ) → found o ≡ true → after ≡ shownParts ps before → after ≡ shownBy o ps before
+pub found-shown : (o : Finding) (ps : List Part) (before after : List ℕ) → found o ≡ true → after ≡ shownParts ps before → after ≡ shownBy o ps before
 unfolding shownBy
 found-shown Found ps before after h e = e
 found-shown Failed ps before after h e = absurd (true≢false (sym h))
 found-shown Spent ps before after h e = absurd (true≢false (sym h))
 
-pub other-unshown : (o : Outcome) (ps : List Part) (before : List ℕ) → found o ≡ false → before ≡ shownBy o ps before
+pub other-unshown : (o : Finding) (ps : List Part) (before : List ℕ) → found o ≡ false → before ≡ shownBy o ps before
 unfolding shownBy
 other-unshown Found ps before h = absurd (true≢false h)
 other-unshown Failed ps before h = refl
@@ -38,7 +38,7 @@ other-unshown Spent ps before h = refl
 
 -- The whole search
 
-abbrev ended : Outcome → ℕ → Ended
+abbrev ended : Finding → ℕ → Ended
 ended o left = record { outcome = o; left = left }
 
 module _ (table classes pattern bytes before : List ℕ) (allowance : ℕ) where
@@ -52,19 +52,19 @@ module _ (table classes pattern bytes before : List ℕ) (allowance : ℕ) where
       let z = search-over table classes pattern bytes allowance h in
       (ap endOf z, ap (λ (r : Reply). shownIn r before) z)
 
-  reply-shows : (o : Outcome) (left : ℕ) (shown : List Part) (after : List ℕ) → after ≡ shownBy o shown before
+  reply-shows : (o : Finding) (left : ℕ) (shown : List Part) (after : List ℕ) → after ≡ shownBy o shown before
       → replyWith o left shown ≡ searchOf table classes pattern bytes allowance → Shows (ended o left) after
   unfolding shownBy
   reply-shows Found left shown after s z = (ap endOf z, s ∙ ap (λ (r : Reply). shownIn r before) z)
   reply-shows Failed left shown after s z = (ap endOf z, s ∙ ap (λ (r : Reply). shownIn r before) z)
   reply-shows Spent left shown after s z = (ap endOf z, s ∙ ap (λ (r : Reply). shownIn r before) z)
 
-  pub within-shows : (o : Outcome) (left assigned : ℕ) (parts after : List ℕ) → after ≡ shownBy o (partsIn assigned parts 0 variables) before
+  pub within-shows : (o : Finding) (left assigned : ℕ) (parts after : List ℕ) → after ≡ shownBy o (partsIn assigned parts 0 variables) before
       → replyOf o left assigned parts ≡ searchOf table classes pattern bytes allowance → Shows (ended o left) after
   within-shows o left assigned parts after s z = reply-shows o left (partsIn assigned parts 0 variables) after s z
 
   -- its first pair decides it
-  pub at-once-shows : (o : Outcome) (after : List ℕ) → length pattern ≤ longestPattern → length bytes ≤ longestRecord
+  pub at-once-shows : (o : Finding) (after : List ℕ) → length pattern ≤ longestPattern → length bytes ≤ longestRecord
       → EndsAtOnce table classes pattern bytes 0 allowance o → after ≡ shownBy o (replicate variables absent) before
       → Shows (ended o (allowance - 1)) after
   unfolding searchOf

@@ -26,7 +26,7 @@ use Rattle.skips.specs.Passed.{startsOf, mostSymbols, isSymbol, chainOf, differ
 use Rattle.skips.proofs.Chains.{chain-some, chain-symbol, chain-further, chain-most, differs-lengths, differs-here, differs-later, differs-most}
 use Rattle.skips.proofs.Passing.{starts-none, span-within, span-split, failing-apart, failing-chain, passes-within, passes-paid}
 use Rattle.steps.specs.Turn.{stepOf, variableIn, standsOf, overStep, symbolStep, assignedStep, nameStep, runStep, pairStep, plainStep, codeStep}
-use Rattle.search.specs.State.{turns, State, place, frame, state, placePast, entered, partInState, alone, variableAt, stepAt, walked, walkBy, walkOf}
+use Rattle.search.specs.State.{turns, State, place, remaining, state, placePast, entered, partInState, alone, variableAt, stepAt, walked, walkBy, walkOf}
 use Rattle.search.specs.Level.{Reply, failedAt, spentAt, tried, lengthsOf, levelOf}
 use Rattle.parts.specs.Packed.{bit, unpacked, partIn, partOf}
 use Rattle.search.specs.Inner.Replies.{given, triesOf}
@@ -160,7 +160,7 @@ module _ (table classes pattern bytes : List ℕ) where
   abbrev opened : State → State
   opened s =
       let e = entryOf table (getD pattern (s .place .at) 0) in
-      state (s .parts) (frame (s .place .children - 1) (s .place .elements - 1) ∷ s .frames) (s .waiting) (entered (s .place) e e 1)
+      state (s .parts) (remaining (s .place .children - 1) (s .place .elements - 1) ∷ s .frames) (s .waiting) (entered (s .place) e e 1)
 
   -- the next symbol is compared
   module _ (n m room : ℕ) (s : State) (left : ℕ) (in-chain : n < chainOf table m (drop (s .place .at) pattern))

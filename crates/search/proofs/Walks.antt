@@ -13,14 +13,15 @@ use borrow.Author.Tests.{eqb-false}
 use Rattle.answers.specs.Part.{isAbsent, boundPart}
 use Rattle.answers.specs.declared.Part.{Part}
 use Rattle.term.specs.Code.{variables}
-use Rattle.search.specs.Inner.Bounds.{Short, StopsAt, Unassigned, reached, Moved, WalkIs}
+use Rattle.search.specs.Inner.Bounds.{Short, StopsAt, Unassigned, stopped, Moved, WalkIs}
 use Rattle.search.specs.Inner.Lent.{Handed, Lent, inputOf, lentOf}
 use Rattle.parts.specs.Packed.{bit, packed, partIn}
 use Rattle.search.specs.Inner.Memory.{frameIn, outer, openedMarks, closedMarks, Linked, putByIn, putByMarks, LiesIn}
-use Rattle.search.specs.State.{turns, Frame, PutBy, State, frame, putBy, state, partInState, placePast, entered, reopened, alone, closedBy, variableAt, stepAt, walked, walkBy, walkOf}
+use Rattle.search.specs.State.{turns, PutBy, State, remaining, putBy, state, partInState, placePast, entered, reopened, alone, closedBy, variableAt, stepAt, walked, walkBy, walkOf}
+use Rattle.search.specs.declared.place.Remaining.{Remaining}
 use Rattle.search.specs.declared.marks.Marks.{Marks}
 use Rattle.search.specs.declared.place.Place.{Place}
-use Rattle.search.specs.declared.walk.Reached.{Reached}
+use Rattle.search.specs.declared.walk.Stopped.{Stopped}
 use Rattle.steps.specs.declared.Step.the-variants.{Stops, Fails, Closes, Opens, Passes, Binds, PutsBy}
 use Rattle.steps.specs.declared.Step.{Step}
 use Rattle.steps.specs.declared.Stop.the-variants.{Failure, NoAllowance, NoPair, RunName}
@@ -33,15 +34,15 @@ use Rattle.search.proofs.Moved.{moved-none, moved-to}
 use Rattle.parts.proofs.Masks.{bit-still}
 
 -- the innermost of some open nodes
-record Popped (stack : List ℕ) (inner : ℕ) (fs : List Frame) : Type 0 where
-  pub rest : List Frame
+record Popped (stack : List ℕ) (inner : ℕ) (fs : List Remaining) : Type 0 where
+  pub rest : List Remaining
   pub is : fs ≡ frameIn (getD stack (inner - 1) 0) ∷ rest
   pub less : outer (getD stack (inner - 1) 0) < inner
   pub linked : Linked stack (outer (getD stack (inner - 1) 0)) rest
 
-popped : (stack : List ℕ) (inner : ℕ) (fs : List Frame) → (inner ≡ 0 → ⊥) → Linked stack inner fs → Popped stack inner fs
+popped : (stack : List ℕ) (inner : ℕ) (fs : List Remaining) → (inner ≡ 0 → ⊥) → Linked stack inner fs → Popped stack inner fs
 popped stack inner [] n h = absurd (n h)
-popped stack inner (f ∷ fs) n h = record { rest = fs; is = ap (λ (g : Frame). g ∷ fs) (sym (h .1)); less = h .2; linked = h .3 }
+popped stack inner (f ∷ fs) n h = record { rest = fs; is = ap (λ (g : Remaining). g ∷ fs) (sym (h .1)); less = h .2; linked = h .3 }
 
 module _ (table classes pattern bytes : List ℕ) where
   pub walk-suc : (n : ℕ) (s : State) (left : ℕ) → 0 < n
@@ -62,7 +63,7 @@ module _ (table classes pattern bytes : List ℕ) (assigned₀ left₀ : ℕ) (p
   -- the walk from the state s₀ is the walk from the one that the buffers hold now
   pub record Walking (parts stack : List ℕ) (p : Place) (m : Marks) (assigned left : ℕ) : Type 0 where
     pub values : List Part
-    pub nodes : List Frame
+    pub nodes : List Remaining
     pub put-by : List PutBy
     pub moved : Moved inp was m₀ p₀ (lentOf assigned left parts stack) m p (state values nodes put-by p)
     pub room : ℕ
@@ -84,7 +85,7 @@ module _ (table classes pattern bytes : List ℕ) (assigned₀ left₀ : ℕ) (p
       is : s₀ ≡ state (s₀ .parts) (s₀ .frames) (s₀ .waiting) p₀
       is = ap (state (s₀ .parts) (s₀ .frames) (s₀ .waiting)) (h .place)
 
-  abbrev Ends : List ℕ → List ℕ → Reached → Type 0
+  abbrev Ends : List ℕ → List ℕ → Stopped → Type 0
   Ends parts stack r = WalkIs inp was m₀ p₀ parts stack r s₀
 
   -- what is known once the next step is
@@ -124,7 +125,7 @@ module _ (table classes pattern bytes : List ℕ) (assigned₀ left₀ : ℕ) (p
     ended : (stop : Stop) (l : ℕ)
         → walkOf turns table classes pattern bytes s₀ left₀ ≡ walked stop l (state (t .walking .values) (t .walking .nodes) (t .walking .put-by) p)
         → StopsAt (length pattern) p stop → Unassigned assigned stop
-        → Ends parts stack (reached stop l assigned m p)
+        → Ends parts stack (stopped stop l assigned m p)
     ended stop l is stops out =
         let w = t .walking in
         record {
@@ -136,7 +137,7 @@ module _ (table classes pattern bytes : List ℕ) (assigned₀ left₀ : ℕ) (p
         }
 
     pub walk-stops : (stop : Stop) → x ≡ Stops stop
-        → Ends parts stack (reached stop left assigned m p)
+        → Ends parts stack (stopped stop left assigned m p)
     unfolding walkBy
     walk-stops Failure e = ended Failure left (stepped (Stops Failure) e) tt tt
     walk-stops NoAllowance e = ended NoAllowance left (stepped (Stops NoAllowance) e) tt tt
@@ -146,7 +147,7 @@ module _ (table classes pattern bytes : List ℕ) (assigned₀ left₀ : ℕ) (p
         ended (RunName v) left (stepped (Stops (RunName v)) e) (a .1) (free v (a .0 .below) (a .0 .here) (a .0 .absent))
 
     pub walk-fails : x ≡ Fails
-        → Ends parts stack (reached Failure (left - 1) assigned m p)
+        → Ends parts stack (stopped Failure (left - 1) assigned m p)
     unfolding walkBy
     walk-fails e = ended Failure (left - 1) (stepped Fails e) tt tt
 
@@ -175,11 +176,11 @@ module _ (table classes pattern bytes : List ℕ) (assigned₀ left₀ : ℕ) (p
           room = w .room - 1;
           enough = omega (arith, w .enough);
           same = stepped Closes e
-              ∙ ap (λ (fs : List Frame). walkOf (w .room - 1) table classes pattern bytes (closedBy fs (state (w .values) fs (w .put-by) p)) left) (u .is);
+              ∙ ap (λ (fs : List Remaining). walkOf (w .room - 1) table classes pattern bytes (closedBy fs (state (w .values) fs (w .put-by) p)) left) (u .is);
         }
 
     pub walk-opens : (children elements width y : ℕ) → x ≡ Opens children elements width
-        → (frameIn y ≡ frame (p .children - 1) (p .elements - 1)) × (outer y ≡ m .inner)
+        → (frameIn y ≡ remaining (p .children - 1) (p .elements - 1)) × (outer y ≡ m .inner)
         → Walking parts (set stack (m .frames) y) (entered p children elements width) (openedMarks m) assigned (left - 1)
     unfolding walkBy
     walk-opens children elements width y e is =
@@ -187,7 +188,7 @@ module _ (table classes pattern bytes : List ℕ) (assigned₀ left₀ : ℕ) (p
         let a = asked (Opens children elements width) e in
         record {
           values = w .values;
-          nodes = frame (p .children - 1) (p .elements - 1) ∷ w .nodes;
+          nodes = remaining (p .children - 1) (p .elements - 1) ∷ w .nodes;
           put-by = w .put-by;
           moved = moved-to (w .moved) (λ v b. b) (kept-frame y (omega (arith, w .moved .holds .room, a .some, a .at))) (omega arith, omega arith, refl)
               (omega arith)

@@ -12,8 +12,8 @@ use Rattle.search.specs.State.{State, Walked, turns, walkOf}
 use Rattle.search.specs.Level.{Reply, failedAt, spentAt, startOf, tried, orElse, lengthsOf, complementsOf, levelOf, levels}
 use Rattle.steps.specs.declared.Stop.{Stop}
 use Rattle.steps.specs.declared.Stop.the-variants.{Failure, NoAllowance, NoPair, RunName}
-use Rattle.search.specs.declared.Outcome.{Outcome}
-use Rattle.search.specs.declared.Outcome.the-variants.{Found, Failed, Spent}
+use Rattle.search.specs.declared.Finding.{Finding}
+use Rattle.search.specs.declared.Finding.the-variants.{Found, Failed, Spent}
 
 -- the search resumed after the given answer ends; or the lengths given belong to no answer
 pub data Pass : Type 0 where
@@ -26,7 +26,7 @@ elementsOf table bytes zero = 0
 elementsOf table bytes (suc n) = extentOf table bytes + elementsOf table (drop (extentOf table bytes) bytes) n
 
 -- where the complements put by hold the given answer is known, and the search goes on as after a failure
-abbrev pub resumedBy : Outcome → ℕ → Pass
+abbrev pub resumedBy : Finding → ℕ → Pass
 resumedBy Found left = ends (failedAt left)
 resumedBy Failed left = unknown
 resumedBy Spent left = ends (spentAt left)

@@ -12,17 +12,17 @@ use Rattle.term.specs.Extent.{extentOf}
 use Rattle.search.specs.State.{PutBy, State, Walked, place, state, placePast, turns, walkOf}
 use Rattle.steps.specs.declared.Stop.{Stop}
 use Rattle.steps.specs.declared.Stop.the-variants.{Failure, NoAllowance, NoPair, RunName}
-use Rattle.search.specs.declared.Outcome.{Outcome}
-use Rattle.search.specs.declared.Outcome.the-variants.{Found, Failed, Spent}
+use Rattle.search.specs.declared.Finding.{Finding}
+use Rattle.search.specs.declared.Finding.the-variants.{Found, Failed, Spent}
 use Rattle.search.specs.declared.Ended.{Ended}
 
 -- how a search ended, the allowance left, and where it is found what each name and run name is assigned
 pub record Reply : Type 0 where
-  pub outcome : Outcome
+  pub outcome : Finding
   pub left : ℕ
   pub parts : List Part
 
-abbrev pub reply : Outcome → ℕ → List Part → Reply
+abbrev pub reply : Finding → ℕ → List Part → Reply
 reply outcome left parts = record { outcome = outcome; left = left; parts = parts }
 
 -- only what is found shows parts
@@ -32,7 +32,7 @@ failedAt left = reply Failed left (replicate variables absent)
 abbrev pub spentAt : ℕ → Reply
 spentAt left = reply Spent left (replicate variables absent)
 
-abbrev pub failed : Outcome → Bool
+abbrev pub failed : Finding → Bool
 failed Found = false
 failed Failed = true
 failed Spent = false
@@ -67,7 +67,7 @@ unfoldable pub insideOf : (List ℕ → State → ℕ → Reply) → List ℕ �
 insideOf lv pattern parts c left = lv (take (c .size) (drop (c .at + 1) pattern)) (startOf parts (c .node)) left
 
 -- a complement holds where the search of its inside fails, and goes on with what comes next; the assignments made inside are dropped
-abbrev pub refuted : Outcome → ℕ → (ℕ → Reply) → Reply
+abbrev pub refuted : Finding → ℕ → (ℕ → Reply) → Reply
 refuted Found left next = failedAt left
 refuted Failed left next = next left
 refuted Spent left next = spentAt left

@@ -17,12 +17,8 @@ use Rattle.steps.specs.declared.Step.the-variants.{Stops, Fails, Closes, Opens,
 -- The state
 
 -- what is left of an open node: child patterns, and elements of the record
-pub record Frame : Type 0 where
-  pub children : ℕ
-  pub elements : ℕ
-
-abbrev pub frame : ℕ → ℕ → Frame
-frame children elements = record { children = children; elements = elements }
+abbrev pub remaining : ℕ → ℕ → Remaining
+remaining children elements = record { children = children; elements = elements }
 
 -- a complement that was put by: where it stands in the pattern, the bytes of its inside, and its node in the record
 pub record PutBy : Type 0 where
@@ -38,7 +34,7 @@ place children elements at node = record { children = children; elements = eleme
 
 -- its two halves, and both together
 abbrev pub remainingIn : Place → Remaining
-remainingIn p = record { children = p .children; elements = p .elements }
+remainingIn p = remaining (p .children) (p .elements)
 
 abbrev pub nextIn : Place → Next
 nextIn p = record { at = p .at; node = p .node }
@@ -49,11 +45,11 @@ placeFrom r n = place (r .children) (r .elements) (n .at) (n .node)
 -- what each name and run name is assigned, the nodes that are open around the innermost one, the complements put by, and the place
 pub record State : Type 0 where
   pub parts : List Part
-  pub frames : List Frame
+  pub frames : List Remaining
   pub waiting : List PutBy
   pub place : Place
 
-abbrev pub state : List Part → List Frame → List PutBy → Place → State
+abbrev pub state : List Part → List Remaining → List PutBy → Place → State
 state parts frames waiting p = record { parts = parts; frames = frames; waiting = waiting; place = p }
 
 abbrev pub partInState : State → ℕ → Part
@@ -68,10 +64,10 @@ abbrev pub entered : Place → ℕ → ℕ → ℕ → Place
 entered p children elements width = place children elements (p .at + width) (p .node + width)
 
 -- back to what is left of the node around it
-abbrev pub reopened : Place → Frame → Place
-reopened p f = place (f .children) (f .elements) (p .at) (p .node)
+abbrev pub reopened : Place → Remaining → Place
+reopened p r = placeFrom r (nextIn p)
 
-abbrev pub closedBy : List Frame → State → State
+abbrev pub closedBy : List Remaining → State → State
 closedBy [] s = s
 closedBy (f ∷ fs) s = state (s .parts) fs (s .waiting) (reopened (s .place) f)
 
@@ -79,7 +75,7 @@ abbrev pub closed : State → State
 closed s = closedBy (s .frames) s
 
 -- whether no node is open around
-abbrev pub alone : List Frame → Bool
+abbrev pub alone : List Remaining → Bool
 alone [] = true
 alone (f ∷ fs) = false
 
@@ -111,7 +107,7 @@ walkBy (Stops stop) f s left = walked stop left s
 walkBy Fails f s left = walked Failure (left - 1) s
 walkBy Closes f s left = f (closed s) left
 walkBy (Opens children elements width) f s left =
-    f (state (s .parts) (frame (s .place .children - 1) (s .place .elements - 1) ∷ s .frames) (s .waiting) (entered (s .place) children elements width))
+    f (state (s .parts) (remaining (s .place .children - 1) (s .place .elements - 1) ∷ s .frames) (s .waiting) (entered (s .place) children elements width))
     (left - 1)
 walkBy (Passes elements size) f s left = f (state (s .parts) (s .frames) (s .waiting) (placePast (s .place) elements 1 size)) (left - 1)
 walkBy (Binds v size) f s left =

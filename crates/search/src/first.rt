@@ -1,5 +1,5 @@
 // Levels that their first pair decides.
-use crate::Outcome;
+use crate::Finding;
 use parts::PARTS;
 use parts::part_of;
 use steps::stands;
@@ -11,8 +11,8 @@ ghost use Rattle.term.specs.Moment.{old};
 ghost use Rattle.search.specs.Inner.Replies.{Decides, DecidesInside};
 
 // How the search of a level ends, where its first pair alone decides that.
-pub enum First {
-    Decided(Outcome),
+pub enum FirstPair {
+    Decided(Finding),
     Unsure,
 }
 
@@ -24,29 +24,29 @@ pub(crate) fn first_pair(
     record: &[u8],
     node: usize,
     left: u32,
-) -> First
+) -> FirstPair
     ensures { λ r. ⌜ Decides (old table) (old classes) (old pattern) (old «record») node left r ⌝ }
 {
     if left == 0 {
-        return First::Unsure;
+        return FirstPair::Unsure;
     }
     if pattern.len() == 0 {
-        return First::Unsure;
+        return FirstPair::Unsure;
     }
     if record.len() <= node {
-        return First::Unsure;
+        return FirstPair::Unsure;
     }
     let code = decode(pattern[0]);
     let Code::Symbol(b) = code else {
-        return First::Unsure;
+        return FirstPair::Unsure;
     };
     if !same_symbol(classes, b, record[node]) {
-        return First::Decided(Outcome::Failed);
+        return FirstPair::Decided(Finding::Failed);
     }
     if entry_of(table, b) == 0 {
-        return First::Decided(Outcome::Found);
+        return FirstPair::Decided(Finding::Found);
     }
-    First::Unsure
+    FirstPair::Unsure
 }
 
 // So does a name, where a complement drops what it is assigned: an unassigned one takes the node, an assigned one must equal it.
@@ -59,33 +59,33 @@ fn name_pair(
     assigned: u64,
     node: usize,
     left: u32,
-) -> First
+) -> FirstPair
     ensures { λ r. ⌜ DecidesInside (old table) (old classes) (old pattern) (old «record») assigned (old parts) node left r ⌝ }
 {
     if left == 0 {
-        return First::Unsure;
+        return FirstPair::Unsure;
     }
     if pattern.len() == 0 {
-        return First::Unsure;
+        return FirstPair::Unsure;
     }
     if record.len() <= node {
-        return First::Unsure;
+        return FirstPair::Unsure;
     }
     let code = decode(pattern[0]);
     let Code::Name(v) = code else {
-        return First::Unsure;
+        return FirstPair::Unsure;
     };
     let part = part_of(parts, assigned, v);
     if part.is_absent() {
-        return First::Decided(Outcome::Found);
+        return FirstPair::Decided(Finding::Found);
     }
     if part.elements != 1 {
-        return First::Unsure;
+        return FirstPair::Unsure;
     }
     if stands(table, classes, record, part, &record[node..]) {
-        return First::Decided(Outcome::Found);
+        return FirstPair::Decided(Finding::Found);
     }
-    First::Decided(Outcome::Failed)
+    FirstPair::Decided(Finding::Failed)
 }
 
 // How the inside of a complement ends, where its first pair alone decides that.
@@ -98,12 +98,12 @@ pub(crate) fn at_once(
     assigned: u64,
     node: usize,
     left: u32,
-) -> First
+) -> FirstPair
     ensures { λ r. ⌜ DecidesInside (old table) (old classes) (old pattern) (old «record») assigned (old parts) node left r ⌝ }
 {
     let first = first_pair(table, classes, pattern, record, node, left);
-    if let First::Decided(outcome) = first {
-        return First::Decided(outcome);
+    if let FirstPair::Decided(outcome) = first {
+        return FirstPair::Decided(outcome);
     }
     name_pair(table, classes, pattern, record, parts, assigned, node, left)
 }

@@ -1,6 +1,6 @@
 // The search after a given answer: down with its lengths, and back with the lengths after them.
+use crate::Finding;
 use crate::Known;
-use crate::Outcome;
 use crate::halt::reported;
 use crate::is_failed;
 use crate::level::MOST_ELEMENTS;
@@ -11,7 +11,7 @@ use crate::marks::STACK;
 use crate::place::Place;
 use crate::skip::ANYTHING;
 use crate::skip::wanted;
-use crate::walk::Reached;
+use crate::walk::Stopped;
 use crate::walk::also;
 use crate::walk::wide;
 use answers::Part;
@@ -50,13 +50,13 @@ fn is_resumed(known: Known) -> bool
 }
 
 // The given answer is known where the complements put by hold; the search goes on as after a failure.
-fn resumed(outcome: Outcome) -> Known
+fn resumed(outcome: Finding) -> Known
     ensures { λ r. ⌜ r ≡ resumedAs outcome ⌝ }
 {
     match outcome {
-        Outcome::Found => Known::Ended(Outcome::Failed),
-        Outcome::Failed => Known::Unknown,
-        Outcome::Spent => Known::Ended(Outcome::Spent),
+        Finding::Found => Known::Ended(Finding::Failed),
+        Finding::Failed => Known::Unknown,
+        Finding::Spent => Known::Ended(Finding::Spent),
     }
 }
 
@@ -155,7 +155,7 @@ fn further(
     node: usize,
     marks: Marks,
     place: Place,
-) -> Outcome
+) -> Finding
     requires { ⌜ Holding (length (now pattern)) (length (now «record»)) (now assigned) (now parts) (now stack) marks place ⌝ }
     requires { ⌜ Ready (length (now pattern)) v place × (bit (now assigned) v ≡ false) ⌝ }
     requires { ⌜ (n ≤ place .elements) × (place .node ≤ node) × (node ≤ length (now «record»)) ⌝ }
@@ -163,10 +163,10 @@ fn further(
     ensures { λ r. ⌜ FurtherIs (input table classes pattern «record») (lent assigned left parts stack) v n (node - place .node) marks place r ⌝ }
 {
     if place.elements <= n {
-        return Outcome::Failed;
+        return Finding::Failed;
     }
     if *left == 0 {
-        return Outcome::Spent;
+        return Finding::Spent;
     }
     *left = *left - 1;
     let end = node + extent(table, &record[node..]);
@@ -204,7 +204,7 @@ fn pairs(
     left: u32,
     marks: Marks,
     start: Place,
-) -> Reached
+) -> Stopped
     requires { ⌜ Holding (length (now pattern)) (length (now «record»)) assigned (now parts) (now stack) marks start ⌝ }
     requires { ⌜ Short (now pattern) (now «record») ⌝ }
     ensures { λ r. ⌜ PairsAre (input table classes pattern «record») (handed assigned left parts stack) marks start (new parts) (new stack) r ⌝ }
@@ -270,7 +270,7 @@ pub(crate) fn given_rest(
     *assigned = walked.assigned;
     match stop {
         Stop::Failure => Known::Unknown,
-        Stop::NoAllowance => Known::Ended(Outcome::Spent),
+        Stop::NoAllowance => Known::Ended(Finding::Spent),
         Stop::NoPair => resumed(start_level(
             table,
             classes,
@@ -321,7 +321,7 @@ fn given_length(
     ensures { λ r. ⌜ GivenFollows (input table classes pattern «record») (old given) (lent assigned left parts stack) (Stop.RunName v) marks place r ⌝ }
 {
     if *left == 0 {
-        return Known::Ended(Outcome::Spent);
+        return Known::Ended(Finding::Spent);
     }
     *left = *left - 1;
     let length = given[v];

@@ -1,8 +1,8 @@
 // A level that halts reports where its pairs stop, as the numbers of three parts.
-use crate::Outcome;
+use crate::Finding;
 use crate::marks::Marks;
 use crate::place::Place;
-use crate::walk::Reached;
+use crate::walk::Stopped;
 use crate::walk::wide;
 use answers::Part;
 use parts::PARTS;
@@ -15,14 +15,14 @@ ghost use Rattle.term.specs.Moment.{old, new};
 ghost use Rattle.search.specs.Inner.Halts.{haltedAs, runOf, stopIn, reportedBy, Reports};
 
 // The outcome of a level that halts.
-fn halted(stop: Stop) -> Outcome
+fn halted(stop: Stop) -> Finding
     ensures { λ r. ⌜ r ≡ haltedAs stop ⌝ }
 {
     match stop {
-        Stop::Failure => Outcome::Failed,
-        Stop::NoAllowance => Outcome::Spent,
-        Stop::NoPair => Outcome::Found,
-        Stop::RunName(_) => Outcome::Found,
+        Stop::Failure => Finding::Failed,
+        Stop::NoAllowance => Finding::Spent,
+        Stop::NoPair => Finding::Found,
+        Stop::RunName(_) => Finding::Found,
     }
 }
 
@@ -39,7 +39,7 @@ fn run_of(stop: Stop) -> usize
 }
 
 // Where a level halts, as the numbers of three parts.
-pub(crate) fn report(parts: &mut [u64; PARTS], stop: Stop, marks: Marks, place: Place) -> Outcome
+pub(crate) fn report(parts: &mut [u64; PARTS], stop: Stop, marks: Marks, place: Place) -> Finding
     ensures { λ r. ⌜ Reports (old parts) stop marks place r (new parts) ⌝ }
 {
     parts[VARIABLES + 2] = packed(Part::bound(marks.waiting, run_of(stop), 0));
@@ -49,13 +49,13 @@ pub(crate) fn report(parts: &mut [u64; PARTS], stop: Stop, marks: Marks, place: 
 }
 
 // The stop of an outcome, at a run name or none.
-fn stop_of(outcome: Outcome, run: u16) -> Stop
+fn stop_of(outcome: Finding, run: u16) -> Stop
     ensures { λ r. ⌜ r ≡ stopIn outcome run ⌝ }
 {
     match outcome {
-        Outcome::Failed => Stop::Failure,
-        Outcome::Spent => Stop::NoAllowance,
-        Outcome::Found => {
+        Finding::Failed => Stop::Failure,
+        Finding::Spent => Stop::NoAllowance,
+        Finding::Found => {
             if (run as usize) < VARIABLES {
                 return Stop::RunName((run % 256) as u8);
             }
@@ -67,11 +67,11 @@ fn stop_of(outcome: Outcome, run: u16) -> Stop
 // What a level that halts reported.
 pub(crate) fn reported(
     parts: &[u64; PARTS],
-    outcome: Outcome,
+    outcome: Finding,
     left: u32,
     assigned: u64,
     first: usize,
-) -> Reached
+) -> Stopped
     ensures { λ r. ⌜ r ≡ reportedBy (old parts) outcome left assigned first ⌝ }
 {
     let here = unpacked(parts[VARIABLES]);
@@ -89,7 +89,7 @@ pub(crate) fn reported(
         at: here.length as usize,
         node: here.offset as usize,
     };
-    Reached::of(
+    Stopped::of(
         stop_of(outcome, put_by.length),
         left,
         assigned,

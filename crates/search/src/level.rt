@@ -1,6 +1,6 @@
 // The search of a level: its pairs, the lengths of its run names and its complements, each of which is a level of its own.
-use crate::Outcome;
-use crate::first::First;
+use crate::Finding;
+use crate::first::FirstPair;
 use crate::first::at_once;
 use crate::halt::report;
 use crate::is_failed;
@@ -67,7 +67,7 @@ pub(crate) fn level(
     queue: Queue,
     remaining: Remaining,
     next: Next,
-) -> Outcome
+) -> Finding
     requires { ⌜ BegunAt (length (now pattern)) (length (now «record»)) (now assigned) (now parts) (now stack) v halts least nodes queue remaining next ⌝ }
     requires { ⌜ Short (now pattern) (now «record») ⌝ }
     ensures { λ r. ⌜ LevelsAt (input table classes pattern «record») (lent assigned left parts stack) v halts least nodes queue remaining next r ⌝ }
@@ -99,7 +99,7 @@ pub(crate) fn level(
             break x;
         }
         if *left == 0 {
-            break Outcome::Spent;
+            break Finding::Spent;
         }
         let k = lengthen(
             table,
@@ -115,7 +115,7 @@ pub(crate) fn level(
         );
         *left = k.left;
         if k.over {
-            break Outcome::Failed;
+            break Finding::Failed;
         }
         place = k.place;
     };
@@ -135,7 +135,7 @@ pub(crate) fn start_level(
     left: &mut u32,
     marks: Marks,
     start: Place,
-) -> Outcome
+) -> Finding
     requires { ⌜ Holding (length (now pattern)) (length (now «record»)) (now assigned) (now parts) (now stack) marks start ⌝ }
     requires { ⌜ Short (now pattern) (now «record») ⌝ }
     ensures { λ r. ⌜ RestIs (input table classes pattern «record») (lent assigned left parts stack) marks start r ⌝ }
@@ -173,7 +173,7 @@ fn rest(
     halts: bool,
     marks: Marks,
     start: Place,
-) -> Outcome
+) -> Finding
     requires { ⌜ Holding (length (now pattern)) (length (now «record»)) (now assigned) (now parts) (now stack) marks start ⌝ }
     requires { ⌜ Short (now pattern) (now «record») ⌝ }
     ensures { λ r. ⌜ RestBy halts (input table classes pattern «record») (lent assigned left parts stack) marks start r ⌝ }
@@ -196,7 +196,7 @@ fn rest(
     let end = w.place;
     *left = w.left;
     if is_failure(stop) {
-        return Outcome::Failed;
+        return Finding::Failed;
     }
     *assigned = w.assigned;
     if halts {
@@ -230,15 +230,15 @@ fn follow(
     stop: Stop,
     marks: Marks,
     place: Place,
-) -> Outcome
+) -> Finding
     requires { ⌜ Holding (length (now pattern)) (length (now «record»)) (now assigned) (now parts) (now stack) marks place ⌝ }
     requires { ⌜ StopsAt (length (now pattern)) place stop × Unassigned (now assigned) stop ⌝ }
     requires { ⌜ Short (now pattern) (now «record») ⌝ }
     ensures { λ r. ⌜ FollowIs (input table classes pattern «record») (lent assigned left parts stack) stop marks place r ⌝ }
 {
     match stop {
-        Stop::Failure => Outcome::Failed,
-        Stop::NoAllowance => Outcome::Spent,
+        Stop::Failure => Finding::Failed,
+        Stop::NoAllowance => Finding::Spent,
         Stop::NoPair => complements(
             table,
             classes,
@@ -279,14 +279,14 @@ fn lengths(
     v: u8,
     marks: Marks,
     place: Place,
-) -> Outcome
+) -> Finding
     requires { ⌜ Holding (length (now pattern)) (length (now «record»)) (now assigned) (now parts) (now stack) marks place ⌝ }
     requires { ⌜ StopsAt (length (now pattern)) place (Stop.RunName v) × Unassigned (now assigned) (Stop.RunName v) ⌝ }
     requires { ⌜ Short (now pattern) (now «record») ⌝ }
     ensures { λ r. ⌜ FollowIs (input table classes pattern «record») (lent assigned left parts stack) (Stop.RunName v) marks place r ⌝ }
 {
     if *left == 0 {
-        return Outcome::Spent;
+        return Finding::Spent;
     }
     let past = place.passed(0, 1, 0);
     let want = wanted(table, pattern, parts, *assigned, past.children, past.at);
@@ -303,7 +303,7 @@ fn lengths(
     );
     *left = *left - 1 - k.count;
     if k.over {
-        return Outcome::Failed;
+        return Finding::Failed;
     }
     let first = past.behind(k.lengths, k.node);
     let i = wide(v);
@@ -340,7 +340,7 @@ fn complement(
     left: &mut u32,
     c: u32,
     marks: Marks,
-) -> Outcome
+) -> Finding
     requires { ⌜ Testable (length (now pattern)) (length (now «record»)) (now assigned) (now parts) (now stack) marks (putByIn c) ⌝ }
     requires { ⌜ Short (now pattern) (now «record») ⌝ }
     ensures { λ r. ⌜ ComplementIs (input table classes pattern «record») (lent assigned left parts stack) (putByIn c) marks r ⌝ }
@@ -359,7 +359,7 @@ fn complement(
         node,
         *left,
     );
-    if let First::Decided(outcome) = first {
+    if let FirstPair::Decided(outcome) = first {
         *left = *left - 1;
         return opposite(outcome);
     }
@@ -388,7 +388,7 @@ fn complements(
     assigned: &mut u64,
     left: &mut u32,
     marks: Marks,
-) -> Outcome
+) -> Finding
     requires { ⌜ Resting (length (now pattern)) (length (now «record»)) (now assigned) (now parts) (now stack) marks ⌝ }
     requires { ⌜ Short (now pattern) (now «record») ⌝ }
     ensures { λ r. ⌜ ComplementsAre (input table classes pattern «record») (lent assigned left parts stack) marks r ⌝ }
@@ -416,5 +416,5 @@ fn complements(
         }
         i = i + 1;
     }
-    Outcome::Found
+    Finding::Found
 }

@@ -13,7 +13,7 @@ mod show;
 mod skip;
 mod walk;
 
-use crate::first::First;
+use crate::first::FirstPair;
 use crate::first::first_pair;
 use crate::given::given_rest;
 use crate::given::left_of;
@@ -37,7 +37,7 @@ ghost use Rattle.search.specs.Shown.{shownIn};
 ghost use Rattle.search.specs.Inner.Replies.{found, turned};
 
 // How a search ended.
-pub enum Outcome {
+pub enum Finding {
     Found,
     Failed,
     Spent,
@@ -45,13 +45,13 @@ pub enum Outcome {
 
 // How a search ended, and the allowance left.
 pub struct Ended {
-    pub outcome: Outcome,
+    pub outcome: Finding,
     pub left: u32,
 }
 
 // The search after a given answer ends; or the lengths given belong to no answer.
 pub enum Known {
-    Ended(Outcome),
+    Ended(Finding),
     Unknown,
 }
 
@@ -61,34 +61,34 @@ pub struct Followed {
     pub left: u32,
 }
 
-fn is_failed(outcome: Outcome) -> bool
+fn is_failed(outcome: Finding) -> bool
     ensures { λ r. ⌜ r ≡ failed outcome ⌝ }
 {
     match outcome {
-        Outcome::Found => false,
-        Outcome::Failed => true,
-        Outcome::Spent => false,
+        Finding::Found => false,
+        Finding::Failed => true,
+        Finding::Spent => false,
     }
 }
 
-fn is_found(outcome: Outcome) -> bool
+fn is_found(outcome: Finding) -> bool
     ensures { λ r. ⌜ r ≡ found outcome ⌝ }
 {
     match outcome {
-        Outcome::Found => true,
-        Outcome::Failed => false,
-        Outcome::Spent => false,
+        Finding::Found => true,
+        Finding::Failed => false,
+        Finding::Spent => false,
     }
 }
 
 // A complement holds where the search of its inside fails.
-fn opposite(outcome: Outcome) -> Outcome
+fn opposite(outcome: Finding) -> Finding
     ensures { λ r. ⌜ r ≡ turned outcome ⌝ }
 {
     match outcome {
-        Outcome::Found => Outcome::Failed,
-        Outcome::Failed => Outcome::Found,
-        Outcome::Spent => Outcome::Spent,
+        Finding::Found => Finding::Failed,
+        Finding::Failed => Finding::Found,
+        Finding::Spent => Finding::Spent,
     }
 }
 
@@ -106,19 +106,19 @@ pub fn search(
 {
     if LONGEST_PATTERN < pattern.len() {
         return Ended {
-            outcome: Outcome::Failed,
+            outcome: Finding::Failed,
             left: allowance,
         };
     }
     if LONGEST_RECORD < record.len() {
         return Ended {
-            outcome: Outcome::Failed,
+            outcome: Finding::Failed,
             left: allowance,
         };
     }
     // No buffer is made where the first pair decides: most rules of a sheet fail there.
     let first = first_pair(table, classes, pattern, record, 0, allowance);
-    if let First::Decided(outcome) = first {
+    if let FirstPair::Decided(outcome) = first {
         show_unassigned(outcome, answer);
         return Ended {
             outcome: outcome,

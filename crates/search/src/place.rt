@@ -2,7 +2,7 @@
 ghost use mathlib.Core.Path.{_≡_};
 ghost use Prim.Native.Nat.{_+_, _-_, _≤_, _<_};
 ghost use Rattle.term.specs.Limits.{longestRecord, longestPattern};
-ghost use Rattle.search.specs.State.{place, remainingIn, nextIn, placeFrom, frame, putBy, placePast, entered, reopened};
+ghost use Rattle.search.specs.State.{place, remainingIn, nextIn, placeFrom, remaining, putBy, placePast, entered, reopened};
 ghost use Rattle.search.specs.Inner.Memory.{stackPlaces, frameIn, outer, putByIn};
 ghost use Rattle.search.specs.Inner.Skips.{behindIn};
 
@@ -71,7 +71,7 @@ impl Place {
     // What is left of the node that is open here, once a child of it is entered, and the link to the one around it.
     pub(crate) fn frame(self, inner: usize) -> u32
         requires { ⌜ (0 < self .children) × (0 < self .elements) × (inner ≤ stackPlaces) ⌝ }
-        ensures { λ r. ⌜ (frameIn r ≡ frame (self .children - 1) (self .elements - 1)) × (outer r ≡ inner) ⌝ }
+        ensures { λ r. ⌜ (frameIn r ≡ remaining (self .children - 1) (self .elements - 1)) × (outer r ≡ inner) ⌝ }
     {
         ((self.children - 1) as usize + 256 * (self.elements - 1) as usize + 65536 * inner) as u32
     }

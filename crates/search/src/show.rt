@@ -1,6 +1,6 @@
 // What is found, in the answer buffer.
+use crate::Finding;
 use crate::Known;
-use crate::Outcome;
 use crate::is_found;
 use parts::PARTS;
 use parts::show;
@@ -15,7 +15,7 @@ ghost use Rattle.search.specs.Following.{shownKnown};
 ghost use Rattle.search.specs.Shown.{shownBy};
 
 // What is found is shown, with all that is assigned or with nothing.
-pub(crate) fn show_found(outcome: Outcome, parts: &[u64; PARTS], assigned: u64, answer: &mut [u16])
+pub(crate) fn show_found(outcome: Finding, parts: &[u64; PARTS], assigned: u64, answer: &mut [u16])
     ensures { λ _. ⌜ new answer ≡ shownBy outcome (partsIn assigned (old parts) 0 variables) (old answer) ⌝ }
 {
     if is_found(outcome) {
@@ -23,7 +23,7 @@ pub(crate) fn show_found(outcome: Outcome, parts: &[u64; PARTS], assigned: u64, 
     }
 }
 
-pub(crate) fn show_unassigned(outcome: Outcome, answer: &mut [u16])
+pub(crate) fn show_unassigned(outcome: Finding, answer: &mut [u16])
     ensures { λ _. ⌜ new answer ≡ shownBy outcome (replicate variables absent) (old answer) ⌝ }
 {
     if is_found(outcome) {

@@ -21,11 +21,11 @@ ghost use Rattle.term.specs.Code.{variables};
 ghost use Rattle.parts.specs.Packed.{packed};
 ghost use Rattle.search.specs.Inner.Memory.{Holding};
 ghost use Rattle.search.specs.Inner.Lent.{input, handed};
-ghost use Rattle.search.specs.Inner.Bounds.{Short, Walks, reached};
+ghost use Rattle.search.specs.Inner.Bounds.{Short, Walks, stopped};
 ghost use Rattle.search.specs.Inner.Onward.{Onward};
 
 // Where the pairs of a level stopped, the allowance left, and what the buffers then hold.
-pub struct Reached {
+pub struct Stopped {
     pub stop: Stop,
     pub left: u32,
     pub assigned: u64,
@@ -33,11 +33,11 @@ pub struct Reached {
     pub place: Place,
 }
 
-impl Reached {
-    pub(crate) fn of(stop: Stop, left: u32, assigned: u64, marks: Marks, place: Place) -> Reached
-        ensures { λ r. ⌜ r ≡ reached stop left assigned marks place ⌝ }
+impl Stopped {
+    pub(crate) fn of(stop: Stop, left: u32, assigned: u64, marks: Marks, place: Place) -> Stopped
+        ensures { λ r. ⌜ r ≡ stopped stop left assigned marks place ⌝ }
     {
-        Reached {
+        Stopped {
             stop: stop,
             left: left,
             assigned: assigned,
@@ -90,7 +90,7 @@ fn walk(
     mut left: u32,
     mut marks: Marks,
     mut place: Place,
-) -> Reached
+) -> Stopped
     requires { ⌜ Holding (length (now pattern)) (length (now «record»)) assigned (now parts) (now stack) marks place ⌝ }
     requires { ⌜ Short (now pattern) (now «record») ⌝ }
     ensures { λ r. ⌜ Walks (input table classes pattern «record») (handed assigned left parts stack) marks place (new parts) (new stack) r ⌝ }
@@ -142,7 +142,7 @@ fn walk(
             }
         }
     };
-    Reached::of(stop, left, assigned, marks, place)
+    Stopped::of(stop, left, assigned, marks, place)
 }
 
 // The pairs of a level up to a run name that leaves a choice. One that is the last child pattern of its node takes all elements left: each shorter
@@ -159,7 +159,7 @@ pub(crate) fn onward(
     halts: bool,
     mut marks: Marks,
     mut place: Place,
-) -> Reached
+) -> Stopped
     requires { ⌜ Holding (length (now pattern)) (length (now «record»)) assigned (now parts) (now stack) marks place ⌝ }
     requires { ⌜ Short (now pattern) (now «record») ⌝ }
     ensures { λ r. ⌜ Onward halts (input table classes pattern «record») (handed assigned left parts stack) marks place (new parts) (new stack) r ⌝ }
@@ -191,7 +191,7 @@ pub(crate) fn onward(
         let node = end.node;
         let n = end.elements;
         if w.left <= n as u32 {
-            return Reached::of(Stop::NoAllowance, 0, w.assigned, w.marks, end);
+            return Stopped::of(Stop::NoAllowance, 0, w.assigned, w.marks, end);
         }
         let size = extents(table, &record[node..], n);
         left = w.left - 1 - n as u32;

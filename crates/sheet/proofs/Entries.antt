@@ -15,8 +15,8 @@ use Rattle.answers.specs.declared.Refusal.the-variants.{Directory}
 use Rattle.byte_answers.specs.Answers.{checkedNumber, checkedCount, placeOffset}
 use Rattle.byte_answers.specs.declared.Checked.{Checked}
 use Rattle.byte_answers.specs.declared.Checked.the-variants.{Accepted}
-use Rattle.byte_answers.specs.declared.Place.{Place}
-use Rattle.byte_answers.specs.declared.Place.the-variants.{At}
+use Rattle.byte_answers.specs.declared.EntryPlace.{EntryPlace}
+use Rattle.byte_answers.specs.declared.EntryPlace.the-variants.{At}
 use Rattle.term.specs.Limits.{Octets}
 use Rattle.sheet.specs.Sheet.{pastPairs}
 use Rattle.sheet.specs.Check.{entryCount, offsetAt, lengthAt, checkSheet}
@@ -120,7 +120,7 @@ module _ (s : List ℕ) (i : ℕ) where
   unfolding placeOf
   place-passed n e = rw e
 
-  pub place-refused : (r : Refusal) (j : ℕ) → checkEntry s i ≡ Checked.Refused r j → placeOf s i ≡ Place.Refused r
+  pub place-refused : (r : Refusal) (j : ℕ) → checkEntry s i ≡ Checked.Refused r j → placeOf s i ≡ EntryPlace.Refused r
   unfolding placeOf
   place-refused r j e = rw e
 

@@ -9,8 +9,8 @@ use Rattle.answers.specs.declared.Refusal.the-variants.{Directory}
 use Rattle.byte_answers.specs.Answers.{placeOffset, placeLength}
 use Rattle.byte_answers.specs.declared.Checked.{Checked}
 use Rattle.byte_answers.specs.declared.Checked.the-variants.{Accepted}
-use Rattle.byte_answers.specs.declared.Place.{Place}
-use Rattle.byte_answers.specs.declared.Place.the-variants.{At}
+use Rattle.byte_answers.specs.declared.EntryPlace.{EntryPlace}
+use Rattle.byte_answers.specs.declared.EntryPlace.the-variants.{At}
 use Rattle.sheet.specs.Sheet.{pastPairs}
 use Rattle.sheet.specs.Check.{entryCount, offsetAt, lengthAt, checkSheet, andThen}
 
@@ -30,11 +30,11 @@ unfoldable pub checkEntry : List ℕ → ℕ → Checked
 checkEntry s i = andThen (checkSheet s) (λ n. cond (ltb i n) (Accepted n) (Checked.Refused Directory 0))
 
 -- where an entry lies: the directory's offset and length where the check passes, or why it does not
-abbrev pub placeBy : Checked → ℕ → ℕ → Place
+abbrev pub placeBy : Checked → ℕ → ℕ → EntryPlace
 placeBy (Accepted n) offset length = At offset length
-placeBy (Checked.Refused r i) offset length = Place.Refused r
+placeBy (Checked.Refused r i) offset length = EntryPlace.Refused r
 
-unfoldable pub placeOf : List ℕ → ℕ → Place
+unfoldable pub placeOf : List ℕ → ℕ → EntryPlace
 placeOf s i = placeBy (checkEntry s i) (offsetAt s i) (lengthAt s i)
 
 -- reading an entry: the part at its place, and an empty part where the check gives 6 or 9

@@ -1,7 +1,7 @@
 // Sheets of patterns or of records: how they are checked, and read entry by entry.
 use answers::Refusal;
 use byte_answers::Checked;
-use byte_answers::Place;
+use byte_answers::EntryPlace;
 use byte_answers::Read;
 ghost use mathlib.Core.Path.{_≡_};
 ghost use mathlib.Core.Bool.{true};
@@ -153,13 +153,13 @@ pub fn entry(sheet: &[u8], index: usize) -> &[u8]
 }
 
 // Where an entry lies, or the refusal of the check of sheet and index.
-pub fn place_of(sheet: &[u8], index: usize) -> Place
+pub fn place_of(sheet: &[u8], index: usize) -> EntryPlace
     ensures { λ r. ⌜ r ≡ placeOf (old sheet) index ⌝ }
 {
     let checked = check_entry(sheet, index);
     match checked {
-        Checked::Accepted(_) => Place::At(offset_at(sheet, index), length_at(sheet, index)),
-        Checked::Refused(r, _) => Place::Refused(r),
+        Checked::Accepted(_) => EntryPlace::At(offset_at(sheet, index), length_at(sheet, index)),
+        Checked::Refused(r, _) => EntryPlace::Refused(r),
     }
 }
 

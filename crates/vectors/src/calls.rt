@@ -4,7 +4,7 @@
 // A function that is called `with` something reads the fields of the calls of one kind, one that is called `of` something makes the call and
 // shows the outcome as text: nothing where it has no such call or its fields can't be read.
 use crate::shown;
-use crate::shown::Answered;
+use crate::shown::Reply;
 use crate::shown::Shown;
 use crate::text;
 use byte_answers::Writing;
@@ -81,17 +81,17 @@ fn match_checked(
     record: &[u8],
     allowance: u32,
     answer: &mut [u16],
-) -> Answered {
+) -> Reply {
     match call {
         MATCH_CHECKED => {
             let one = matcher::match_checked(table, classes, rule, record, allowance, answer);
-            Answered::ByRule(one)
+            Reply::ByRule(one)
         }
         MATCH_RULES_CHECKED => {
             let first = rules::match_rules_checked(table, classes, rule, record, allowance, answer);
-            Answered::BySheet(first)
+            Reply::BySheet(first)
         }
-        _ => Answered::Nothing,
+        _ => Reply::Nothing,
     }
 }
 
@@ -104,23 +104,23 @@ fn match_by_symbol(
     given: &[u16],
     allowance: u32,
     answer: &mut [u16],
-) -> Answered {
+) -> Reply {
     match call {
         MATCH_ONE => {
             let one = matcher::match_one(table, rule, record, allowance, answer);
-            Answered::ByRule(one)
+            Reply::ByRule(one)
         }
         NEXT => {
             let next = matcher::next(table, rule, record, given, allowance, answer);
-            Answered::ByRule(next)
+            Reply::ByRule(next)
         }
         MATCH_RULES => {
             let first = rules::match_rules(table, rule, record, allowance, answer);
-            Answered::BySheet(first)
+            Reply::BySheet(first)
         }
         MATCH_PLAIN => {
             let one = plain::match_plain(table, rule, record, answer);
-            Answered::ByRule(one)
+            Reply::ByRule(one)
         }
         _ => match_checked(call, table, &table[..0], rule, record, allowance, answer),
     }
@@ -136,23 +136,23 @@ fn match_by_class(
     given: &[u16],
     allowance: u32,
     answer: &mut [u16],
-) -> Answered {
+) -> Reply {
     match call {
         MATCH_ONE => {
             let one = match_one_with_classes(table, classes, rule, record, allowance, answer);
-            Answered::ByRule(one)
+            Reply::ByRule(one)
         }
         NEXT => {
             let next = next_with_classes(table, classes, rule, record, given, allowance, answer);
-            Answered::ByRule(next)
+            Reply::ByRule(next)
         }
         MATCH_RULES => {
             let first = match_rules_with_classes(table, classes, rule, record, allowance, answer);
-            Answered::BySheet(first)
+            Reply::BySheet(first)
         }
         MATCH_PLAIN => {
             let one = match_plain_with_classes(table, classes, rule, record, answer);
-            Answered::ByRule(one)
+            Reply::ByRule(one)
         }
         _ => match_checked(call, table, classes, rule, record, allowance, answer),
     }
@@ -169,7 +169,7 @@ fn match_brought(
     given: &[u16],
     allowance: u32,
     answer: &mut [u16],
-) -> Answered {
+) -> Reply {
     if brings {
         return match_by_class(call, table, classes, rule, record, given, allowance, answer);
     }

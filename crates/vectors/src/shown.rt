@@ -4,8 +4,8 @@ use answers::Answer;
 use answers::Cost;
 use answers::RuleAnswer;
 use byte_answers::Checked;
+use byte_answers::EntryPlace;
 use byte_answers::Move;
-use byte_answers::Place;
 use byte_answers::Read;
 
 // The numbers of an entry, the entries of an answer, and those of the buffer around it.
@@ -40,7 +40,7 @@ pub struct Shown {
 }
 
 // What a call of the match answers, of one rule or of a rule sheet; nothing where there is no such call.
-pub enum Answered {
+pub enum Reply {
     Nothing,
     ByRule(Answer),
     BySheet(RuleAnswer),
@@ -196,11 +196,11 @@ pub fn show_cost(cost: Cost) -> Shown {
 }
 
 // The answer of a call that is known.
-pub fn show_answered(answered: Answered, buffer: &[u16; BUFFER]) -> Shown {
+pub fn show_answered(answered: Reply, buffer: &[u16; BUFFER]) -> Shown {
     match answered {
-        Answered::Nothing => nothing(),
-        Answered::ByRule(answer) => show_answer(answer, buffer),
-        Answered::BySheet(answer) => show_rule_answer(answer, buffer),
+        Reply::Nothing => nothing(),
+        Reply::ByRule(answer) => show_answer(answer, buffer),
+        Reply::BySheet(answer) => show_rule_answer(answer, buffer),
     }
 }
 
@@ -243,10 +243,10 @@ pub fn show_checked(checked: Checked) -> Shown {
     }
 }
 
-pub fn show_place(place: Place) -> Shown {
+pub fn show_place(place: EntryPlace) -> Shown {
     match place {
-        Place::At(offset, length) => show_two(b" at ", offset as u64, length as u64),
-        Place::Refused(r) => show_number(b" refused ", r.number() as u64),
+        EntryPlace::At(offset, length) => show_two(b" at ", offset as u64, length as u64),
+        EntryPlace::Refused(r) => show_number(b" refused ", r.number() as u64),
     }
 }
 

@@ -13,7 +13,7 @@ use Rattle.search.specs.declared.place.Place.{Place}
 use Rattle.search.specs.declared.marks.Marks.{Marks}
 use Rattle.steps.specs.declared.Stop.{Stop}
 use Rattle.steps.specs.declared.Stop.the-variants.{Failure, NoAllowance, NoPair, RunName}
-use Rattle.search.specs.declared.walk.Reached.{Reached}
+use Rattle.search.specs.declared.walk.Stopped.{Stopped}
 
 -- pattern and record keep document 01's limits
 pub record Short (pattern bytes : List ℕ) : Type 0 where
@@ -21,8 +21,8 @@ pub record Short (pattern bytes : List ℕ) : Type 0 where
   pub of-record : length bytes ≤ longestRecord
 
 -- where a walk stopped
-abbrev pub reached : Stop → ℕ → ℕ → Marks → Place → Reached
-reached stop left assigned m p = record { stop = stop; left = left; assigned = assigned; marks = m; place = p }
+abbrev pub stopped : Stop → ℕ → ℕ → Marks → Place → Stopped
+stopped stop left assigned m p = record { stop = stop; left = left; assigned = assigned; marks = m; place = p }
 
 -- a run name
 pub record Ready (codes v : ℕ) (p : Place) : Type 0 where
@@ -54,7 +54,7 @@ pub record Moved (i : Handed) (e : Lent) (m : Marks) (p : Place) (x : Lent) (k :
   pub further : p .at ≤ q .at
 
 -- the pairs stop in a state of which something is so
-pub record Reaches (i : Handed) (e : Lent) (m : Marks) (p : Place) (parts stack : List ℕ) (r : Reached) (So : State → Type 0) : Type 0 where
+pub record Reaches (i : Handed) (e : Lent) (m : Marks) (p : Place) (parts stack : List ℕ) (r : Stopped) (So : State → Type 0) : Type 0 where
   pub end : State
   pub so : So end
   pub moved : Moved i e m p (lentOf (r .assigned) (r .left) parts stack) (r .marks) (r .place) end
@@ -62,10 +62,10 @@ pub record Reaches (i : Handed) (e : Lent) (m : Marks) (p : Place) (parts stack 
   pub unassigned : Unassigned (r .assigned) (r .stop)
 
 -- that the walk from the state s ends there
-abbrev pub WalkIs : Handed → Lent → Marks → Place → List ℕ → List ℕ → Reached → State → Type 0
+abbrev pub WalkIs : Handed → Lent → Marks → Place → List ℕ → List ℕ → Stopped → State → Type 0
 WalkIs i e m p parts stack r s =
     Reaches i e m p parts stack r
     (λ end. walkOf turns (i .table) (i .classes) (i .pattern) (i .bytes) s (e .left) ≡ walked (r .stop) (r .left) end)
 
-abbrev pub Walks : Handed → Lent → Marks → Place → List ℕ → List ℕ → Reached → Type 0
+abbrev pub Walks : Handed → Lent → Marks → Place → List ℕ → List ℕ → Stopped → Type 0
 Walks i e m p parts stack r = (s : State) → Held i e m p s → WalkIs i e m p parts stack r s

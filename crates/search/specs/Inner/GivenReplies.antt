@@ -14,8 +14,8 @@ use Rattle.search.specs.Inner.Replies.{replyOf, replyIn, Replies}
 use Rattle.search.specs.declared.place.Place.{Place}
 use Rattle.search.specs.declared.marks.Marks.{Marks}
 use Rattle.steps.specs.declared.Stop.{Stop}
-use Rattle.search.specs.declared.Outcome.{Outcome}
-use Rattle.search.specs.declared.Outcome.the-variants.{Found, Failed, Spent}
+use Rattle.search.specs.declared.Finding.{Finding}
+use Rattle.search.specs.declared.Finding.the-variants.{Found, Failed, Spent}
 use Rattle.search.specs.declared.Known.{Known}
 use Rattle.search.specs.declared.Known.the-variants.{Ended, Unknown}
 
@@ -23,7 +23,7 @@ abbrev pub resuming : Known → Bool
 resuming (Ended outcome) = failed outcome
 resuming Unknown = false
 
-abbrev pub resumedAs : Outcome → Known
+abbrev pub resumedAs : Finding → Known
 resumedAs Found = Ended Failed
 resumedAs Failed = Unknown
 resumedAs Spent = Ended Spent
@@ -45,7 +45,7 @@ abbrev pub givenIn : Handed → List ℕ → ℕ → State → ℕ → Pass
 givenIn i g n = givenOf n (i .table) (i .classes) (i .bytes) (i .pattern) g
 
 -- the lengths after n, which has so many bytes
-abbrev pub FurtherIs : Handed → Change → ℕ → ℕ → ℕ → Marks → Place → Outcome → Type 0
+abbrev pub FurtherIs : Handed → Change → ℕ → ℕ → ℕ → Marks → Place → Finding → Type 0
 FurtherIs i c v n size m p outcome =
     Replies replyIn i c m p outcome (levels (i .pattern) (p .at) - 1)
     (λ s k. furtherOf (levelIn i k) (i .table) (i .bytes) v s (p .elements - n) n size (c .before .left))

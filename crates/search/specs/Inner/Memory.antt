@@ -9,7 +9,8 @@ use Rattle.answers.specs.Part.{isAbsent}
 use Rattle.term.specs.Code.{variables}
 use Rattle.term.specs.Limits.{longestPattern}
 use Rattle.parts.specs.Packed.{bit, partIn, partPlaces}
-use Rattle.search.specs.State.{Frame, PutBy, State, frame, putBy, partInState}
+use Rattle.search.specs.State.{PutBy, State, remaining, putBy, partInState}
+use Rattle.search.specs.declared.place.Remaining.{Remaining}
 use Rattle.search.specs.declared.place.Place.{Place}
 use Rattle.search.specs.declared.marks.Marks.{Marks}
 use Rattle.search.specs.declared.marks.Nodes.{Nodes}
@@ -37,8 +38,8 @@ marksOf n q = marks (n .inner) (n .frames) (q .first) (q .waiting)
 
 -- Open nodes, from the front of the stack: each is a number, with 1 more than the place of the one around it, or 0
 
-abbrev pub frameIn : ℕ → Frame
-frameIn x = frame (x % 256) (x / 256 % 256)
+abbrev pub frameIn : ℕ → Remaining
+frameIn x = remaining (x % 256) (x / 256 % 256)
 
 abbrev pub outer : ℕ → ℕ
 outer x = x / 65536
@@ -50,7 +51,7 @@ openedMarks m = marks (m .frames + 1) (m .frames + 1) (m .first) (m .waiting)
 -- what is left of the node open here, once a child of it is entered, goes on the stack
 pub record FramePushed (m : Marks) (p : Place) (stack stack′ : List ℕ) (r : Marks) : Type 0 where
   pub number : ℕ
-  pub is : frameIn number ≡ frame (p .children - 1) (p .elements - 1)
+  pub is : frameIn number ≡ remaining (p .children - 1) (p .elements - 1)
   pub link : outer number ≡ m .inner
   pub written : stack′ ≡ set stack (m .frames) number
   pub marks : r ≡ openedMarks m
@@ -60,7 +61,7 @@ abbrev pub closedMarks : Marks → ℕ → Marks
 closedMarks m x = marks (outer x) (m .frames) (m .first) (m .waiting)
 
 -- those from the one at inner - 1 outwards
-abbrev pub Linked : List ℕ → ℕ → List Frame → Type 0
+abbrev pub Linked : List ℕ → ℕ → List Remaining → Type 0
 Linked stack inner [] = inner ≡ 0
 Linked stack inner (f ∷ fs) =
     (0 < inner) × (frameIn (getD stack (inner - 1) 0) ≡ f) × (outer (getD stack (inner - 1) 0) < inner) × Linked stack (outer (getD stack (inner - 1) 0)) fs

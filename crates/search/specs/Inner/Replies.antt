@@ -18,11 +18,11 @@ use Rattle.search.specs.declared.place.Place.{Place}
 use Rattle.search.specs.declared.marks.Marks.{Marks}
 use Rattle.steps.specs.declared.Stop.{Stop}
 use Rattle.steps.specs.declared.Stop.the-variants.{Failure, NoAllowance, NoPair, RunName}
-use Rattle.search.specs.declared.Outcome.{Outcome}
-use Rattle.search.specs.declared.Outcome.the-variants.{Found, Failed, Spent}
+use Rattle.search.specs.declared.Finding.{Finding}
+use Rattle.search.specs.declared.Finding.the-variants.{Found, Failed, Spent}
 use Rattle.search.specs.declared.Ended.{Ended}
-use Rattle.search.specs.declared.first.First.{First}
-use Rattle.search.specs.declared.first.First.the-variants.{Decided, Unsure}
+use Rattle.search.specs.declared.first.FirstPair.{FirstPair}
+use Rattle.search.specs.declared.first.FirstPair.the-variants.{Decided, Unsure}
 
 abbrev pub failure : Stop → Bool
 failure Failure = true
@@ -30,24 +30,24 @@ failure NoAllowance = false
 failure NoPair = false
 failure (RunName v) = false
 
-abbrev pub found : Outcome → Bool
+abbrev pub found : Finding → Bool
 found Found = true
 found Failed = false
 found Spent = false
 
-abbrev pub turned : Outcome → Outcome
+abbrev pub turned : Finding → Finding
 turned Found = Failed
 turned Failed = Found
 turned Spent = Spent
 
 -- the reply that outcome, allowance and parts shown stand for
-abbrev pub replyWith : Outcome → ℕ → List Part → Reply
+abbrev pub replyWith : Finding → ℕ → List Part → Reply
 replyWith Found left shown = reply Found left shown
 replyWith Failed left shown = failedAt left
 replyWith Spent left shown = spentAt left
 
 -- the same by mask and parts
-abbrev pub replyOf : Outcome → ℕ → ℕ → List ℕ → Reply
+abbrev pub replyOf : Finding → ℕ → ℕ → List ℕ → Reply
 replyOf outcome left assigned parts = replyWith outcome left (partsIn assigned parts 0 variables)
 
 -- Lengths
@@ -69,7 +69,7 @@ triesOf lv table bytes v s (suc k) n size left =
 -- What is asked for
 
 -- a variable that is not assigned, or the number after the last for none
-pub record Free (assigned v : ℕ) : Type 0 where
+pub record Assignable (assigned v : ℕ) : Type 0 where
   pub below : v ≤ variables
   pub free : v < variables → bit assigned v ≡ false
 
@@ -94,23 +94,23 @@ pub record Testable (codes bytes assigned : ℕ) (parts stack : List ℕ) (m : M
 -- The first pair
 
 -- the search of the level from a node counts its first pair and no other
-pub record EndsAtOnce (table classes pattern bytes : List ℕ) (node left : ℕ) (outcome : Outcome) : Type 0 where
+pub record EndsAtOnce (table classes pattern bytes : List ℕ) (node left : ℕ) (outcome : Finding) : Type 0 where
   pub some : 0 < left
   pub ends : (shown : List Part) (n : ℕ) → 0 < n
       → levelOf n table classes bytes pattern (startOf shown node) left ≡ replyWith outcome (left - 1) shown
 
 -- what the first pair decides alone
-abbrev pub Decides : List ℕ → List ℕ → List ℕ → List ℕ → ℕ → ℕ → First → Type 0
+abbrev pub Decides : List ℕ → List ℕ → List ℕ → List ℕ → ℕ → ℕ → FirstPair → Type 0
 Decides table classes pattern bytes node left (Decided outcome) = EndsAtOnce table classes pattern bytes node left outcome
 Decides table classes pattern bytes node left Unsure = Unit {0}
 
 -- the same within a complement, where the buffers hold what is assigned; what is assigned there is dropped
-pub record EndsInside (table classes pattern bytes : List ℕ) (assigned : ℕ) (parts : List ℕ) (node left : ℕ) (outcome : Outcome) : Type 0 where
+pub record EndsInside (table classes pattern bytes : List ℕ) (assigned : ℕ) (parts : List ℕ) (node left : ℕ) (outcome : Finding) : Type 0 where
   pub some : 0 < left
   pub ends : (shown : List Part) → ((v : ℕ) → v < variables → getD shown v (part 0 0 0) ≡ partIn assigned parts v) → (n : ℕ) → 0 < n
       → endOf (levelOf n table classes bytes pattern (startOf shown node) left) ≡ record { outcome = outcome; left = left - 1 }
 
-abbrev pub DecidesInside : List ℕ → List ℕ → List ℕ → List ℕ → ℕ → List ℕ → ℕ → ℕ → First → Type 0
+abbrev pub DecidesInside : List ℕ → List ℕ → List ℕ → List ℕ → ℕ → List ℕ → ℕ → ℕ → FirstPair → Type 0
 DecidesInside table classes pattern bytes assigned parts node left (Decided outcome) = EndsInside table classes pattern bytes assigned parts node left outcome
 DecidesInside table classes pattern bytes assigned parts node left Unsure = Unit {0}
 
@@ -123,24 +123,24 @@ pub record Replies {E X : Type 0} (stands : E → Lent → X) (i : Handed) (c : 
   pub replies : (s : State) → Held i (c .before) m p s → (n : ℕ) → enough ≤ n → stands end (c .after) ≡ means s n
   pub kept : Keeps (c .before) m (c .after)
 
-abbrev pub replyIn : Outcome → Lent → Reply
+abbrev pub replyIn : Finding → Lent → Reply
 replyIn outcome x = replyOf outcome (x .left) (x .assigned) (x .parts)
 
 -- of a level whose variable v has its first elements, of so many bytes, and may have more
-abbrev pub LevelIs : Handed → Change → ℕ → ℕ → ℕ → ℕ → Marks → Place → Outcome → Type 0
+abbrev pub LevelIs : Handed → Change → ℕ → ℕ → ℕ → ℕ → Marks → Place → Finding → Type 0
 LevelIs i c v first size most m p outcome =
     Replies replyIn i c m p outcome (levels (i .pattern) (p .at))
     (λ s n. triesOf (levelIn i n) (i .table) (i .bytes) v s (most - first) first size (c .before .left))
 
 -- of the rest of a level
-abbrev pub RestIs : Handed → Change → Marks → Place → Outcome → Type 0
+abbrev pub RestIs : Handed → Change → Marks → Place → Finding → Type 0
 RestIs i c m p outcome = Replies replyIn i c m p outcome (levels (i .pattern) (p .at)) (λ s n. levelIn i n s (c .before .left))
 
 -- of what follows where the pairs stop
 abbrev pub followIn : Handed → Stop → ℕ → State → ℕ → Reply
 followIn i stop n s left = stopBy stop (levelsIn i n) (i .table) (i .pattern) (i .bytes) s left
 
-abbrev pub FollowIs : Handed → Change → Stop → Marks → Place → Outcome → Type 0
+abbrev pub FollowIs : Handed → Change → Stop → Marks → Place → Finding → Type 0
 FollowIs i c stop m p outcome =
     Replies replyIn i c m p outcome (levels (i .pattern) (p .at) - 1) (λ s n. followIn i stop n s (c .before .left))
 
@@ -148,19 +148,19 @@ FollowIs i c stop m p outcome =
 abbrev pub insideIn : Handed → PutBy → Handed
 insideIn i c = inputOf (i .table) (i .classes) (take (c .size) (drop (c .at + 1) (i .pattern))) (i .bytes)
 
-abbrev pub endIn : Outcome → Lent → Ended
+abbrev pub endIn : Finding → Lent → Ended
 endIn outcome x = record { outcome = outcome; left = x .left }
 
 abbrev pub oppositeOf : Reply → Ended
 oppositeOf r = record { outcome = turned (r .outcome); left = r .left }
 
-abbrev pub ComplementIs : Handed → Change → PutBy → Marks → Outcome → Type 0
+abbrev pub ComplementIs : Handed → Change → PutBy → Marks → Finding → Type 0
 ComplementIs i c d m outcome =
     Replies endIn (insideIn i d) c (inside m) (place 1 1 0 (d .node)) outcome (levels (i .pattern) (length (i .pattern)) - 1)
     (λ s n. oppositeOf (levelIn (insideIn i d) n s (c .before .left)))
 
 -- of those put by, wherever the pairs stopped
-abbrev pub ComplementsAre : Handed → Change → Marks → Outcome → Type 0
+abbrev pub ComplementsAre : Handed → Change → Marks → Finding → Type 0
 ComplementsAre i c m outcome =
     (p : Place) → Replies replyIn i c m p outcome (levels (i .pattern) (length (i .pattern)) - 1)
     (λ s n. complementsOf (levelsIn i n) (i .pattern) (s .parts) (s .waiting) (c .before .left))

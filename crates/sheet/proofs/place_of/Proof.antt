@@ -1,7 +1,7 @@
 -- `sheet::place_of` meets its contract.
 use mathlib.Core.Path.{sym, _∙_, ap₂}
 use borrow.Author.Needs.{needs}
-use Rattle.byte_answers.specs.declared.Place.the-variants.{At}
+use Rattle.byte_answers.specs.declared.EntryPlace.the-variants.{At}
 use Rattle.sheet.proofs.Entries.{pair-within, place-passed, place-refused}
 use Rattle.sheet.proofs.place_of.Statement.{statement}
 use Rattle.sheet.proofs.place_of.Tie as tie

@@ -20,7 +20,7 @@ use Rattle.search.proofs.marks.Marks.closed.Reads as closed-reads
 use Rattle.search.proofs.place.Place.entered.Reads as entered-reads
 use Rattle.search.proofs.place.Place.passed.Reads as passed-reads
 use Rattle.search.proofs.place.Place.reopened.Reads as reopened-reads
-use Rattle.search.proofs.walk.Reached.of.Reads as of-reads
+use Rattle.search.proofs.walk.Stopped.of.Reads as of-reads
 use Rattle.search.proofs.walk.bind.Reads as bind-reads
 use Rattle.search.proofs.marks.push_complement.Reads as push-complement-reads
 use Rattle.search.proofs.marks.push_frame.Reads as push-frame-reads
