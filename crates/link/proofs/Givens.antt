@@ -6,17 +6,16 @@ use mathlib.Core.List.{List, [], _∷_}
 use mathlib.Core.Bool.{Bool, true, false, cond}
 use mathlib.Core.Option.{none, some}
 use lib.ListN.{length, getD, drop, replicate}
-use lib.Seq.{drop-drop}
 use lib.Dec.{eqb}
 use borrow.Author.Tests.{eqb-true, eq-eqb, ne-eqb}
 use Rattle.answers.specs.Part.{absent}
 use Rattle.answers.specs.declared.Part.{Part}
-use Rattle.term.specs.Limits.{longestPattern, longestRecord}
+use Rattle.term.specs.Limits.{longestPattern, longestRecord, FitAll}
 use Rattle.term.specs.Code.{variables}
 use Rattle.term.specs.Class.{Alike}
-use Rattle.term.specs.Extent.{extentOf}
+use Rattle.term.specs.Extent.{spanOf}
 use Rattle.term.specs.Pattern.{Pattern, Children, end, plain, run}
-use Rattle.term.specs.Term.{Term, Terms, nil, _::_, _⧺_, count, single, sizes}
+use Rattle.term.specs.Term.{Term, Terms, nil, _::_, _⧺_, count, single, sizes, termTrees, termsBytes}
 use Rattle.anti_pattern.specs.Answer.{bound, parts}
 use Rattle.anti_pattern.specs.Demands.{OneForEach}
 use Rattle.anti_pattern.specs.Language.{language}
@@ -27,18 +26,19 @@ use Rattle.anti_pattern.proofs.Pass.{Passed, ended, stranger, passing, further,
 use Rattle.anti_pattern.specs.Search.{Env, firstAnswer, Result, bind, start, exactly, Tries, only, freely, tryFresh}
 use Rattle.anti_pattern.specs.Variables.{NoName, among, runs, runsAll, without, firsts, freeRuns}
 use Rattle.anti_pattern.proofs.Correct.{Permitted}
-use Rattle.anti_pattern.proofs.Facts.{join-one, join-nil, count-join}
+use Rattle.anti_pattern.proofs.Facts.{join-one, count-join}
 use Rattle.anti_pattern.proofs.Machinery.{machine-run-fresh}
 use Rattle.anti_pattern.proofs.Metering.{leb-true, leb-false, Split, enough, over, split, meter-fail}
 use Rattle.anti_pattern.proofs.Within.{accepted-of}
 use Rattle.anti_pattern.proofs.Passing.{Told, passing-same, passing-step, passing-fail, passing-fails, passing-used-up, passing-unfit, passing-run, passing-end, told-step, told-same, told-run, next-passing, passed-first, tells, told-whole}
-use Rattle.search.specs.Given.{Pass, ends, unknown, elementsOf, resumedBy, orFurther, furtherOf, givenLengthOf, givenBy, afterGiven, givenOf, passOf}
+use Rattle.search.specs.Given.{Pass, ends, unknown, resumedBy, orFurther, furtherOf, givenLengthOf, givenBy, afterGiven, givenOf, passOf}
 use Rattle.search.specs.Level.{Reply, startOf, tried, lengthsOf, levelOf, levels}
 use Rattle.search.specs.State.{State, turns}
-use Rattle.term.proofs.Joins.{sizes-none}
+use Rattle.term.proofs.Extents.{span-terms}
+use Rattle.term.proofs.Joins.{bytes-join, fit-split}
 use Rattle.link.specs.Input.{Input}
 use Rattle.link.specs.OnBytes.{repliedPass}
-use Rattle.link.proofs.Represents.{Represents, Shown, Agrees, is-found, is-failed, is-spent}
+use Rattle.link.proofs.Represents.{bytesLeft, Represents, Shown, Agrees, is-found, is-failed, is-spent}
 use Rattle.link.proofs.Levels.{carry, or-then, Searches, run-bound, next-size, lengths-from, complements-agree}
 use Rattle.link.proofs.Linked.{answers, level-searches, table-short, narrow, short, start-here}
 use Rattle.link.proofs.Walks.{framesRuns, Walking, walk-goes}
@@ -104,28 +104,17 @@ module _ (table : List ℕ) (small : length table ≤ 200) (classes : List ℕ) 
       only-m : how v ≡ only m
       only-m = given v (known .runs v (ap (λ (c : Bool). cond c true (among v (runsAll qs (framesRuns fs)))) (eq-eqb v v refl)))
 
-      -- the bytes of the elements y behind w
-      elements-size : (y us w : Terms) → ts ≡ w ⧺ (y ⧺ us)
-          → sizes table w + elementsOf table (drop (s .place .node + sizes table w) bytes) (count y) ≡ sizes table (w ⧺ y)
-      unfolding elementsOf
-      elements-size nil us w z = let i : sizes table w ≡ sizes table (w ⧺ nil) = ap (sizes table) (sym (join-nil w)) in omega (arith, i)
-      elements-size (t :: y) us w z =
-          let x = extentOf table (drop (s .place .node + sizes table w) bytes) in
-          let a = next-size table classes bytes n lv searches pattern narrow small short s v qs ts fs e ds h above low few w t (y ⧺ us) z in
-          let f : s .place .node + sizes table w + x ≡ s .place .node + sizes table (w ⧺ single t) = omega (arith, a) in
-          let b : drop x (drop (s .place .node + sizes table w) bytes) ≡ drop (s .place .node + sizes table (w ⧺ single t)) bytes =
-          drop-drop x (s .place .node + sizes table w) bytes ∙ ap (λ (k : ℕ). drop k bytes) f in
-          let c = elements-size y us (w ⧺ single t) (z ∙ sym (join-one w t (y ⧺ us))) in
-          let d : sizes table w + (x + elementsOf table (drop x (drop (s .place .node + sizes table w) bytes)) (count y))
-          ≡ sizes table (w ⧺ single t) + elementsOf table (drop (s .place .node + sizes table (w ⧺ single t)) bytes) (count y) =
-          ap (λ (l : List ℕ). sizes table w + (x + elementsOf table l (count y))) b ∙ omega (arith, a) in
-          d ∙ c ∙ ap (sizes table) (join-one w t y)
-
-      first-size : (x us : Terms) → ts ≡ x ⧺ us → elementsOf table (drop (s .place .node) bytes) (count x) ≡ sizes table x
+      -- the bytes of the elements x
+      first-size : (x us : Terms) → ts ≡ x ⧺ us → spanOf table (drop (s .place .node) bytes) false (count x) ≡ sizes table x
       first-size x us z =
-          let a = elements-size x us nil z in
-          let b : s .place .node + sizes table nil ≡ s .place .node = ap (λ (k : ℕ). s .place .node + k) (sizes-none table) ∙ omega arith in
-          ap (λ (k : ℕ). elementsOf table (drop k bytes) (count x)) (sym b) ∙ omega (arith, a, sizes-none table)
+          let g = h .here in
+          let rest = bytesLeft table fs (g .bytes-after) in
+          let fit = g .elements-limited in
+          let stands : drop (s .place .node) bytes ≡ termsBytes table x (termsBytes table us rest) =
+          g .stands ∙ ap (λ (y : Terms). termsBytes table y rest) z ∙ bytes-join table x us rest in
+          ap (λ (l : List ℕ). spanOf table l false (count x)) stands
+          ∙ span-terms table small true x (fit .left) (fit .inList) (termsBytes table us rest)
+          (fit-split table true x us (fit .left) (fit .inList) (subst (λ (y : Terms). FitAll table true (termTrees y) (fit .left) (fit .inList)) z (fit .fit)) .0)
 
       -- the lengths after it
       lengths-after : (x us : Terms) → ts ≡ x ⧺ us → (left : ℕ)
@@ -168,7 +157,7 @@ module _ (table : List ℕ) (small : length table ≤ 200) (classes : List ℕ) 
           ∙ passing-run table classes how is told v m (s .place .node) qs fs e ds fresh only-m x us c (k .meant) left i)
           (rw (ne-eqb left 0 (λ y. omega arith), leb-false (suc (s .place .elements)) m (omega (arith, h .here .elements, ap count z, count-join x us, c)))
           (ap₂ (λ (a b : ℕ). orFurther (gl (tried s v a b) (left - 1)) (λ l. furtherOf (lv pattern) table bytes v s (s .place .elements - a) a b l)) (sym c)
-          (ap (elementsOf table (drop (s .place .node) bytes)) (sym c) ∙ first-size x us z)
+          (ap (spanOf table (drop (s .place .node) bytes) false) (sym c) ∙ first-size x us z)
           ∙ ap (λ (a : ℕ). orFurther (gl (tried s v (count x) (sizes table x)) (left - 1))
           (λ l. furtherOf (lv pattern) table bytes v s a (count x) (sizes table x) l))
           (omega (arith, h .here .elements, ap count z, count-join x us))))

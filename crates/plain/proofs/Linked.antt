@@ -15,7 +15,7 @@ use Rattle.answers.specs.declared.Answer.the-variants.{Bound, None}
 use Rattle.term.proofs.Lists.{past-front}
 use Rattle.term.specs.Class.{classOf, Alike}
 use Rattle.term.specs.Code.{variables, byteOf}
-use Rattle.term.specs.Extent.{entryOf, extentOf}
+use Rattle.term.specs.Extent.{entryOf, spanOf, extentOf}
 use Rattle.term.specs.Limits.{Written, Shape, Counted, Fits, FitAll, longestRecord, nesting}
 use Rattle.term.specs.Pattern.{Pattern, name, symbol, complement, Children, end, plain, run, patternTree, childTrees, patternBytes}
 use Rattle.term.specs.Table.{largestTable, list, isList, width}
@@ -24,13 +24,12 @@ use Rattle.term.specs.Tree.{branch, empty, number, listCode, own, encode}
 use Rattle.term.specs.declared.Code.{Code}
 use Rattle.term.specs.declared.Code.the-variants.{Symbol, Name, Run}
 use Rattle.term.proofs.Codes.{code-back}
-use Rattle.term.proofs.Extents.{entry-symbol, extent-term}
+use Rattle.term.proofs.Extents.{entry-symbol, extent-term, span-terms}
 use Rattle.term.proofs.Joins.{bytes-join, sizes-join, sizes-single, fit-split}
 use Rattle.term.proofs.Sizes.{arity, number-children, number-terms, childrenBytes, node-bytes, symbol-bytes, past-term, past-terms}
 use Rattle.anti_pattern.specs.Language.{language}
 use Rattle.anti_pattern.specs.Search.{Env, bind, start}
 use Rattle.anti_pattern.specs.Variables.{vars, varsAll, among}
-use Rattle.search.specs.Given.{elementsOf}
 use Rattle.parts.specs.Packed.{partPlaces, partsIn}
 use Rattle.parts.specs.Shown.{numbers, answerWidth, shownParts}
 use Rattle.link.specs.Input.{Input}
@@ -150,21 +149,6 @@ module _ (table classes bytes : List ℕ) (small : length table ≤ largestTable
       ap (λ (b : Bool). from (byteOf c ∷ cond b (0 ∷ bs) bs) s n) l
       ∙ ap (λ (y : Turn). stepped table bytes y s (n + 1) (λ b z. tierFrom table classes bytes bs b z (n + 1)))
       (ap (λ (d : Code). turnBy d table classes (byteOf c ∷ bs) (drop (s .node) bytes)) (code-back false c w) ∙ k (byteOf c ∷ bs))
-
-  drop-term : (t : Term) (rs : List ℕ) → drop (size table t) (termBytes table t rs) ≡ rs
-  drop-term t rs =
-      let z : size table t ≡ 0 + size table t = omega arith in
-      ap (λ (k : ℕ). drop k (termBytes table t rs)) z ∙ past-term table (termBytes table t rs) 0 t rs refl
-
-  -- so many elements
-  elements-size : (w : Terms) (deep : ℕ) (inList : Bool) (rs : List ℕ) → FitAll table true (termTrees w) deep inList → elementsOf table (termsBytes table w rs) (count w) ≡ sizes table w
-  unfolding elementsOf encode size Fits
-  elements-size nil deep inList rs h = refl
-  elements-size (t :: w) deep inList rs h =
-      let z = extent-term table small true t deep inList (termsBytes table w rs) (h .0) in
-      ap (λ (k : ℕ). k + elementsOf table (drop k (termBytes table t (termsBytes table w rs))) (count w)) z
-      ∙ ap (λ (l : List ℕ). size table t + elementsOf table l (count w)) (drop-term t (termsBytes table w rs))
-      ∙ ap (λ (k : ℕ). size table t + k) (elements-size w deep inList rs (h .1))
 
   -- a symbol
 
@@ -519,8 +503,8 @@ module _ (table classes bytes : List ℕ) (small : length table ≤ largestTable
         let fits = fit-split table true a b deep′ inList′ (subst (λ (x : Terms). FitAll table true (termTrees x) deep′ inList′) parted k) in
         let there : drop (s .node) bytes ≡ termsBytes table a (termsBytes table b rs) =
         d ∙ ap (λ (x : Terms). termsBytes table x rs) parted ∙ bytes-join table a b rs in
-        let size-is : elementsOf table (drop (s .node) bytes) (getD (s .lengths) v 0) ≡ sizes table a =
-        ap₂ (elementsOf table) there noted ∙ elements-size a deep′ inList′ (termsBytes table b rs) (fits .0) in
+        let size-is : spanOf table (drop (s .node) bytes) false (getD (s .lengths) v 0) ≡ sizes table a =
+        ap₂ (λ (l : List ℕ). spanOf table l false) there noted ∙ span-terms table small true a deep′ inList′ (termsBytes table b rs) (fits .0) in
         let z = takes s v (sizes table a) (count a) in
         let joined : s .node + sizes table a + sizes table b ≡ s .node + sizes table ts = omega (arith, ap (sizes table) parted, sizes-join table a b) in
         let l : count b ≡ plainChildren qs = count-left m ts (plainChildren qs) sum in

@@ -12,9 +12,9 @@ use lib.Dec.{eqb}
 use Rattle.answers.specs.Part.{boundPart}
 use Rattle.term.proofs.Lists.{rest-part, rest-length}
 use Rattle.term.specs.Code.{variables, decodeOf}
+use Rattle.term.specs.Extent.{spanOf}
 use Rattle.term.specs.Same.{sameByte}
 use Rattle.term.specs.declared.Code.{Code}
-use Rattle.search.specs.Given.{elementsOf}
 use Rattle.parts.specs.Packed.{packed}
 use Rattle.plain.specs.Bytes.{lookOf, onPass, plainFrom, isLeaf, leavesOf, turnBy, turnOf, TurnWithin, Ending, ending, tieringOf, Standing, standing, takes, stepped, tierFrom, standingStart, tierOn, rootMayHold}
 use Rattle.plain.proofs.Nodes.{symbol-other, root-no-pattern, root-step}
@@ -253,10 +253,10 @@ module _ (table classes bytes : List ℕ) where
           turning-name h k =
               taken (by-step ∙ ap on h ∙ ap (λ (m : ℕ). tierFrom table classes bytes (drop (suc at) pattern) false (takes here v size m) (count + 1)) (sym k))
 
-          pub turning-run : x ≡ TakesRun v → n ≡ getD lengths v 0 → size ≡ elementsOf table (take (length bytes - node) (drop node bytes)) n
+          pub turning-run : x ≡ TakesRun v → n ≡ getD lengths v 0 → size ≡ spanOf table (take (length bytes - node) (drop node bytes)) false n
               → Turning lengths (at + 1) (node + size) (count + 1) a ps
           turning-run h k l =
-              let z : elementsOf table (drop node bytes) (getD lengths v 0) ≡ size =
-              ap₂ (elementsOf table) (sym (rest-part node bytes)) (sym k) ∙ sym l in
+              let z : spanOf table (drop node bytes) false (getD lengths v 0) ≡ size =
+              ap₂ (λ (s : List ℕ). spanOf table s false) (sym (rest-part node bytes)) (sym k) ∙ sym l in
               taken (by-step ∙ ap on h
               ∙ ap₂ (λ (y m : ℕ). tierFrom table classes bytes (drop (suc at) pattern) false (takes here v y m) (count + 1)) z (sym k))

@@ -11,12 +11,11 @@ use Rattle.answers.specs.Part.{boundPart}
 use Rattle.answers.specs.declared.Answer.{Answer}
 use Rattle.answers.specs.declared.Answer.the-variants.{Bound, None}
 use Rattle.term.specs.Code.{variables, decodeOf}
-use Rattle.term.specs.Extent.{entryOf, extentOf}
+use Rattle.term.specs.Extent.{entryOf, spanOf, extentOf}
 use Rattle.term.specs.Same.{sameByte}
 use Rattle.term.specs.Table.{list}
 use Rattle.term.specs.declared.Code.{Code}
 use Rattle.term.specs.declared.Code.the-variants.{Symbol, Name, Run, Complement}
-use Rattle.search.specs.Given.{elementsOf}
 use Rattle.parts.specs.Packed.{bit, packed, partPlaces, partsIn}
 use Rattle.parts.specs.Shown.{shownParts}
 use Rattle.plain.specs.declared.Runs.{Runs}
@@ -203,7 +202,7 @@ takes s v size n =
 
 -- a run name takes as many elements as are noted for it
 abbrev pub takesRun : List ℕ → List ℕ → Standing → ℕ → Standing
-takesRun table bytes s v = takes s v (elementsOf table (drop (s .node) bytes) (getD (s .lengths) v 0)) (getD (s .lengths) v 0)
+takesRun table bytes s v = takes s v (spanOf table (drop (s .node) bytes) false (getD (s .lengths) v 0)) (getD (s .lengths) v 0)
 
 -- after a step; `f` goes on
 abbrev pub stepped : List ℕ → List ℕ → Turn → Standing → ℕ → (Bool → Standing → Ending) → Ending

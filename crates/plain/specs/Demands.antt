@@ -24,7 +24,7 @@ use Rattle.call.specs.Demands.{Handled}
 use Rattle.matcher.specs.Call.{answerOf, bufferOf}
 use Rattle.matcher.specs.Demands.{Shows}
 use Rattle.parts.specs.Shown.{answerWidth}
-use Rattle.plain.specs.Call.{AcceptedPlain, plainOf, plainBufferOf}
+use Rattle.plain.specs.Call.{AcceptedPlain}
 use Rattle.plain.specs.Plain.{Plain}
 use Rattle.plain.specs.Tier.{wholeTier}
 

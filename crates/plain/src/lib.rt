@@ -7,6 +7,7 @@ use byte_answers::Read;
 use matcher::Check;
 use matcher::check_rule;
 use parts::PARTS;
+use skips::extents;
 use term::Code;
 use term::LIST;
 use term::LONGEST_PATTERN;
@@ -22,7 +23,6 @@ ghost use Rattle.term.specs.Moment.{old, new};
 ghost use Rattle.term.specs.Code.{variables, VariableBelow};
 ghost use Rattle.term.specs.Extent.{extentOf};
 ghost use Rattle.term.specs.Limits.{longestPattern};
-ghost use Rattle.search.specs.Given.{elementsOf};
 ghost use Rattle.parts.specs.Packed.{bit, packed};
 ghost use Rattle.plain.specs.Bytes.{alsoRun, runsAmong, noRuns, runCode, isLeaf, SurelyPlain, weightOf, weightsOf, rootBytes, leavesOf, lookVariable, lookByte, lookList, lookSymbol, lookOf, LookWithin, plainFrom, listOf, symbolOf, turnOf, TurnWithin, mayHold, rootMayHold, tieringOf, tierOn, noParts, toldEnding, shownEnding};
 ghost use Rattle.plain.specs.Call.{plainOf, plainBufferOf};
@@ -402,20 +402,6 @@ fn step_at(table: &[u8], classes: &[u8], q: &[u8], r: &[u8]) -> Turn
     }
 }
 
-// The bytes of the first n terms of s.
-fn span(table: &[u8], s: &[u8], n: u8) -> usize
-    ensures is { λ r. ⌜ r ≡ elementsOf (old table) (old s) n ⌝ }
-    ensures within { λ r. ⌜ r ≤ length (old s) ⌝ }
-{
-    let mut at: usize = 0;
-    let mut i: u8 = 0;
-    while i < n {
-        at = at + term::extent(table, &s[at..]);
-        i = i + 1;
-    }
-    at
-}
-
 // The variable v takes n elements of so many bytes.
 fn take(parts: &mut [u64; PARTS], assigned: u64, v: u8, node: usize, size: usize, n: u8) -> u64
     requires { ⌜ v < variables ⌝ }
@@ -497,7 +483,7 @@ fn tier(
             Turn::TakesRun(v) => {
                 let i = wide(v);
                 let n = lengths[i];
-                let size = span(table, &record[node..], n);
+                let size = extents(table, &record[node..], n);
                 assigned = take(parts, assigned, v, node, size, n);
                 at = at + 1;
                 node = node + size;

@@ -1,10 +1,10 @@
 -- What a step asks for: bytes of pattern and record, elements, allowance, and a variable that is not assigned.
 -- Assumes nothing.
-use Prim.Native.Nat.{ℕ, zero, suc, _+_, _-_, _<_, _≤_}
-use native.Mathlib.Nat.{pos-of-ne-zero, le-refl}
+use Prim.Native.Nat.{ℕ, _+_, _-_, _<_, _≤_}
+use native.Mathlib.Nat.{pos-of-ne-zero}
 use native.Mathlib.Omega.{arith}
 use mathlib.Core.Bool.{Bool, true, false, _&&_, _||_}
-use mathlib.Core.List.{List, [], _∷_}
+use mathlib.Core.List.{List}
 use mathlib.Core.Path.{_≡_, refl}
 use lib.Dec.{leb, eqb}
 use lib.ListN.{length, getD, drop, length-drop}
@@ -13,10 +13,10 @@ use Rattle.answers.specs.Part.{isAbsent}
 use Rattle.answers.specs.declared.Part.{Part}
 use Rattle.term.proofs.Bools.{cond-all}
 use Rattle.term.proofs.Codes.{decode-below}
-use Rattle.term.proofs.Extents.{extent-some}
+use Rattle.term.proofs.Extents.{extent-some, extent-within}
 use Rattle.term.specs.Same.{sameByte}
 use Rattle.term.specs.Code.{variables, decodeOf, VariableBelow}
-use Rattle.term.specs.Extent.{entryOf, spanOf, extentOf}
+use Rattle.term.specs.Extent.{entryOf}
 use Rattle.term.specs.declared.Code.the-variants.{Symbol, Name, Run, Complement}
 use Rattle.term.specs.declared.Code.{Code}
 use Rattle.steps.specs.Turn.{stepOf, variableIn, standsOf, overStep, symbolStep, assignedStep, nameStep, runStep, complementStep, pairStep, plainStep, codeStep, variableOf}
@@ -54,23 +54,6 @@ Asks outermost pattern bytes had p left (Opens children elements width) = Takes 
 Asks outermost pattern bytes had p left (Passes elements size) = Takes (length pattern) (length bytes) p left elements 1 size
 Asks outermost pattern bytes had p left (Binds v size) = Vacant pattern had (p .at) v × Takes (length pattern) (length bytes) p left 1 1 size
 Asks outermost pattern bytes had p left (PutsBy n size) = Takes (length pattern) (length bytes) p left 1 n size
-
-span-within : (table s : List ℕ) (counting : Bool) (n : ℕ) → spanOf table s counting n ≤ length s
-unfolding spanOf
-span-within table [] counting n = le-refl 0
-span-within table (b ∷ s) true n = omega (arith, span-within table s false (b + n))
-span-within table (b ∷ s) false zero = omega arith
-span-within table (b ∷ s) false (suc n) =
-    omega (
-      arith,
-      cond-all (λ (m : ℕ). m ≤ length s) (eqb (entryOf table b) 255)
-          (λ e. span-within table s true n) (λ e. span-within table s false (entryOf table b + n)),
-    )
-
--- the bytes at a place end within the list
-extent-within : (table l : List ℕ) (a : ℕ) → a ≤ length l → a + extentOf table (drop a l) ≤ length l
-unfolding extentOf
-extent-within table l a h = omega (arith, span-within table (drop a l) false 1, length-drop a l)
 
 both : (a b : Bool) → a && b ≡ true → (a ≡ true) × (b ≡ true)
 both true b e = (refl, e)

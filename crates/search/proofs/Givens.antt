@@ -7,16 +7,15 @@ use mathlib.Core.List.{List}
 use mathlib.Core.Bool.{true, false, cond, true≢false}
 use lib.Bits.{bitOr}
 use lib.ListN.{length, getD, take, drop, set}
-use lib.Seq.{drop-drop}
 use lib.Dec.{eqb}
 use borrow.Author.Tests.{lt-ltb, le-ltb, eq-eqb, ne-eqb}
 use Rattle.answers.specs.Part.{boundPart}
 use Rattle.term.proofs.Lists.{rest-part}
 use Rattle.term.specs.Limits.{longestRecord}
-use Rattle.term.specs.Extent.{extentOf}
+use Rattle.term.specs.Extent.{spanOf, extentOf}
 use Rattle.search.specs.State.{State, turns, place, placePast, walked, walkOf}
 use Rattle.search.specs.Level.{Reply, spentAt, tried, complementsOf, levelOf, levels}
-use Rattle.search.specs.Given.{Pass, ends, elementsOf, resumedBy, orFurther, furtherOf, givenLengthOf, givenBy, afterGiven, givenOf}
+use Rattle.search.specs.Given.{Pass, ends, resumedBy, orFurther, furtherOf, givenLengthOf, givenBy, afterGiven, givenOf}
 use Rattle.search.specs.Inner.GivenReplies.{resuming, resumedAs, passBy, passIn, givenIn, FurtherIs, GivenFollows, GivenIs}
 use Rattle.parts.specs.Packed.{bit, packed}
 use Rattle.search.specs.Inner.Memory.{Kept}
@@ -40,48 +39,6 @@ use Rattle.search.proofs.Held.{kept-part}
 use Rattle.search.proofs.Tries.{lengths-tries, given-past, level-stops}
 use Rattle.search.proofs.Levels.{failure-is}
 use Rattle.search.proofs.Reporting.{met, met-fails, met-parts, walk-stays}
-
--- The byte behind so many elements
-
-module _ (table bytes : List ℕ) (node n : ℕ) where
-  pub record Behind (at i : ℕ) : Type 0 where
-    pub few : i ≤ n
-    pub further : node ≤ at
-    pub within : at ≤ length bytes
-    pub same : node + elementsOf table (drop node bytes) n ≡ at + elementsOf table (drop at bytes) (n - i)
-
-  pub behind-first : node ≤ length bytes → Behind node 0
-  behind-first h =
-      let z : n - 0 ≡ n = omega arith in
-      record { few = omega arith; further = omega arith; within = h; same = ap (λ (x : ℕ). node + elementsOf table (drop node bytes) x) (sym z) }
-
-  one-more : (k at : ℕ) → elementsOf table (drop at bytes) (suc k)
-      ≡ extentOf table (drop at bytes) + elementsOf table (drop (at + extentOf table (drop at bytes)) bytes) k
-  unfolding elementsOf
-  one-more k at =
-      ap (λ (l : List ℕ). extentOf table (drop at bytes) + elementsOf table l k) (drop-drop (extentOf table (drop at bytes)) at bytes)
-
-  pub behind-next : (at i e : ℕ) → Behind at i → i < n → e ≡ extentOf table (take (length bytes - at) (drop at bytes)) → at + e ≤ length bytes
-      → Behind (at + e) (i + 1)
-  behind-next at i e b l is w =
-      let z : n - i ≡ suc (n - (i + 1)) = omega arith in
-      let x : e ≡ extentOf table (drop at bytes) = is ∙ ap (extentOf table) (rest-part at bytes) in record {
-        few = omega arith;
-        further = omega (arith, b .further);
-        within = w;
-        same =
-            let a : elementsOf table (drop at bytes) (n - i) ≡ e + elementsOf table (drop (at + e) bytes) (n - (i + 1)) =
-            ap (elementsOf table (drop at bytes)) z ∙ one-more (n - (i + 1)) at
-            ∙ ap (λ (y : ℕ). y + elementsOf table (drop (at + y) bytes) (n - (i + 1))) (sym x) in
-            omega (arith, b .same, a);
-      }
-
-  pub behind-end : (at i : ℕ) → Behind at i → n ≤ i → at ≡ node + elementsOf table (drop node bytes) n
-  unfolding elementsOf
-  behind-end at i b l =
-      let z : n - i ≡ 0 = omega arith in
-      let a : elementsOf table (drop at bytes) (n - i) ≡ 0 = ap (elementsOf table (drop at bytes)) z in
-      omega (arith, b .same, a)
 
 -- The lengths after n
 
@@ -209,8 +166,8 @@ module _ (inp : Handed) (g : List ℕ) (was : Lent) (m : Marks) (p : Place) wher
 given-fits : (gl : State → ℕ → Pass) (lv : State → ℕ → Reply) (table bytes : List ℕ) (n v : ℕ) (s : State) (left : ℕ) → (left ≡ 0 → ⊥)
     → n ≤ s .place .elements
     → givenLengthOf gl lv table bytes n v s left
-    ≡ orFurther (gl (tried s v n (elementsOf table (drop (s .place .node) bytes) n)) (left - 1))
-    (λ l. furtherOf lv table bytes v s (s .place .elements - n) n (elementsOf table (drop (s .place .node) bytes) n) l)
+    ≡ orFurther (gl (tried s v n (spanOf table (drop (s .place .node) bytes) false n)) (left - 1))
+    (λ l. furtherOf lv table bytes v s (s .place .elements - n) n (spanOf table (drop (s .place .node) bytes) false n) l)
 unfolding givenLengthOf
 given-fits gl lv table bytes n v s left z i = rw (ne-eqb left 0 z, le-ltb (s .place .elements) n i)
 
@@ -239,7 +196,7 @@ module _ (inp : Handed) (g : List ℕ) (was : Lent) (v n node : ℕ) (m : Marks)
     pub is-n : n ≡ getD g v 0
     pub fits : n ≤ p .elements
     pub byte : n < 256
-    pub is-node : node ≡ p .node + elementsOf (inp .table) (drop (p .node) (inp .bytes)) n
+    pub is-node : node ≡ p .node + spanOf (inp .table) (drop (p .node) (inp .bytes)) false n
     pub within : node ≤ length (inp .bytes)
     pub is-place : q ≡ placePast p n 1 (node - p .node)
     pub is-part : part ≡ packed (boundPart (p .node) (node - p .node) n)
@@ -296,8 +253,8 @@ module _ (inp : Handed) (g : List ℕ) (was : Lent) (v n node : ℕ) (m : Marks)
           ≡ orFurther (passIn x got) (λ l. after s k l)
       replied s h k l =
           let at = ap (λ (y : Place). y .elements) (h .place) in
-          let a : elementsOf (inp .table) (drop (s .place .node) (inp .bytes)) n ≡ size =
-          ap (λ (y : Place). elementsOf (inp .table) (drop (y .node) (inp .bytes)) n) (h .place) ∙ omega (arith, t .is-node) in
+          let a : spanOf (inp .table) (drop (s .place .node) (inp .bytes)) false n ≡ size =
+          ap (λ (y : Place). spanOf (inp .table) (drop (y .node) (inp .bytes)) false n) (h .place) ∙ omega (arith, t .is-node) in
           ap (λ (y : ℕ). givenLengthOf (givenIn inp g k) (levelIn inp k) (inp .table) (inp .bytes) y v s (was .left)) (sym (t .is-n))
           ∙ given-fits (givenIn inp g k) (levelIn inp k) (inp .table) (inp .bytes) n v s (was .left) (t .some) (omega (arith, at, t .fits))
           ∙ ap₂ (λ (y z : ℕ). orFurther (givenIn inp g k (tried s v n y) (was .left - 1))

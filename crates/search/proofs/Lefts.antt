@@ -10,10 +10,10 @@ use Rattle.answers.specs.Part.{absent}
 use Rattle.answers.specs.declared.Part.{Part}
 use Rattle.term.specs.Limits.{longestRecord, longestPattern}
 use Rattle.term.specs.Code.{variables}
-use Rattle.term.specs.Extent.{extentOf}
+use Rattle.term.specs.Extent.{spanOf, extentOf}
 use Rattle.search.specs.State.{turns, PutBy, State, Walked, alone, variableAt, partInState, closed, stepAt, walkBy, walkOf}
 use Rattle.search.specs.Level.{Reply, failed, startOf, tried, orElse, lengthsOf, insideOf, refuted, complementsOf, stopBy, afterWalk, levelOf, levels, searchOf}
-use Rattle.search.specs.Given.{Pass, ends, unknown, elementsOf, resumedBy, orFurther, furtherOf, givenLengthOf, givenBy, afterGiven, givenOf}
+use Rattle.search.specs.Given.{Pass, ends, unknown, resumedBy, orFurther, furtherOf, givenLengthOf, givenBy, afterGiven, givenOf}
 use Rattle.search.specs.Following.{followedOf, nextPass}
 use Rattle.search.specs.Spread.{freeIn, spreadTo}
 use Rattle.steps.specs.declared.Step.{Step}
@@ -134,7 +134,7 @@ module _ (table classes bytes : List ℕ) where
       → ((s : State) (l : ℕ) → lv s l .left ≤ l) → (n v : ℕ) (s : State) (left : ℕ) → Leaves left (givenLengthOf gl lv table bytes n v s left)
   unfolding givenLengthOf
   given-length-left gl g lv h n v s left =
-      let size = elementsOf table (drop (s .place .node) bytes) n in
+      let size = spanOf table (drop (s .place .node) bytes) false n in
       either-leaves (eqb left 0) (leaves (le-refl left))
       (either-leaves (ltb (s .place .elements) n) unknown-leaves
       (further-leaves (furtherOf lv table bytes v s (s .place .elements - n) n size) (pass-further lv h v s (s .place .elements - n) n size)

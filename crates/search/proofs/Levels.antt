@@ -16,6 +16,7 @@ use Rattle.answers.specs.declared.Part.{Part}
 use Rattle.term.specs.Limits.{longestRecord, longestPattern}
 use Rattle.term.specs.Code.{variables}
 use Rattle.term.specs.Extent.{extentOf}
+use Rattle.term.proofs.Extents.{extent-within}
 use Rattle.search.specs.State.{turns, PutBy, State, place, placePast, walkOf}
 use Rattle.search.specs.Level.{Reply, reply, failedAt, spentAt, failed, refuted, startOf, insideOf, complementsOf, levels, searchOf}
 use Rattle.parts.specs.Packed.{bit, packed, partPlaces, partsIn}
@@ -41,7 +42,7 @@ use Rattle.search.proofs.Held.{kept-part}
 use Rattle.search.proofs.Kept.{kept-all, kept-then, kept-back, restored, past, past-holds, given-holds, start-holds, first-holds, state-shown}
 use Rattle.search.proofs.Moved.{HeldAt, kept-again, moved-none, moved-keeps, moved-then, moved-to}
 use Rattle.search.proofs.Tries.{tries-last, tries-hit, tries-spent, tries-more, tries-at, lengths-tries}
-use Rattle.search.proofs.Skips.{Stays, Fair, skips-fair, skip-tries, skip-over, extent-within}
+use Rattle.search.proofs.Skips.{Stays, Fair, skips-fair, skip-tries, skip-over}
 use Rattle.search.proofs.Begins.{place-is, level-from, run-here, none-begun, run-start, run-begun}
 
 -- Replies

@@ -14,7 +14,7 @@ use Rattle.answers.specs.Part.{part, absent, isAbsent}
 use Rattle.answers.specs.declared.Part.{Part}
 use Rattle.term.proofs.Lists.{first-left, some-left, rest-part, rest-length}
 use Rattle.term.proofs.Codes.{decode-below}
-use Rattle.term.proofs.Extents.{span-none}
+use Rattle.term.proofs.Extents.{span-none, span-next}
 use Rattle.term.proofs.SameParts.{and-true}
 use Rattle.term.specs.Code.{variables, decodeOf, VariableBelow}
 use Rattle.term.specs.Extent.{entryOf, spanOf, extentOf}
@@ -24,7 +24,7 @@ use Rattle.term.specs.declared.Code.{Code}
 use Rattle.term.specs.declared.Code.the-variants.{Symbol, Name, Run, Complement}
 use Rattle.skips.specs.Passed.{startsOf, mostSymbols, isSymbol, chainOf, differsAt, failingOf, Passes, dearestOf}
 use Rattle.skips.proofs.Chains.{chain-some, chain-symbol, chain-further, chain-most, differs-lengths, differs-here, differs-later, differs-most}
-use Rattle.skips.proofs.Passing.{starts-none, span-within, span-split, failing-apart, failing-chain, passes-within, passes-paid}
+use Rattle.skips.proofs.Passing.{starts-none, failing-apart, failing-chain, passes-within, passes-paid}
 use Rattle.steps.specs.Turn.{stepOf, variableIn, standsOf, overStep, symbolStep, assignedStep, nameStep, runStep, pairStep, plainStep, codeStep}
 use Rattle.search.specs.State.{turns, State, place, remaining, state, placePast, entered, partInState, alone, variableAt, stepAt, walked, walkBy, walkOf}
 use Rattle.search.specs.Level.{Reply, failedAt, spentAt, tried, lengthsOf, levelOf}
@@ -40,10 +40,6 @@ use Rattle.steps.proofs.Turns.{symbol-fixed}
 use Rattle.search.proofs.Steps.{name-part, run-part}
 use Rattle.search.proofs.Walks.{walk-suc}
 use Rattle.search.proofs.Tries.{tries-last, tries-more, tries-at, level-stops}
-
-pub extent-within : (table bytes : List ℕ) (at : ℕ) → at ≤ length bytes → at + extentOf table (drop at bytes) ≤ length bytes
-unfolding extentOf
-extent-within table bytes at h = omega (arith, span-within table (drop at bytes) false 1, length-drop at bytes)
 
 -- A level whose first turn fails
 
@@ -504,16 +500,12 @@ module _ (table classes pattern bytes : List ℕ) (v m : ℕ) (s : State) (some 
       → size + spanOf table (drop (node + size) bytes) false (suc k)
       ≡ size + extentOf table (drop (node + size) bytes)
       + spanOf table (drop (node + (size + extentOf table (drop (node + size) bytes))) bytes) false k
-  unfolding extentOf
   elements-step node size k =
-      let e = spanOf table (drop (node + size) bytes) false 1 in
+      let e = extentOf table (drop (node + size) bytes) in
       let a : node + size + e ≡ node + (size + e) = omega arith in
-      let i : suc k ≡ 1 + k = omega arith in
-      let b : spanOf table (drop (node + size) bytes) false (suc k) ≡ e + spanOf table (drop e (drop (node + size) bytes)) false k =
-      ap (spanOf table (drop (node + size) bytes) false) i ∙ span-split table (drop (node + size) bytes) false 1 k in
       let c : spanOf table (drop e (drop (node + size) bytes)) false k ≡ spanOf table (drop (node + (size + e)) bytes) false k =
       ap (λ (l : List ℕ). spanOf table l false k) (drop-drop e (node + size) bytes ∙ ap (λ (x : ℕ). drop x bytes) a) in
-      omega (arith, b, c)
+      omega (arith, span-next table (drop (node + size) bytes) k, c)
 
   -- a run name there takes all elements that are left, and counts every length
   pub lengths-last : (k n size left : ℕ) → n + k ≡ s .place .elements → k < left

@@ -2,12 +2,12 @@
 -- g has the given length of the run name v at v.
 use Prim.Native.Nat.{ℕ, zero, suc, _+_, _-_}
 use mathlib.Core.List.{List}
-use mathlib.Core.Bool.{cond}
+use mathlib.Core.Bool.{false, cond}
 use lib.ListN.{getD, drop, replicate}
 use lib.Dec.{eqb, ltb}
 use Rattle.answers.specs.Part.{absent}
 use Rattle.term.specs.Code.{variables}
-use Rattle.term.specs.Extent.{extentOf}
+use Rattle.term.specs.Extent.{spanOf, extentOf}
 use Rattle.search.specs.State.{State, Walked, turns, walkOf}
 use Rattle.search.specs.Level.{Reply, failedAt, spentAt, startOf, tried, orElse, lengthsOf, complementsOf, levelOf, levels}
 use Rattle.steps.specs.declared.Stop.{Stop}
@@ -19,11 +19,6 @@ use Rattle.search.specs.declared.Finding.the-variants.{Found, Failed, Sp
 pub data Pass : Type 0 where
   ends : Reply → Pass
   unknown : Pass
-
--- the bytes of so many elements
-unfoldable pub elementsOf : List ℕ → List ℕ → ℕ → ℕ
-elementsOf table bytes zero = 0
-elementsOf table bytes (suc n) = extentOf table bytes + elementsOf table (drop (extentOf table bytes) bytes) n
 
 -- where the complements put by hold the given answer is known, and the search goes on as after a failure
 abbrev pub resumedBy : Finding → ℕ → Pass
@@ -46,8 +41,8 @@ unfoldable pub givenLengthOf : (State → ℕ → Pass) → (State → ℕ → R
 givenLengthOf gl lv table bytes n v s left =
     cond (eqb left 0) (ends (spentAt left))
     (cond (ltb (s .place .elements) n) unknown
-    (orFurther (gl (tried s v n (elementsOf table (drop (s .place .node) bytes) n)) (left - 1))
-    (λ l. furtherOf lv table bytes v s (s .place .elements - n) n (elementsOf table (drop (s .place .node) bytes) n) l)))
+    (orFurther (gl (tried s v n (spanOf table (drop (s .place .node) bytes) false n)) (left - 1))
+    (λ l. furtherOf lv table bytes v s (s .place .elements - n) n (spanOf table (drop (s .place .node) bytes) false n) l)))
 
 abbrev pub givenBy : Stop → (State → ℕ → Pass) → (List ℕ → State → ℕ → Reply) → List ℕ → List ℕ → List ℕ → List ℕ → State → ℕ → Pass
 givenBy Failure gl lv table pattern bytes g s left = unknown

@@ -18,6 +18,7 @@ use answers::Part;
 use parts::PARTS;
 use parts::is_assigned;
 use parts::packed;
+use skips::extents;
 use steps::Stop;
 use term::Code;
 use term::LIST;
@@ -30,11 +31,11 @@ ghost use mathlib.Core.Bool.{false};
 ghost use Prim.Native.Nat.{_+_, _-_, _≤_, _<_};
 ghost use lib.ListN.{length, drop};
 ghost use Rattle.term.specs.Moment.{old, new};
+ghost use Rattle.term.specs.Extent.{spanOf};
 ghost use Rattle.term.specs.Limits.{longestRecord, longestPattern};
 ghost use Rattle.parts.specs.Packed.{bit};
 ghost use Rattle.search.specs.Inner.Memory.{Holding};
 ghost use Rattle.search.specs.Inner.Lent.{input, lent, handed};
-ghost use Rattle.search.specs.Given.{elementsOf};
 ghost use Rattle.search.specs.Spread.{pastOf};
 ghost use Rattle.search.specs.Inner.GivenReplies.{resuming, resumedAs, leftBy, FurtherIs, GivenFollows, GivenIs, SpreadIs};
 ghost use Rattle.search.specs.Inner.Bounds.{Short, Ready};
@@ -129,15 +130,9 @@ pub(crate) fn spread(
 // The byte behind so many elements.
 fn behind(table: &[u8], record: &[u8], node: usize, n: u8) -> usize
     requires { ⌜ (node ≤ length (now «record»)) × (length (now «record») ≤ longestRecord) ⌝ }
-    ensures { λ r. ⌜ (r ≡ node + elementsOf (old table) (drop node (old «record»)) n) × (r ≤ length (old «record»)) ⌝ }
+    ensures { λ r. ⌜ (r ≡ node + spanOf (old table) (drop node (old «record»)) false n) × (r ≤ length (old «record»)) ⌝ }
 {
-    let mut at = node;
-    let mut i: u8 = 0;
-    while i < n {
-        at = at + extent(table, &record[at..]);
-        i = i + 1;
-    }
-    at
+    node + extents(table, &record[node..], n)
 }
 
 // The lengths of an unassigned run name after n, which ends at a byte.

@@ -2,7 +2,7 @@
 -- Assumes nothing.
 use Prim.Native.Nat.{ℕ, zero, suc, _+_, _-_, _*_, _/_, _<_, _≤_}
 use native.Mathlib.Omega.{arith}
-use native.Mathlib.Nat.{zero-add, suc-add, mul-add, mul-one, mul-comm, mul-le-mul, mul-div-le, div-lt-iff-lt-mul}
+use native.Mathlib.Nat.{zero-add, mul-add, mul-one, mul-comm, mul-le-mul, mul-div-le, div-lt-iff-lt-mul}
 use mathlib.Core.Path.{_≡_, refl, sym, ap, subst, _∙_}
 use mathlib.Core.List.{List, [], _∷_}
 use mathlib.Core.Bool.{Bool, true, false, cond, _&&_, _||_, true≢false}
@@ -11,12 +11,11 @@ use lib.Seq.{drop-drop, getD-take}
 use lib.Dec.{eqb, leb, ltb}
 use borrow.Author.Tests.{le-leb, lt-leb, eq-eqb, ne-eqb, eqb-true, leb-true, leb-false, lt-ltb, le-ltb, ltb-true}
 use Rattle.term.proofs.Lists.{rest-part}
-use Rattle.term.proofs.Extents.{span-none, span-fixed}
+use Rattle.term.proofs.Extents.{span-none, span-fixed, span-within}
 use Rattle.term.proofs.SameParts.{and-true}
 use Rattle.term.specs.Class.{classOf}
 use Rattle.term.specs.Extent.{entryOf, spanOf, extentOf}
 use Rattle.term.specs.Same.{countNext, sameByte, samePart}
-use Rattle.term.specs.Table.{list}
 use Rattle.skips.specs.Passed.{startsOf, differsAt, failingOf, passedOver, before, passedOf, Passes, dearestOf, affordableOf, leafAt, alikeOf}
 use Rattle.skips.specs.declared.Passed.{Passed}
 use Rattle.skips.proofs.Chains.{differs-most}
@@ -160,44 +159,6 @@ two-leaves table (a ∷ b ∷ d ∷ s) e f g =
           ∙ ap suc (span-leaf table b 1 (d ∷ s) (leaf-is table all 1 f .1) ∙ ap suc (span-leaf table d 0 s (leaf-is table all 2 g .1) ∙ ap suc (span-none table s)))),
       omega arith,
     )
-
-pub span-within : (table s : List ℕ) (counting : Bool) (n : ℕ) → spanOf table s counting n ≤ length s
-unfolding spanOf
-span-within table [] counting n = omega arith
-span-within table (x ∷ s) true n = omega (arith, span-within table s false (x + n))
-span-within table (x ∷ s) false zero = omega arith
-span-within table (x ∷ s) false (suc n) =
-    go (eqb (entryOf table x) list) (span-within table s true n) (span-within table s false (entryOf table x + n))
-  where
-    go : (l : Bool) → spanOf table s true n ≤ length s → spanOf table s false (entryOf table x + n) ≤ length s
-        → suc (cond l (spanOf table s true n) (spanOf table s false (entryOf table x + n))) ≤ length (x ∷ s)
-    go true f g = omega (arith, f)
-    go false f g = omega (arith, g)
-
--- so many trees and then so many more
-pub span-split : (table s : List ℕ) (counting : Bool) (a b : ℕ)
-    → spanOf table s counting (a + b) ≡ spanOf table s counting a + spanOf table (drop (spanOf table s counting a) s) false b
-unfolding spanOf
-span-split table [] counting a b = refl
-span-split table (x ∷ s) true a b =
-    let e : x + (a + b) ≡ (x + a) + b = omega arith in
-    ap suc (ap (spanOf table s false) e ∙ span-split table s false (x + a) b) ∙ sym (suc-add _ _)
-span-split table (x ∷ s) false zero b = ap (spanOf table (x ∷ s) false) (zero-add b) ∙ sym (zero-add _)
-span-split table (x ∷ s) false (suc a) b =
-    let e : entryOf table x + (a + b) ≡ (entryOf table x + a) + b = omega arith in
-    ap (spanOf table (x ∷ s) false) (suc-add a b)
-    ∙ go (eqb (entryOf table x) list) (span-split table s true a b)
-    (ap (spanOf table s false) e ∙ span-split table s false (entryOf table x + a) b)
-  where
-    go : (l : Bool)
-        → spanOf table s true (a + b) ≡ spanOf table s true a + spanOf table (drop (spanOf table s true a) s) false b
-        → spanOf table s false (entryOf table x + (a + b))
-        ≡ spanOf table s false (entryOf table x + a) + spanOf table (drop (spanOf table s false (entryOf table x + a)) s) false b
-        → suc (cond l (spanOf table s true (a + b)) (spanOf table s false (entryOf table x + (a + b))))
-        ≡ suc (cond l (spanOf table s true a) (spanOf table s false (entryOf table x + a)))
-        + spanOf table (drop (suc (cond l (spanOf table s true a) (spanOf table s false (entryOf table x + a)))) (x ∷ s)) false b
-    go true f g = ap suc f ∙ sym (suc-add _ _)
-    go false f g = ap suc g ∙ sym (suc-add _ _)
 
 -- the search for an end starts
 pub extents-start : (table s : List ℕ) (count end : ℕ) → end ≡ count → spanOf table s false count ≡ 0 + spanOf table (drop 0 s) false (end - 0)

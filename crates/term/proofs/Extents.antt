@@ -1,6 +1,7 @@
 -- How far the count of trees goes: byte by byte, and over the bytes of a tree.
 use Prim.Native.Nat.{ℕ, zero, suc, _+_, _-_, _<_, _≤_}
 use native.Mathlib.Omega.{arith}
+use native.Mathlib.Nat.{zero-add, suc-add}
 use native.Mathlib.Numerals.{add-one}
 use mathlib.Core.Path.{_≡_, refl, sym, ap, _∙_}
 use mathlib.Core.List.{List, [], _∷_}
@@ -12,14 +13,14 @@ use borrow.Author.Tests.{eqb-true, eqb-false, lt-ltb, le-ltb, ne-eqb}
 use Rattle.term.specs.Code.{byteOf}
 use Rattle.term.specs.Table.{largestTable, list, isList}
 use Rattle.term.specs.Tree.{Tree, Trees, branch, empty, more, number, listCode, own, encode, encodes}
-use Rattle.term.specs.Term.{Term, size, termTree, termBytes}
+use Rattle.term.specs.Term.{Term, Terms, count, size, sizes, termTree, termTrees, termBytes, termsBytes}
 use Rattle.term.specs.Pattern.{Pattern, patternTree, patternBytes}
 use Rattle.term.specs.Limits.{Written, Counted, Shape, belowOf, Fits, FitAll}
 use Rattle.term.specs.Extent.{kidsOf, entryOf, spanOf, extentOf}
 use Rattle.term.specs.declared.Code.{Code}
 use Rattle.term.specs.declared.Code.the-variants.{Symbol, Name, Run, Complement}
 use Rattle.term.proofs.Codes.{code-back}
-use Rattle.term.proofs.Sizes.{branch-length, more-length, term-size}
+use Rattle.term.proofs.Sizes.{number-terms, branch-length, more-length, term-size, terms-sizes}
 
 module _ (table : List ℕ) where
   -- bytes
@@ -56,6 +57,54 @@ module _ (table : List ℕ) where
       either : (l : Bool) {x y z : ℕ} → x ≡ z → y ≡ z → cond l x y ≡ z
       either true e f = e
       either false e f = f
+
+  pub span-within : (s : List ℕ) (counting : Bool) (n : ℕ) → spanOf table s counting n ≤ length s
+  unfolding spanOf
+  span-within [] counting n = omega arith
+  span-within (b ∷ s) true n = omega (arith, span-within s false (b + n))
+  span-within (b ∷ s) false zero = omega arith
+  span-within (b ∷ s) false (suc n) =
+      either (eqb (entryOf table b) list) (span-within s true n) (span-within s false (entryOf table b + n))
+    where
+      either : (l : Bool) {x y : ℕ} → x ≤ length s → y ≤ length s → suc (cond l x y) ≤ length (b ∷ s)
+      either true f g = omega (arith, f)
+      either false f g = omega (arith, g)
+
+  -- the bytes of a tree at a place end within the list
+  pub extent-within : (s : List ℕ) (at : ℕ) → at ≤ length s → at + extentOf table (drop at s) ≤ length s
+  unfolding extentOf
+  extent-within s at h = omega (arith, span-within (drop at s) false 1, length-drop at s)
+
+  -- so many trees and then so many more
+  pub span-split : (s : List ℕ) (counting : Bool) (a b : ℕ)
+      → spanOf table s counting (a + b) ≡ spanOf table s counting a + spanOf table (drop (spanOf table s counting a) s) false b
+  unfolding spanOf
+  span-split [] counting a b = refl
+  span-split (x ∷ s) true a b =
+      let e : x + (a + b) ≡ (x + a) + b = omega arith in
+      ap suc (ap (spanOf table s false) e ∙ span-split s false (x + a) b) ∙ sym (suc-add _ _)
+  span-split (x ∷ s) false zero b = ap (spanOf table (x ∷ s) false) (zero-add b) ∙ sym (zero-add _)
+  span-split (x ∷ s) false (suc a) b =
+      let e : entryOf table x + (a + b) ≡ (entryOf table x + a) + b = omega arith in
+      ap (spanOf table (x ∷ s) false) (suc-add a b)
+      ∙ go (eqb (entryOf table x) list) (span-split s true a b) (ap (spanOf table s false) e ∙ span-split s false (entryOf table x + a) b)
+    where
+      go : (l : Bool)
+          → spanOf table s true (a + b) ≡ spanOf table s true a + spanOf table (drop (spanOf table s true a) s) false b
+          → spanOf table s false (entryOf table x + (a + b))
+          ≡ spanOf table s false (entryOf table x + a) + spanOf table (drop (spanOf table s false (entryOf table x + a)) s) false b
+          → suc (cond l (spanOf table s true (a + b)) (spanOf table s false (entryOf table x + (a + b))))
+          ≡ suc (cond l (spanOf table s true a) (spanOf table s false (entryOf table x + a)))
+          + spanOf table (drop (suc (cond l (spanOf table s true a) (spanOf table s false (entryOf table x + a)))) (x ∷ s)) false b
+      go true f g = ap suc f ∙ sym (suc-add _ _)
+      go false f g = ap suc g ∙ sym (suc-add _ _)
+
+  -- one tree and then so many more
+  pub span-next : (s : List ℕ) (n : ℕ) → spanOf table s false (suc n) ≡ extentOf table s + spanOf table (drop (extentOf table s) s) false n
+  unfolding extentOf
+  span-next s n =
+      let e : suc n ≡ 1 + n = omega arith in
+      ap (spanOf table s false) e ∙ span-split s false 1 n
 
   pub extent-some : (s : List ℕ) → 0 < length s → 0 < extentOf table s
   unfolding extentOf spanOf
@@ -152,6 +201,13 @@ module _ (table : List ℕ) (small : length table ≤ largestTable) where
         ap (λ (k : ℕ). spanOf table (encode table t (encodes table ts bs)) false k) z
         ∙ span-tree records t left inList (number ts + n) (encodes table ts bs) (h .0)
         ∙ omega (arith, span-trees records ts left inList n bs (h .1), more-length table t ts)
+
+  pub span-terms : (records : Bool) (ts : Terms) (left : ℕ) (inList : Bool) (bs : List ℕ) → FitAll table records (termTrees ts) left inList
+      → spanOf table (termsBytes table ts bs) false (count ts) ≡ sizes table ts
+  span-terms records ts left inList bs h =
+      let n : count ts ≡ number (termTrees ts) + 0 = omega (arith, number-terms ts) in
+      ap (spanOf table (termsBytes table ts bs) false) n
+      ∙ omega (arith, span-trees records (termTrees ts) left inList 0 bs h, span-none table bs, terms-sizes table ts)
 
   pub extent-tree : (records : Bool) (t : Tree) (left : ℕ) (inList : Bool) (bs : List ℕ) → Fits table records t left inList
       → extentOf table (encode table t bs) ≡ length (encode table t [])

@@ -176,17 +176,17 @@ wide-requires-2 c κs = search needs
 array-read-n : tie.Need-array-read-n Inv-loop μ-loop
 array-read-n c = omega (arith, run-within _ _ _ _ _ _ _ _ _ _ _ (c .before .before .before .before .before .before .before .before .loop .inv) (c .before .before .before .before .before .before .before .loop-test .taken) _ (c .before .before .before .before .step-at .ensures .0) (c .before .before .before .before .step-at .ensures .1) _ (c .before .before .turn4 .given .1), c .wide2 .ensures)
 
-sub-span : tie.Need-sub-span Inv-loop μ-loop
-sub-span c = c .before .before .before .before .before .before .before .before .loop .inv .node-within
+sub-extents : tie.Need-sub-extents Inv-loop μ-loop
+sub-extents c = c .before .before .before .before .before .before .before .before .loop .inv .node-within
 
-part-span-start : tie.Need-part-span-start Inv-loop μ-loop
-part-span-start c = c .before .before .before .before .before .before .before .before .loop .inv .node-within
+part-extents-start : tie.Need-part-extents-start Inv-loop μ-loop
+part-extents-start c = c .before .before .before .before .before .before .before .before .loop .inv .node-within
 
-part-span-end : tie.Need-part-span-end Inv-loop μ-loop
-part-span-end c = omega arith
+part-extents-end : tie.Need-part-extents-end Inv-loop μ-loop
+part-extents-end c = omega arith
 
-span-requires : tie.Need-span-requires Inv-loop μ-loop
-span-requires c κs = search needs
+extents-requires : tie.Need-extents-requires Inv-loop μ-loop
+extents-requires c κs = search needs
 
 take-requires-2 : tie.Need-take-requires-2 Inv-loop μ-loop
 take-requires-2 c κs = run-within _ _ _ _ _ _ _ _ _ _ _ (c .before .before .before .before .before .before .before .before .before .before .before .loop .inv) (c .before .before .before .before .before .before .before .before .before .before .loop-test .taken) _ (c .before .before .before .before .before .before .before .step-at .ensures .0) (c .before .before .before .before .before .before .before .step-at .ensures .1) _ (c .before .before .before .before .before .turn4 .given .1)
@@ -196,12 +196,12 @@ add-at-5 c = omega (arith, c .before .before .before .before .before .before .be
 
 -- the run ends within the record
 inside : (c : tie.After-take2 Inv-loop μ-loop)
-    → c .before .before .before .before .before .before .before .before .before .before .before .before .loop .node + c .before .before .span .result ≤ length (c .before .before .before .before .before .before .before .before .before .before .before .before .before .before .before .before .before .args .«record» .now)
+    → c .before .before .before .before .before .before .before .before .before .before .before .before .loop .node + c .before .before .extents .result ≤ length (c .before .before .before .before .before .before .before .before .before .before .before .before .before .before .before .before .before .args .«record» .now)
 inside c =
     omega (
       arith,
       c .before .before .before .before .before .before .before .before .before .before .before .before .loop .inv .node-within,
-      c .before .before .span .ensures .1,
+      c .before .before .extents .ensures .1,
       rest-length (c .before .before .before .before .before .before .before .before .before .before .before .before .loop .node) (c .before .before .before .before .before .before .before .before .before .before .before .before .before .before .before .before .before .args .«record» .now),
     )
 
@@ -214,7 +214,7 @@ loop-less-4 c = omega (arith, c .before .before .before .before .before .before 
 loop-again-4 : tie.Need-loop-again-4 Inv-loop μ-loop
 loop-again-4 c =
     turning-run _ _ _ _ _ _ _ _ _ _ _ (c .before .before .before .before .before .before .before .before .before .before .before .before .loop .inv) (c .before .before .before .before .before .before .before .before .before .before .before .loop-test .taken) _ (c .before .before .before .before .before .before .before .before .step-at .ensures .0) _ _ _ _ _ (c .take2 .ensures .0) (c .take2 .ensures .1)
-    (inside c) (c .before .before .before .before .before .before .turn4 .given .1) (ap (λ (i : ℕ). getD (c .before .before .before .before .before .before .before .before .before .before .before .before .loop .lengths) i 0) (c .before .before .before .before .wide2 .ensures)) (c .before .before .span .ensures .0)
+    (inside c) (c .before .before .before .before .before .before .turn4 .given .1) (ap (λ (i : ℕ). getD (c .before .before .before .before .before .before .before .before .before .before .before .before .loop .lengths) i 0) (c .before .before .before .before .wide2 .ensures)) (c .before .before .extents .ensures .0)
 
 returns-2 : tie.Need-returns-2 Inv-loop μ-loop
 returns-2 c = turning-end _ _ _ _ _ _ _ _ _ _ _ (c .before .loop .inv) (c .loop-test .left)
@@ -268,10 +268,10 @@ tier-spec =
     enum-known-turn-4
     wide-requires-2
     array-read-n
-    sub-span
-    part-span-start
-    part-span-end
-    span-requires
+    sub-extents
+    part-extents-start
+    part-extents-end
+    extents-requires
     take-requires-2
     add-at-5
     add-node-5
