@@ -1,7 +1,7 @@
 -- A field put into a buffer.
 use Prim.Native.Nat.{ℕ, _+_, _≤_}
 use native.Mathlib.Omega.{arith}
-use mathlib.Core.Path.{_≡_, sym, ap, _∙_}
+use mathlib.Core.Path.{_≡_, sym}
 use mathlib.Core.List.{List, [], _∷_}
 use lib.ListN.{length, set, length-append}
 use lib.Seq.{sets}

@@ -21,16 +21,17 @@ room-left size at n h = go (leb at (size - n)) refl
     go false e = let l = leb-false at (size - n) e in sym (lt-leb (at + n) size (omega arith))
 
 module _ (at n size : ℕ) (r : Bool) (told : r ≡ leb (at + n) size) where
-  pub has : not r ≡ false → at + n ≤ size
-  has h = leb-true (at + n) size (sym told ∙ not-false r h)
+  pub some-room : not r ≡ false → at + n ≤ size
+  some-room h = leb-true (at + n) size (sym told ∙ not-false r h)
 
-  pub lacks : not r ≡ true → size < at + n
-  lacks h = leb-false (at + n) size (sym told ∙ not-true r h)
+  pub no-room : not r ≡ true → size < at + n
+  no-room h = leb-false (at + n) size (sym told ∙ not-true r h)
 
 -- the buffer and the place after these bytes were put
 abbrev pub Put : List ℕ → ℕ → List ℕ → List ℕ → ℕ → Type 0
 Put out at bytes after end = (after ≡ puts out at bytes) × (end ≡ past out at bytes)
 
+-- the same where they have room
 abbrev pub Stored : List ℕ → ℕ → List ℕ → List ℕ → ℕ → Type 0
 Stored out at bytes after end = (after ≡ sets out at bytes) × (end ≡ at + length bytes)
 

@@ -3,7 +3,7 @@ use native.Mathlib.Omega.{arith}
 use mathlib.Core.Path.{refl}
 use lib.ListN.{length}
 use borrow.Author.Needs.{needs}
-use Rattle.output.proofs.Puts.{has, lacks, none-put}
+use Rattle.output.proofs.Puts.{some-room, no-room, none-put}
 use Rattle.output.proofs.Fields.{field-length, field-put}
 use Rattle.output.proofs.put_field.Statement.{statement}
 use Rattle.output.proofs.put_field.Tie as tie
@@ -14,12 +14,12 @@ has-room-requires c κs = search needs
 returns : tie.Need-returns
 returns c =
     let args = c .before .before .before .before .args in
-    none-put _ _ _ (omega (arith, field-length (args .text .now) (args .end), lacks (args .at) (length (args .text .now)) (length (args .out .now)) _ (c .before .has-room .ensures) (c .if1 .taken)))
+    none-put _ _ _ (omega (arith, field-length (args .text .now) (args .end), no-room (args .at) (length (args .text .now)) (length (args .out .now)) _ (c .before .has-room .ensures) (c .if1 .taken)))
 
 add-last : tie.Need-add-last
 add-last c =
     let args = c .before .before .before .before .args in
-    omega (arith, has (args .at) (length (args .text .now)) (length (args .out .now)) _ (c .before .has-room .ensures) (c .if1 .left))
+    omega (arith, some-room (args .at) (length (args .text .now)) (length (args .out .now)) _ (c .before .has-room .ensures) (c .if1 .left))
 
 returns-2 : tie.Need-returns-2
 returns-2 c =
@@ -27,17 +27,17 @@ returns-2 c =
     none-put _ _ _ (omega (arith, field-length (args .text .now) (args .end)))
 
 copy-requires : tie.Need-copy-requires
-copy-requires c κs = has _ _ _ _ (c .before .before .before .has-room .ensures) (c .before .before .if1 .left)
+copy-requires c κs = some-room _ _ _ _ (c .before .before .before .has-room .ensures) (c .before .before .if1 .left)
 
 slice-write-out : tie.Need-slice-write-out
 slice-write-out c =
     let args = c .before .before .before .before .before .before .before .before .before .args in
-    omega (arith, has (args .at) (length (args .text .now)) (length (args .out .now)) _ (c .before .before .before .before .before .before .has-room .ensures) (c .before .before .before .before .before .if1 .left))
+    omega (arith, some-room (args .at) (length (args .text .now)) (length (args .out .now)) _ (c .before .before .before .before .before .before .has-room .ensures) (c .before .before .before .before .before .if1 .left))
 
 add-result : tie.Need-add-result
 add-result c =
     let args = c .before .before .before .before .before .before .before .before .before .args in
-    omega (arith, has (args .at) (length (args .text .now)) (length (args .out .now)) _ (c .before .before .before .before .before .before .has-room .ensures) (c .before .before .before .before .before .if1 .left))
+    omega (arith, some-room (args .at) (length (args .text .now)) (length (args .out .now)) _ (c .before .before .before .before .before .before .has-room .ensures) (c .before .before .before .before .before .if1 .left))
 
 same-length : tie.Need-same-length
 same-length c = search needs
@@ -46,7 +46,7 @@ returns-3 : tie.Need-returns-3
 returns-3 c =
     let args = c .before .before .before .before .before .before .before .before .before .args in
     field-put (args .out .now) _ (args .text .now) (args .at) _ (args .end)
-    (omega (arith, has (args .at) (length (args .text .now)) (length (args .out .now)) _ (c .before .before .before .before .before .before .has-room .ensures) (c .before .before .before .before .before .if1 .left)))
+    (omega (arith, some-room (args .at) (length (args .text .now)) (length (args .out .now)) _ (c .before .before .before .before .before .before .has-room .ensures) (c .before .before .before .before .before .if1 .left)))
     (c .before .before .copy .ensures)
     refl
 
