@@ -2,7 +2,7 @@
 use libc::STDOUT_FILENO;
 
 fn main() {
-    let mut text = [0u8; report_lines::CODES_ROOM];
-    report_lines::put_codes(&mut text);
+    let mut text = [0u8; kinds::CODES_ROOM];
+    kinds::put_codes(&mut text);
     io::write_all(STDOUT_FILENO, &text);
 }

@@ -1,2 +1,3 @@
--- The kinds of codes.
+-- The kinds of codes, and their list.
 pub mod Kind
+pub mod Codes

@@ -5,8 +5,9 @@ use Rattle.answers.specs.Refusal.{numberOf}
 use Rattle.answers.specs.declared.Refusal.{Refusal}
 use Rattle.answers.specs.declared.RuleAnswer.{RuleAnswer}
 use Rattle.answers.specs.declared.RuleAnswer.the-variants.{Bound, None, Spent}
-use Rattle.report_lines.specs.Decimal.{decimal}
-use Rattle.report_lines.specs.Line.{line, boundWord, noneWord, spentWord, dash, answerLine, refusedWord, fileWord, refusalLine}
+use Rattle.output.specs.Decimal.{decimal}
+use Rattle.output.specs.Field.{refusedWord}
+use Rattle.report_lines.specs.Line.{line, boundWord, noneWord, spentWord, dash, answerLine, fileWord, refusalLine}
 use Rattle.report_lines.specs.declared.File.{File}
 
 module _ (k : ℕ) (a : RuleAnswer) where

@@ -1,6 +1,5 @@
 -- The laws of the report's text.
 pub mod Stores
-pub mod Decimals
 pub mod Fields
 pub mod Verdicts
 pub mod States
@@ -8,4 +7,3 @@ pub mod Rooms
 pub mod Turns
 pub mod Cuts
 pub mod Demands
-pub mod Codes

@@ -30,15 +30,16 @@ use Rattle.rules.specs.Trial.{Trial, boundAt, noneOf, spentAt, tryOne, tryEach,
 use Rattle.call.specs.Call.{checks, answerBy}
 use Rattle.call.specs.Verdict.{passed, both, reading}
 use Rattle.rules.specs.Call.{rulesOf, told, answerOf}
-use Rattle.report_lines.specs.Decimal.{decimal}
-use Rattle.report_lines.specs.Line.{header, boundWord, noneWord, spentWord, dash, answerLine, refusedWord, fileWord, refusalLine}
+use Rattle.output.specs.Decimal.{decimal}
+use Rattle.output.specs.Field.{refusedWord}
+use Rattle.report_lines.specs.Line.{header, boundWord, noneWord, spentWord, dash, answerLine, fileWord, refusalLine}
 use Rattle.report_lines.specs.Verdict.{verdict}
 use Rattle.report_lines.specs.Report.{allowance, stateLine, linesFrom, lines, reportBy, report, mostStates, lineRoom, reportRoom, front}
 use Rattle.report_lines.specs.declared.File.{File}
 use Rattle.report_lines.specs.declared.File.the-variants.{Rules, States}
 use Rattle.report_lines.specs.declared.Verdict.{Verdict}
 use Rattle.report_lines.specs.declared.Verdict.the-variants.{Lines}
-use Rattle.report_lines.proofs.Decimals.{few-length, decimal-length}
+use Rattle.output.proofs.Decimals.{few-length, decimal-length}
 use Rattle.report_lines.proofs.Stores.{line-length}
 use Rattle.report_lines.proofs.Verdicts.{lines-accepted}
 

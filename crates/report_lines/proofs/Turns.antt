@@ -14,6 +14,7 @@ use Rattle.sheet.specs.Entry.{entries, shownEntry}
 use Rattle.sheet.proofs.Checks.{accepted-directed}
 use Rattle.sheet.proofs.Entries.{entries-count}
 use Rattle.term.proofs.Stores.{sets-append}
+use Rattle.output.proofs.Puts.{Put, Stored, put-stored}
 use Rattle.call.specs.Call.{answerWidth}
 use Rattle.rules.specs.Call.{answerOf}
 use Rattle.report_lines.specs.Line.{header, answerLine}
@@ -64,23 +65,30 @@ module _ (table rules states : List ℕ) (n : ℕ) (v : FilesAccepted table rule
       ap (linesFrom table rules k) (drop-of-length-le (entries states) {i = k} (omega arith))
 
   -- the lines follow the header
-  module _ (before first : List ℕ) (from : ℕ) (started : first ≡ sets before 0 header) (headed : from ≡ length header)
+  module _ (before first : List ℕ) (from : ℕ) (wide : reportRoom ≤ length before) (headed : Put before 0 header first from)
       {out : List ℕ} {state at : ℕ} (turn : Turn table rules states first from out state at) where
+    header-stored : Stored before 0 header first from
+    unfolding header
+    header-stored = put-stored before 0 header first from (omega arith) headed
+
     whole-length : length (lines table rules states) ≡ from + length (linesLeft table rules states 0)
     unfolding lines
-    whole-length = simp length-append (omega arith)
+    whole-length = simp length-append (omega (arith, header-stored .1))
+
+    pub turn-same : length out ≡ length before
+    turn-same = turn .same ∙ ap length (header-stored .0) ∙ length-sets before 0 header
 
     module _ (a : RuleAnswer) (h : state < n) (answers : a ≡ answerOf table none rules (shownEntry states state) allowance answerWidth) where
       answer-next : linesLeft table rules states state ≡ answerLine state a ++ linesLeft table rules states (state + 1)
       unfolding stateLine
       answer-next = next-line state h ∙ ap (λ (b : RuleAnswer). answerLine state b ++ linesLeft table rules states (state + 1)) (sym answers)
 
-      pub turn-room : reportRoom ≤ length before → at + length (answerLine state a) ≤ length out
-      turn-room wide =
+      pub turn-room : at + length (answerLine state a) ≤ length out
+      turn-room =
           let room : length (lines table rules states) ≤ reportRoom = rw (← accepted-report) (report-room true table true rules true states) in
           let next = simp length-append at (ap length answer-next) in
-          let same = ap length started ∙ length-sets before 0 header in
-          omega (arith, whole-length, turn .same, turn .ends)
+          let same = turn-same in
+          omega (arith, whole-length, turn .ends)
 
       pub turn-next : (after : List ℕ) (end : ℕ) → after ≡ sets out at (answerLine state a) → end ≡ at + length (answerLine state a)
           → Turn table rules states first from after (state + 1) end
@@ -99,12 +107,9 @@ module _ (table rules states : List ℕ) (n : ℕ) (v : FilesAccepted table rule
     unfolding lines
     turn-done h =
         let none = ap length (none-left state h) in
-        let z : 0 + length header ≡ from = omega arith in (
+        let started = header-stored in (
           sym
-              (sets-append before 0 header (linesLeft table rules states 0) ∙ rw (← started, z)
+              (sets-append before 0 header (linesLeft table rules states 0) ∙ rw (← started .0, ← started .1)
               (turn .left ∙ ap (sets out at) (none-left state h))),
           omega (arith, whole-length, turn .ends),
         )
-
-    pub turn-same : length out ≡ length before
-    turn-same = turn .same ∙ ap length started ∙ length-sets before 0 header

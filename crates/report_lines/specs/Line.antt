@@ -5,13 +5,10 @@ use Rattle.answers.specs.Refusal.{numberOf}
 use Rattle.answers.specs.declared.Refusal.{Refusal}
 use Rattle.answers.specs.declared.RuleAnswer.{RuleAnswer}
 use Rattle.answers.specs.declared.RuleAnswer.the-variants.{Bound, None, Spent}
-use Rattle.report_lines.specs.Decimal.{decimal}
+use Rattle.output.specs.Decimal.{decimal}
+use Rattle.output.specs.Field.{field, refusedWord}
 use Rattle.report_lines.specs.declared.File.{File}
 use Rattle.report_lines.specs.declared.File.the-variants.{Rules, States}
-
--- a field and the byte after it
-abbrev pub field : List ℕ → ℕ → List ℕ
-field text end = text ++ (end ∷ [])
 
 unfoldable pub line : List ℕ → List ℕ → List ℕ → List ℕ → List ℕ
 line a b c d = field a 32 ++ field b 32 ++ field c 32 ++ field d 10
@@ -50,10 +47,6 @@ abbrev pub fileWord : File → List ℕ
 fileWord File.Table = 116 ∷ 97 ∷ 98 ∷ 108 ∷ 101 ∷ []
 fileWord Rules = 114 ∷ 117 ∷ 108 ∷ 101 ∷ 115 ∷ []
 fileWord States = 115 ∷ 116 ∷ 97 ∷ 116 ∷ 101 ∷ 115 ∷ []
-
--- `refused`
-abbrev pub refusedWord : List ℕ
-refusedWord = 114 ∷ 101 ∷ 102 ∷ 117 ∷ 115 ∷ 101 ∷ 100 ∷ []
 
 -- `refused`, number, file, entry index
 unfoldable pub refusalLine : Refusal → File → ℕ → List ℕ

@@ -1,4 +1,4 @@
-// The text of the report: which refusal or which lines, and the bytes of each. And the list of the codes, in fields as the report's.
+// The text of the report: which refusal or which lines, and the bytes of each.
 use answers::Refusal;
 use answers::RuleAnswer;
 use byte_answers::Checked;
@@ -8,16 +8,16 @@ ghost use Prim.Native.Nat.{_+_, _≤_, _<_};
 ghost use lib.ListN.{length};
 ghost use lib.Seq.{sets};
 ghost use Rattle.term.specs.Moment.{old, new};
+ghost use Rattle.output.specs.Decimal.{decimal};
+ghost use Rattle.output.specs.Field.{refusedWord};
 ghost use Rattle.sheet.specs.Check.{entryCount};
 ghost use Rattle.sheet.specs.Entry.{shownEntry};
 ghost use Rattle.sheet.specs.Contents.{checkContents};
 ghost use Rattle.call.specs.Call.{answerWidth};
 ghost use Rattle.rules.specs.Call.{answerOf};
-ghost use Rattle.report_lines.specs.Decimal.{decimal};
-ghost use Rattle.report_lines.specs.Line.{field, line, noneWord, dash, answerLine, refusedWord, refusalLine};
+ghost use Rattle.report_lines.specs.Line.{line, noneWord, dash, answerLine, refusalLine};
 ghost use Rattle.report_lines.specs.Verdict.{readable, verdict, FilesAccepted};
 ghost use Rattle.report_lines.specs.Report.{allowance, lines, report, reportRoom, front};
-ghost use Rattle.report_lines.specs.Codes.{kindWord, codeLine, codesRoom, codeList};
 
 // What the rules are allowed on each state.
 const ALLOWANCE: u32 = 100000;
@@ -29,9 +29,6 @@ const LINE_ROOM: usize = 22;
 
 // The room that every report has its place in.
 pub const REPORT_ROOM: usize = MOST_LINES * LINE_ROOM;
-
-// The bytes of the list of the codes.
-pub const CODES_ROOM: usize = 2605;
 
 // The files of a report.
 pub enum File {
@@ -88,42 +85,16 @@ fn check_files(
     }
 }
 
-// Puts a text and the byte after it, and answers where they end.
-fn put_field(out: &mut [u8], at: usize, text: &[u8], end: u8) -> usize
-    requires { ⌜ at + length (now text) + 1 ≤ length (now out) ⌝ }
-    ensures { λ _. ⌜ new out ≡ sets (old out) at (field (old text) end) ⌝ }
-    ensures { λ r. ⌜ r ≡ at + length (old text) + 1 ⌝ }
-{
-    let mut i: usize = 0;
-    while i < text.len() {
-        out[at + i] = text[i];
-        i = i + 1;
-    }
-    out[at + i] = end;
-    at + i + 1
-}
-
-// Puts a number in decimal and the byte after it, and answers where they end.
-fn put_number(out: &mut [u8], at: usize, n: u64, end: u8) -> usize
-    requires { ⌜ at + length (decimal n) + 1 ≤ length (now out) ⌝ }
-    ensures { λ _. ⌜ new out ≡ sets (old out) at (field (decimal n) end) ⌝ }
-    ensures { λ r. ⌜ r ≡ at + length (decimal n) + 1 ⌝ }
-{
-    let mut digits = [0u8; 20];
-    let size = io::decimal(n, &mut digits);
-    put_field(out, at, &digits[..size], end)
-}
-
 // Puts the line of a state by the rule that is shown, and answers where it ends.
 fn put_ruled(out: &mut [u8], at: usize, state: usize, rule: usize, word: &[u8], sum: u64) -> usize
     requires { ⌜ at + length (line (decimal state) (decimal rule) (now word) (decimal sum)) ≤ length (now out) ⌝ }
     ensures { λ _. ⌜ new out ≡ sets (old out) at (line (decimal state) (decimal rule) (old word) (decimal sum)) ⌝ }
     ensures { λ r. ⌜ r ≡ at + length (line (decimal state) (decimal rule) (old word) (decimal sum)) ⌝ }
 {
-    let mut end = put_number(out, at, state as u64, b' ');
-    end = put_number(out, end, rule as u64, b' ');
-    end = put_field(out, end, word, b' ');
-    put_number(out, end, sum, b'\n')
+    let mut end = output::put_decimal(out, at, state as u64, b' ');
+    end = output::put_decimal(out, end, rule as u64, b' ');
+    end = output::put_field(out, end, word, b' ');
+    output::put_decimal(out, end, sum, b'\n')
 }
 
 // Puts the line of a state that no rule is shown for, and answers where it ends.
@@ -132,10 +103,10 @@ fn put_none(out: &mut [u8], at: usize, state: usize, sum: u64) -> usize
     ensures { λ _. ⌜ new out ≡ sets (old out) at (line (decimal state) dash noneWord (decimal sum)) ⌝ }
     ensures { λ r. ⌜ r ≡ at + length (line (decimal state) dash noneWord (decimal sum)) ⌝ }
 {
-    let mut end = put_number(out, at, state as u64, b' ');
-    end = put_field(out, end, b"-", b' ');
-    end = put_field(out, end, b"none", b' ');
-    put_number(out, end, sum, b'\n')
+    let mut end = output::put_decimal(out, at, state as u64, b' ');
+    end = output::put_field(out, end, b"-", b' ');
+    end = output::put_field(out, end, b"none", b' ');
+    output::put_decimal(out, end, sum, b'\n')
 }
 
 // Puts the line of a state by what the rules answer on it, and answers where it ends.
@@ -176,7 +147,7 @@ fn put_lines(table: &[u8], rules: &[u8], states: &[u8], n: usize, out: &mut [u8]
     ensures { λ _. ⌜ new out ≡ sets (old out) 0 (lines (old table) (old rules) (old states)) ⌝ }
     ensures { λ r. ⌜ r ≡ length (lines (old table) (old rules) (old states)) ⌝ }
 {
-    let mut at = put_field(out, 0, b"state rule word count", b'\n');
+    let mut at = output::put_field(out, 0, b"state rule word count", b'\n');
     let mut state: usize = 0;
     while state < n {
         let answer = match_state(table, rules, states, state);
@@ -192,10 +163,10 @@ fn put_refused(out: &mut [u8], number: u8, word: &[u8], index: usize) -> usize
     ensures { λ _. ⌜ new out ≡ sets (old out) 0 (line refusedWord (decimal number) (old word) (decimal index)) ⌝ }
     ensures { λ r. ⌜ r ≡ length (line refusedWord (decimal number) (old word) (decimal index)) ⌝ }
 {
-    let mut end = put_field(out, 0, b"refused", b' ');
-    end = put_number(out, end, number as u64, b' ');
-    end = put_field(out, end, word, b' ');
-    put_number(out, end, index as u64, b'\n')
+    let mut end = output::put_field(out, 0, b"refused", b' ');
+    end = output::put_decimal(out, end, number as u64, b' ');
+    end = output::put_field(out, end, word, b' ');
+    output::put_decimal(out, end, index as u64, b'\n')
 }
 
 // Puts the line of a refusal, and answers its length.
@@ -230,50 +201,4 @@ pub fn put_report(
         Verdict::Lines(n) => put_lines(table, rules, states, n, out),
         Verdict::Refused(r, file, i) => put_refusal(out, r, file, i),
     }
-}
-
-// Puts the word of a kind, which ends its line, and answers where it ends.
-fn put_kind(out: &mut [u8], at: usize, kind: u8) -> usize
-    requires { ⌜ at + length (kindWord kind) + 1 ≤ length (now out) ⌝ }
-    ensures { λ _. ⌜ new out ≡ sets (old out) at (field (kindWord kind) 10) ⌝ }
-    ensures { λ r. ⌜ r ≡ at + length (kindWord kind) + 1 ⌝ }
-{
-    match kind {
-        kinds::SYMBOL => put_field(out, at, b"symbol", b'\n'),
-        kinds::NAME => put_field(out, at, b"name", b'\n'),
-        kinds::RUN => put_field(out, at, b"run", b'\n'),
-        kinds::COMPLEMENT => put_field(out, at, b"complement", b'\n'),
-        _ => put_field(out, at, b"refused", b'\n'),
-    }
-}
-
-// Puts the line of a code, the code and its kind, and answers where it ends.
-fn put_code(out: &mut [u8], at: usize, code: u8) -> usize
-    requires { ⌜ at + length (codeLine code) ≤ length (now out) ⌝ }
-    ensures { λ _. ⌜ new out ≡ sets (old out) at (codeLine code) ⌝ }
-    ensures { λ r. ⌜ r ≡ at + length (codeLine code) ⌝ }
-{
-    let kind = kinds::kind_of(code);
-    let end = put_number(out, at, code as u64, b' ');
-    put_kind(out, end, kind)
-}
-
-// Puts the lines of all codes, from code 0 up.
-fn put_each_code(out: &mut [u8])
-    requires { ⌜ length (now out) ≡ codesRoom ⌝ }
-    ensures { λ _. ⌜ new out ≡ sets (old out) 0 codeList ⌝ }
-{
-    let mut at: usize = 0;
-    let mut code: usize = 0;
-    while code < kinds::CODES {
-        at = put_code(out, at, code as u8);
-        code = code + 1;
-    }
-}
-
-// Puts the list of the codes, which fills the output.
-pub fn put_codes(out: &mut [u8; CODES_ROOM])
-    ensures { λ _. ⌜ new out ≡ codeList ⌝ }
-{
-    put_each_code(out);
 }

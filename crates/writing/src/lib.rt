@@ -114,17 +114,6 @@ fn put_directory(lengths: &[u16], output: &mut [u8])
     }
 }
 
-fn put_bytes(bytes: &[u8], output: &mut [u8], at: usize)
-    requires { ⌜ at + length (now bytes) ≤ length (now output) ⌝ }
-    ensures { λ _. ⌜ new output ≡ sets (old output) at (old bytes) ⌝ }
-{
-    let mut i: usize = 0;
-    while i < bytes.len() {
-        output[at + i] = bytes[i];
-        i = i + 1;
-    }
-}
-
 // The sheet of records that passed their checks, into an output that has the room.
 fn put_sheet(records: &[u8], lengths: &[u16], output: &mut [u8])
     requires { ⌜ length (now records) ≡ sum (now lengths) ⌝ }
@@ -135,7 +124,7 @@ fn put_sheet(records: &[u8], lengths: &[u16], output: &mut [u8])
     let n = lengths.len();
     put_word(output, 0, n as u16);
     put_directory(lengths, output);
-    put_bytes(records, output, WORD + PAIR * n);
+    output::put_bytes(output, WORD + PAIR * n, records);
 }
 
 // Writes the sheet of these records to the front of the output, or leaves the output as it is.

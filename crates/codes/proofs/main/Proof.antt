@@ -1,7 +1,7 @@
 -- `codes::main` is safe: the list is as long as its room.
 use mathlib.Core.Path.{sym, ap, _∙_}
 use lib.ListN.{length}
-use Rattle.report_lines.proofs.Codes.{list-length}
+use Rattle.kinds.proofs.Codes.{list-length}
 use borrow.Author.Needs.{needs}
 use Rattle.codes.proofs.main.Statement.{statement}
 use Rattle.codes.proofs.main.Tie as tie

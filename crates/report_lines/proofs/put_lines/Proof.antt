@@ -18,7 +18,7 @@ slice-aggregate-put-field : tie.Need-slice-aggregate-put-field Inv-loop μ-loop
 slice-aggregate-put-field c = search needs
 
 put-field-requires : tie.Need-put-field-requires Inv-loop μ-loop
-put-field-requires c κs = omega (arith, c .before .before .before .before .before .before .pre .1)
+put-field-requires c κs = search needs
 
 loop-holds : tie.Need-loop-holds Inv-loop μ-loop
 loop-holds c = turn-starts _ _ _ _ _
@@ -28,7 +28,9 @@ match-state-requires c κs = state-counted _ _ _ _ (c .before .before .before .b
 
 put-answer-requires : tie.Need-put-answer-requires Inv-loop μ-loop
 unfolding header
-put-answer-requires c κs = turn-room _ _ _ _ (c .before .before .before .before .before .before .before .before .before .before .before .before .before .pre .0) (c .before .before .before .before .before .before .before .before .before .before .before .before .before .args .out .now) _ _ (c .before .before .before .before .before .before .put-field .ensures .0) (c .before .before .before .before .before .before .put-field .ensures .1) (c .before .before .before .loop .inv) _ (c .before .before .loop-test .taken) (c .before .match-state .ensures) (c .before .before .before .before .before .before .before .before .before .before .before .before .before .pre .1)
+put-answer-requires c κs =
+    let s = c .before .before .before .before .before .before .before .before .before .before .before .before .before in
+    turn-room _ _ _ _ (s .pre .0) (s .args .out .now) _ _ (s .pre .1) (c .before .before .before .before .before .before .put-field .ensures) (c .before .before .before .loop .inv) _ (c .before .before .loop-test .taken) (c .before .match-state .ensures)
 
 add-state : tie.Need-add-state Inv-loop μ-loop
 add-state c = omega (arith, c .before .before .before .before .before .loop-test .taken)
@@ -38,15 +40,21 @@ loop-less c = omega (arith, c .before .before .before .before .before .loop-test
 
 loop-again : tie.Need-loop-again Inv-loop μ-loop
 unfolding header
-loop-again c = turn-next _ _ _ _ (c .before .before .before .before .before .before .before .before .before .before .before .before .before .before .before .before .pre .0) (c .before .before .before .before .before .before .before .before .before .before .before .before .before .before .before .before .args .out .now) _ _ (c .before .before .before .before .before .before .before .before .before .put-field .ensures .0) (c .before .before .before .before .before .before .before .before .before .put-field .ensures .1) (c .before .before .before .before .before .before .loop .inv) _ (c .before .before .before .before .before .loop-test .taken) (c .before .before .before .before .match-state .ensures) _ _ (c .before .before .put-answer .ensures .0) (c .before .before .put-answer .ensures .1)
+loop-again c =
+    let s = c .before .before .before .before .before .before .before .before .before .before .before .before .before .before .before .before in
+    turn-next _ _ _ _ (s .pre .0) (s .args .out .now) _ _ (s .pre .1) (c .before .before .before .before .before .before .before .before .before .put-field .ensures) (c .before .before .before .before .before .before .loop .inv) _ (c .before .before .before .before .before .loop-test .taken) (c .before .before .before .before .match-state .ensures) _ _ (c .before .before .put-answer .ensures .0) (c .before .before .put-answer .ensures .1)
 
 same-length : tie.Need-same-length Inv-loop μ-loop
 unfolding header
-same-length c = turn-same _ _ _ _ (c .before .before .before .before .before .before .before .before .before .before .before .pre .0) (c .before .before .before .before .before .before .before .before .before .before .before .args .out .now) _ _ (c .before .before .before .before .put-field .ensures .0) (c .before .before .before .before .put-field .ensures .1) (c .before .loop .inv)
+same-length c =
+    let s = c .before .before .before .before .before .before .before .before .before .before .before in
+    turn-same _ _ _ _ (s .pre .0) (s .args .out .now) _ _ (s .pre .1) (c .before .before .before .before .put-field .ensures) (c .before .loop .inv)
 
 returns : tie.Need-returns Inv-loop μ-loop
 unfolding header
-returns c = turn-done _ _ _ _ (c .before .before .before .before .before .before .before .before .before .before .before .pre .0) (c .before .before .before .before .before .before .before .before .before .before .before .args .out .now) _ _ (c .before .before .before .before .put-field .ensures .0) (c .before .before .before .before .put-field .ensures .1) (c .before .loop .inv) (c .loop-test .left)
+returns c =
+    let s = c .before .before .before .before .before .before .before .before .before .before .before in
+    turn-done _ _ _ _ (s .pre .0) (s .args .out .now) _ _ (s .pre .1) (c .before .before .before .before .put-field .ensures) (c .before .loop .inv) (c .loop-test .left)
 
 pub put-lines-spec : {M : Type 1} → statement M
 put-lines-spec =

@@ -1,6 +1,7 @@
 -- `writing::put_sheet` meets its contract.
-use mathlib.Core.Path.{sym}
+use mathlib.Core.Path.{sym, _∙_}
 use borrow.Author.Needs.{needs}
+use Rattle.output.proofs.Puts.{puts-room}
 use Rattle.writing.proofs.Stores.{sheet-stored}
 use Rattle.writing.proofs.put_sheet.Statement.{statement}
 use Rattle.writing.proofs.put_sheet.Tie as tie
@@ -29,7 +30,7 @@ same-length c = search needs
 returns : tie.Need-returns
 returns c =
     let args = c .before .before .before .before .before .before .before .before .before .before .before .before .before .before .before .args in
-    rw (c .before .before .put-bytes .ensures, c .before .before .before .before .before .before .put-directory .ensures, c .before .before .before .before .before .before .before .before .before .before .put-word .ensures) (sym (sheet-stored (args .output .now) (args .records .now) (args .lengths .now) (c .before .before .before .before .before .before .before .before .before .before .before .before .before .before .before .pre .0)))
+    rw (c .before .before .put-bytes .ensures .0 ∙ puts-room _ _ _ (search needs), c .before .before .before .before .before .before .put-directory .ensures, c .before .before .before .before .before .before .before .before .before .before .put-word .ensures) (sym (sheet-stored (args .output .now) (args .records .now) (args .lengths .now) (c .before .before .before .before .before .before .before .before .before .before .before .before .before .before .before .pre .0)))
 
 pub put-sheet-spec : {M : Type 1} → statement M
 put-sheet-spec =

@@ -1,8 +1,8 @@
--- `report_lines::put_codes` meets its contract.
-use Rattle.report_lines.proofs.Codes.{codes-fill}
+-- `kinds::put_codes` meets its contract.
+use Rattle.kinds.proofs.Codes.{codes-fill}
 use borrow.Author.Needs.{needs}
-use Rattle.report_lines.proofs.put_codes.Statement.{statement}
-use Rattle.report_lines.proofs.put_codes.Tie as tie
+use Rattle.kinds.proofs.put_codes.Statement.{statement}
+use Rattle.kinds.proofs.put_codes.Tie as tie
 
 put-each-code-requires : tie.Need-put-each-code-requires
 put-each-code-requires c κs = search needs

@@ -1,11 +1,11 @@
--- `report_lines::put_each_code` meets its contract. The invariant: the lines of the codes from `code` on are still to be stored. The measure is how
+-- `kinds::put_each_code` meets its contract. The invariant: the lines of the codes from `code` on are still to be stored. The measure is how
 -- many they are.
 use Prim.Native.Nat.{_-_}
 use native.Mathlib.Omega.{arith}
-use Rattle.report_lines.proofs.Codes.{CodeTurn, codes-start, code-room, code-next, codes-done}
+use Rattle.kinds.proofs.Codes.{CodeTurn, codes-start, code-room, code-next, codes-done}
 use borrow.Author.Needs.{needs}
-use Rattle.report_lines.proofs.put_each_code.Statement.{statement}
-use Rattle.report_lines.proofs.put_each_code.Tie as tie
+use Rattle.kinds.proofs.put_each_code.Statement.{statement}
+use Rattle.kinds.proofs.put_each_code.Tie as tie
 
 abbrev Inv-loop : tie.InvT-loop
 Inv-loop out₀ at₀ code₀ out at code = CodeTurn out₀ out code at

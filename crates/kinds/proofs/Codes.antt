@@ -8,10 +8,12 @@ use lib.ListN.{length, length-append, drop-of-length-le}
 use lib.Seq.{sets, length-sets}
 use Rattle.term.proofs.Stores.{sets-append, sets-front}
 use borrow.Author.Tests.{ne-eqb}
+use Rattle.output.proofs.Puts.{Put, Stored, put-stored, both-put}
+use Rattle.output.proofs.Fields.{field-as}
 use Rattle.kinds.specs.Kind.{symbol, name, run, complement, rangeKind}
-use Rattle.report_lines.specs.Decimal.{decimalOf, decimal}
-use Rattle.report_lines.specs.Line.{field, refusedWord}
-use Rattle.report_lines.specs.Codes.{symbolWord, nameWord, runWord, complementWord, kindWord, codeLine, codesFrom, codeList, codesRoom}
+use Rattle.output.specs.Decimal.{decimalOf, decimal}
+use Rattle.output.specs.Field.{field, refusedWord}
+use Rattle.kinds.specs.Codes.{symbolWord, nameWord, runWord, complementWord, kindWord, codeLine, codesFrom, codeList, codesRoom}
 
 -- the word of each kind
 
@@ -35,26 +37,14 @@ pub refused-word : (k : ℕ) → (k ≡ symbol → ⊥) → (k ≡ name → ⊥)
 unfolding kindWord
 refused-word k a b c d = rw (ne-eqb k symbol a, ne-eqb k name b, ne-eqb k run c, ne-eqb k complement d) refl
 
--- a word that is put is the kind's
-pub word-put : (l o : List ℕ) (at end k : ℕ) (word : List ℕ) → word ≡ kindWord k → (o ≡ sets l at (field word 10)) × (end ≡ at + length word + 1)
-    → (o ≡ sets l at (field (kindWord k) 10)) × (end ≡ at + length (kindWord k) + 1)
-word-put l o at end k word e p = rw (← e) p
-
-pub code-length : (code : ℕ) → length (codeLine code) ≡ length (decimal code) + length (kindWord (rangeKind code)) + 2
-unfolding codeLine
-code-length code = simp length-append (omega arith)
-
 -- two fields, put one after the other, are the line of a code
-pub code-put : (l o p : List ℕ) (at second end code : ℕ) (b : List ℕ) → b ≡ kindWord (rangeKind code)
-    → (o ≡ sets l at (field (decimal code) 32)) × (second ≡ at + length (decimal code) + 1) → (p ≡ sets o second (field b 10)) × (end ≡ second + length b + 1)
-    → (p ≡ sets l at (codeLine code)) × (end ≡ at + length (codeLine code))
+pub code-put : (l o p : List ℕ) (at second end code kind : ℕ) → kind ≡ rangeKind code → at + length (codeLine code) ≤ length l
+    → Put l at (field (decimal code) 32) o second → Put o second (field (kindWord kind) 10) p end → Stored l at (codeLine code) p end
 unfolding codeLine
-code-put l o p at second end code b worded first last =
-    let e : second ≡ at + length (field (decimal code) 32) = simp length-append (omega (arith, first .1)) in
-    rw (← worded) (
-      rw (last .0, first .0, e) (sym (sets-append l at (field (decimal code) 32) (field b 10))),
-      simp length-append (omega (arith, first .1, last .1)),
-    )
+code-put l o p at second end code kind ranged room first last =
+    put-stored l at (codeLine code) p end room
+    (both-put l o p at second end (field (decimal code) 32) (field (kindWord (rangeKind code)) 10) room first
+    (field-as o p second end 10 (kindWord kind) (kindWord (rangeKind code)) (ap kindWord ranged) last))
 
 -- the lines of the codes from this on
 abbrev pub codesLeft : ℕ → List ℕ

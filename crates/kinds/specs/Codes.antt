@@ -3,9 +3,9 @@ use Prim.Native.Nat.{ℕ, zero, suc, _+_}
 use mathlib.Core.Bool.{cond}
 use mathlib.Core.List.{List, [], _∷_, _++_}
 use lib.Dec.{eqb}
 use Rattle.kinds.specs.Kind.{symbol, name, run, complement, rangeKind}
-use Rattle.report_lines.specs.Decimal.{decimal}
-use Rattle.report_lines.specs.Line.{field, refusedWord}
+use Rattle.output.specs.Decimal.{decimal}
+use Rattle.output.specs.Field.{field, refusedWord}
 
 -- `symbol`, `name`, `run`, `complement`
 abbrev pub symbolWord : List ℕ
