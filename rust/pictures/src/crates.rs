@@ -62,7 +62,7 @@ fn places(crates: &[Crate], width: f64) -> Vec<(f64, f64)> {
             sum / over.len().max(1) as f64
         };
         row.sort_by(|&i, &j| wanted(i).total_cmp(&wanted(j)));
-        let step = (width / row.len() as f64).min(2.0 * (BOX.0 + GAP.0));
+        let step = ((width - 2.0 * GAP.0) / row.len() as f64).min(2.0 * (BOX.0 + GAP.0));
         let aside = if depth % 2 == 0 { GAP.0 } else { -GAP.0 };
         let start = (width - step * (row.len() - 1) as f64) / 2.0 + aside;
         for (k, &i) in row.iter().enumerate() {
