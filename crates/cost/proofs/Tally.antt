@@ -20,7 +20,7 @@ use Rattle.term.specs.Tree.{Trees, branch, empty, more, number, listCode, own, 
 use Rattle.term.specs.declared.Code.{Code}
 use Rattle.term.specs.declared.Code.the-variants.{Symbol, Name, Run, Complement}
 use Rattle.term.proofs.Codes.{code-back}
-use Rattle.term.proofs.Extents.{entry-symbol}
+use Rattle.term.proofs.Spans.{entry-symbol}
 use Rattle.anti_pattern.specs.Cost.{nodes, nodesIn, hasRuns, hasRunsIn}
 use Rattle.cost.specs.Tally.{isRun, ownBytes, tally}
 

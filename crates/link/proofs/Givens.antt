@@ -34,7 +34,7 @@ use Rattle.anti_pattern.proofs.Passing.{Told, passing-same, passing-step, passi
 use Rattle.search.specs.Given.{Pass, ends, unknown, resumedBy, orFurther, furtherOf, givenLengthOf, givenBy, afterGiven, givenOf, passOf}
 use Rattle.search.specs.Level.{Reply, startOf, tried, lengthsOf, levelOf, levels}
 use Rattle.search.specs.State.{State, turns}
-use Rattle.term.proofs.Extents.{span-terms}
+use Rattle.term.proofs.Spans.{span-terms}
 use Rattle.term.proofs.Joins.{bytes-join, fit-split}
 use Rattle.link.specs.Input.{Input}
 use Rattle.link.specs.OnBytes.{repliedPass}

@@ -19,7 +19,7 @@ use Rattle.term.specs.Tree.{listCode, number, own, encode}
 use Rattle.term.specs.declared.Code.{Code}
 use Rattle.term.specs.declared.Code.the-variants.{Symbol, Name, Run, Complement}
 use Rattle.term.proofs.Codes.{code-back}
-use Rattle.term.proofs.Extents.{entry-symbol, extent-tree}
+use Rattle.term.proofs.Spans.{entry-symbol, extent-tree}
 use Rattle.term.proofs.Sizes.{childrenBytes, encode-append}
 use Rattle.anti_pattern.specs.Variables.{among, runs, runsAll, without, firsts, freeRuns}
 use Rattle.anti_pattern.specs.Next.{givenTo}

@@ -23,7 +23,7 @@ use Rattle.term.specs.Extent.{entryOf, extentOf}
 use Rattle.term.specs.declared.Code.{Code}
 use Rattle.term.specs.declared.Code.the-variants.{Complement}
 use Rattle.term.proofs.Sizes.{arity, childrenBytes, number-children, number-terms, node-bytes, symbol-bytes, term-size}
-use Rattle.term.proofs.Extents.{entry-symbol, extent-tree}
+use Rattle.term.proofs.Spans.{entry-symbol, extent-tree}
 use Rattle.anti_pattern.proofs.Machine.{Frame}
 use Rattle.anti_pattern.specs.Search.{behind}
 use Rattle.steps.specs.Turn.{stepOf, variableIn, variableOf, standsOf, overStep, symbolStep, assignedStep, nameStep, complementStep, pairStep, plainStep, codeStep}

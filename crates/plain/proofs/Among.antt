@@ -15,7 +15,7 @@ use Rattle.term.specs.Extent.{entryOf, spanOf, extentOf}
 use Rattle.term.specs.declared.Code.{Code}
 use Rattle.term.specs.declared.Code.the-variants.{Symbol, Name, Run, Complement}
 use Rattle.term.proofs.Codes.{decode-below}
-use Rattle.term.proofs.Extents.{span-none, span-fixed}
+use Rattle.term.proofs.Spans.{span-none, span-fixed}
 use Rattle.plain.specs.Bytes.{sumOf, runs, alsoRun, runsAmong, noRuns, runCode}
 use Rattle.plain.specs.declared.Runs.{Runs}
 

@@ -24,7 +24,7 @@ use Rattle.term.specs.Tree.{branch, empty, number, listCode, own, encode}
 use Rattle.term.specs.declared.Code.{Code}
 use Rattle.term.specs.declared.Code.the-variants.{Symbol, Name, Run}
 use Rattle.term.proofs.Codes.{code-back}
-use Rattle.term.proofs.Extents.{entry-symbol, extent-term, span-terms}
+use Rattle.term.proofs.Spans.{entry-symbol, extent-term, span-terms}
 use Rattle.term.proofs.Joins.{bytes-join, sizes-join, sizes-single, fit-split}
 use Rattle.term.proofs.Sizes.{arity, number-children, number-terms, childrenBytes, node-bytes, symbol-bytes, past-term, past-terms}
 use Rattle.anti_pattern.specs.Language.{language}

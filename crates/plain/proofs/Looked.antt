@@ -18,7 +18,7 @@ use Rattle.term.specs.Tree.{Trees, branch, empty, more, number, listCode, own, 
 use Rattle.term.specs.declared.Code.{Code}
 use Rattle.term.specs.declared.Code.the-variants.{Symbol, Name, Run, Complement}
 use Rattle.term.proofs.Codes.{code-back}
-use Rattle.term.proofs.Extents.{entry-symbol, extent-tree}
+use Rattle.term.proofs.Spans.{entry-symbol, extent-tree}
 use Rattle.term.proofs.Sizes.{arity, childrenBytes, past-tree, symbol-bytes}
 use Rattle.anti_pattern.specs.Variables.{among}
 use Rattle.parts.specs.Packed.{bit}

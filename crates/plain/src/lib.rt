@@ -7,11 +7,12 @@ use byte_answers::Read;
 use matcher::Check;
 use matcher::check_rule;
 use parts::PARTS;
-use skips::extents;
+use parts::is_assigned;
 use term::Code;
 use term::LIST;
 use term::LONGEST_PATTERN;
 use term::VARIABLES;
+use term::extents;
 ghost use mathlib.Core.Path.{_≡_};
 ghost use mathlib.Core.Bool.{false};
 ghost use mathlib.Core.Option.{none, some};
@@ -23,7 +24,7 @@ ghost use Rattle.term.specs.Moment.{old, new};
 ghost use Rattle.term.specs.Code.{variables, VariableBelow};
 ghost use Rattle.term.specs.Extent.{extentOf};
 ghost use Rattle.term.specs.Limits.{longestPattern};
-ghost use Rattle.parts.specs.Packed.{bit, packed};
+ghost use Rattle.parts.specs.Packed.{packed};
 ghost use Rattle.plain.specs.Bytes.{alsoRun, runsAmong, noRuns, runCode, isLeaf, SurelyPlain, weightOf, weightsOf, rootBytes, leavesOf, lookVariable, lookByte, lookList, lookSymbol, lookOf, LookWithin, plainFrom, listOf, symbolOf, turnOf, TurnWithin, mayHold, rootMayHold, tieringOf, tierOn, noParts, toldEnding, shownEnding};
 ghost use Rattle.plain.specs.Call.{plainOf, plainBufferOf};
 ghost use Rattle.plain.specs.Demands.{PlainDemanded};
@@ -63,15 +64,7 @@ fn wide(b: u8) -> usize
     b as usize
 }
 
-// Whether the variable v is in a mask.
-fn has(mask: u64, v: u8) -> bool
-    requires { ⌜ v < variables ⌝ }
-    ensures { λ r. ⌜ r ≡ bit mask v ⌝ }
-{
-    (mask >> v) % 2 == 1
-}
-
-// The variable v too.
+// The variable v in a mask too.
 fn with(mask: u64, v: u8) -> u64
     requires { ⌜ v < variables ⌝ }
     ensures { λ r. ⌜ r ≡ bitOr mask (2 ^ v) ⌝ }
@@ -191,7 +184,7 @@ fn look_variable(seen: u64, v: u8) -> Look
     requires { ⌜ v < variables ⌝ }
     ensures { λ r. ⌜ r ≡ lookVariable seen v ⌝ }
 {
-    if has(seen, v) {
+    if is_assigned(seen, v) {
         return Look::NotPlain;
     }
     Look::Passes(with(seen, v), 1)

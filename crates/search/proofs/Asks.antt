@@ -13,7 +13,7 @@ use Rattle.answers.specs.Part.{isAbsent}
 use Rattle.answers.specs.declared.Part.{Part}
 use Rattle.term.proofs.Bools.{cond-all}
 use Rattle.term.proofs.Codes.{decode-below}
-use Rattle.term.proofs.Extents.{extent-some, extent-within}
+use Rattle.term.proofs.Spans.{extent-some, extent-within}
 use Rattle.term.specs.Same.{sameByte}
 use Rattle.term.specs.Code.{variables, decodeOf, VariableBelow}
 use Rattle.term.specs.Extent.{entryOf}

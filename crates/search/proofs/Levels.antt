@@ -16,7 +16,7 @@ use Rattle.answers.specs.declared.Part.{Part}
 use Rattle.term.specs.Limits.{longestRecord, longestPattern}
 use Rattle.term.specs.Code.{variables}
 use Rattle.term.specs.Extent.{extentOf}
-use Rattle.term.proofs.Extents.{extent-within}
+use Rattle.term.proofs.Spans.{extent-within}
 use Rattle.search.specs.State.{turns, PutBy, State, place, placePast, walkOf}
 use Rattle.search.specs.Level.{Reply, reply, failedAt, spentAt, failed, refuted, startOf, insideOf, complementsOf, levels, searchOf}
 use Rattle.parts.specs.Packed.{bit, packed, partPlaces, partsIn}

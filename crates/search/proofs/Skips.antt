@@ -14,7 +14,7 @@ use Rattle.answers.specs.Part.{part, absent, isAbsent}
 use Rattle.answers.specs.declared.Part.{Part}
 use Rattle.term.proofs.Lists.{first-left, some-left, rest-part, rest-length}
 use Rattle.term.proofs.Codes.{decode-below}
-use Rattle.term.proofs.Extents.{span-none, span-next}
+use Rattle.term.proofs.Spans.{span-none, span-next}
 use Rattle.term.proofs.SameParts.{and-true}
 use Rattle.term.specs.Code.{variables, decodeOf, VariableBelow}
 use Rattle.term.specs.Extent.{entryOf, spanOf, extentOf}

@@ -11,7 +11,7 @@ use lib.Seq.{drop-drop, getD-take}
 use lib.Dec.{eqb, leb, ltb}
 use borrow.Author.Tests.{le-leb, lt-leb, eq-eqb, ne-eqb, eqb-true, leb-true, leb-false, lt-ltb, le-ltb, ltb-true}
 use Rattle.term.proofs.Lists.{rest-part}
-use Rattle.term.proofs.Extents.{span-none, span-fixed, span-within}
+use Rattle.term.proofs.Spans.{span-none, span-fixed, span-within}
 use Rattle.term.proofs.SameParts.{and-true}
 use Rattle.term.specs.Class.{classOf}
 use Rattle.term.specs.Extent.{entryOf, spanOf, extentOf}
@@ -159,12 +159,6 @@ two-leaves table (a ∷ b ∷ d ∷ s) e f g =
           ∙ ap suc (span-leaf table b 1 (d ∷ s) (leaf-is table all 1 f .1) ∙ ap suc (span-leaf table d 0 s (leaf-is table all 2 g .1) ∙ ap suc (span-none table s)))),
       omega arith,
     )
-
--- the search for an end starts
-pub extents-start : (table s : List ℕ) (count end : ℕ) → end ≡ count → spanOf table s false count ≡ 0 + spanOf table (drop 0 s) false (end - 0)
-extents-start table s count end e =
-    let a : end - 0 ≡ count = omega (arith, e) in
-    sym (zero-add _ ∙ ap (spanOf table (drop 0 s) false) a)
 
 -- Elements that fail
 

@@ -1,4 +1,4 @@
-// Elements of a list that are passed over together: those that do not start with given symbols or bytes, or a number of them.
+// Elements of a list that are passed over together: those that do not start with given symbols or bytes.
 use term::Code;
 use term::LIST;
 use term::class_of;
@@ -8,12 +8,11 @@ use term::extent;
 use term::same;
 use term::same_symbol;
 ghost use mathlib.Core.Path.{_≡_};
-ghost use mathlib.Core.Bool.{false};
 ghost use Prim.Native.Nat.{_*_, _≤_, _<_};
 ghost use lib.ListN.{length};
 ghost use Rattle.term.specs.Moment.{old};
 ghost use Rattle.term.specs.Code.{decodeOf};
-ghost use Rattle.term.specs.Extent.{spanOf, extentOf};
+ghost use Rattle.term.specs.Extent.{extentOf};
 ghost use Rattle.skips.specs.Passed.{leafAt, alikeOf, mostSymbols, isSymbol, endsChain, chainOf, differsAt, passedOver, passedOf, Passes, dearestOf, affordableOf};
 
 // A chain has no more symbols.
@@ -241,30 +240,6 @@ pub fn seek(table: &[u8], classes: &[u8], symbols: u8, x: &[u8], r: &[u8], most:
         }
     }
     seek_chain(table, classes, symbols, x, r, most)
-}
-
-// The number of bytes of so many terms at the start of s, or all of s where s ends before them.
-pub fn extents(table: &[u8], s: &[u8], count: u8) -> usize
-    ensures is { λ r. ⌜ r ≡ spanOf (old table) (old s) false count ⌝ }
-    ensures within { λ r. ⌜ r ≤ length (old s) ⌝ }
-{
-    let mut at: usize = 0;
-    // The earliest place at which they can end: each tree still to come takes a byte at least.
-    let mut end: usize = wide(count);
-    while at < end {
-        if s.len() <= end {
-            return s.len();
-        }
-        let entry = entry_of(table, s[at]);
-        if entry == LIST {
-            end = end + 1 + wide(s[at + 1]);
-            at = at + 2;
-        } else {
-            end = end + wide(entry);
-            at = at + 1;
-        }
-    }
-    at
 }
 
 // The most that is counted for an element: its length, and the pairs up to the one that fails.

@@ -6,7 +6,7 @@ pub mod Tables
 pub mod Codes
 pub mod Trees
 pub mod Sizes
-pub mod Extents
+pub mod Spans
 pub mod SameParts
 pub mod Classes
 pub mod Joins

@@ -8,7 +8,7 @@ ghost use lib.ListN.{length};
 ghost use Rattle.term.specs.Moment.{old};
 ghost use Rattle.term.specs.Table.{entryAccepted, tableAccepted};
 ghost use Rattle.term.specs.Code.{decodeOf};
-ghost use Rattle.term.specs.Extent.{kidsOf, entryOf, extentOf};
+ghost use Rattle.term.specs.Extent.{kidsOf, entryOf, spanOf, extentOf};
 ghost use Rattle.term.specs.Class.{classOf, entryClassed, classesAccepted};
 ghost use Rattle.term.specs.Same.{countNext, sameByte, samePart, Compares};
 ghost use Rattle.term.specs.Part.{partBytes};
@@ -168,14 +168,14 @@ pub fn entry_of(table: &[u8], b: u8) -> u8
     kids_of(decode(b))
 }
 
-// The number of bytes of the term or pattern at the start of s, or all of s where s ends before it.
-pub fn extent(table: &[u8], s: &[u8]) -> usize
-    ensures is { λ r. ⌜ r ≡ extentOf (old table) (old s) ⌝ }
+// The number of bytes of so many terms or patterns at the start of s, or all of s where s ends before them.
+pub fn extents(table: &[u8], s: &[u8], count: u8) -> usize
+    ensures is { λ r. ⌜ r ≡ spanOf (old table) (old s) false count ⌝ }
     ensures within { λ r. ⌜ r ≤ length (old s) ⌝ }
 {
     let mut at: usize = 0;
-    // The earliest place at which it can end: each tree still to come takes a byte at least.
-    let mut end: usize = 1;
+    // The earliest place at which they can end: each tree still to come takes a byte at least.
+    let mut end: usize = wide(count);
     while at < end {
         if s.len() <= end {
             return s.len();
@@ -190,6 +190,14 @@ pub fn extent(table: &[u8], s: &[u8]) -> usize
         }
     }
     at
+}
+
+// The same of one.
+pub fn extent(table: &[u8], s: &[u8]) -> usize
+    ensures is { λ r. ⌜ r ≡ extentOf (old table) (old s) ⌝ }
+    ensures within { λ r. ⌜ r ≤ length (old s) ⌝ }
+{
+    extents(table, s, 1)
 }
 
 // Whether x and y have the same bytes.

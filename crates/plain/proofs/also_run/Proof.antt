@@ -4,47 +4,36 @@ use borrow.Author.Needs.{needs}
 use Rattle.plain.proofs.also_run.Statement.{statement}
 use Rattle.plain.proofs.also_run.Tie as tie
 
--- src/lib.rt:86:28
 enum-told : tie.Need-enum-told
 enum-told c = search needs
 
--- src/lib.rt:87:26
 enum-told-2 : tie.Need-enum-told-2
 enum-told-2 c = search needs
 
--- src/lib.rt:88:19
 enum-known-code : tie.Need-enum-known-code
 enum-known-code c = search needs
 
--- src/lib.rt:89:21
 add-t5 : tie.Need-add-t5
 add-t5 c = search needs
 
--- src/lib.rt:92:29
 enum-told-3 : tie.Need-enum-told-3
 enum-told-3 c = search needs
 
--- src/lib.rt:93:26
 enum-told-4 : tie.Need-enum-told-4
 enum-told-4 c = search needs
 
--- src/lib.rt:81:1
 returns : tie.Need-returns
 returns c = search needs
 
--- src/lib.rt:81:1
 returns-2 : tie.Need-returns-2
 returns-2 c = search needs
 
--- src/lib.rt:81:1
 returns-3 : tie.Need-returns-3
 returns-3 c = also-is _ _ _ (c .before .before .code .given .1)
 
--- src/lib.rt:81:1
 returns-4 : tie.Need-returns-4
 returns-4 c = search needs
 
--- src/lib.rt:81:1
 returns-5 : tie.Need-returns-5
 returns-5 c = search needs
 

@@ -4,63 +4,48 @@ use borrow.Author.Needs.{needs}
 use Rattle.plain.proofs.list_step.Statement.{statement}
 use Rattle.plain.proofs.list_step.Tie as tie
 
--- src/lib.rt:192:9
 returns : tie.Need-returns
 returns c = list-short _ _ _ (c .if1 .taken)
 
--- src/lib.rt:195:9
 returns-2 : tie.Need-returns-2
 returns-2 c = list-cut _ _ _ (c .before .if1 .left) (c .if2 .taken)
 
--- src/lib.rt:197:13
 shared-slice-read-n : tie.Need-shared-slice-read-n
 shared-slice-read-n c = search needs
 
--- src/lib.rt:198:13
 shared-slice-read-m : tie.Need-shared-slice-read-m
 shared-slice-read-m c = search needs
 
--- src/lib.rt:200:9
 returns-3 : tie.Need-returns-3
 returns-3 c = list-equal _ _ _ (c .before .before .before .before .if1 .left) (c .before .before .before .if2 .left) (c .if3 .taken)
 
--- src/lib.rt:202:34
 sub-runs-among : tie.Need-sub-runs-among
 sub-runs-among c = search needs
 
--- src/lib.rt:202:34
 part-runs-among-start : tie.Need-part-runs-among-start
 part-runs-among-start c = search needs
 
--- src/lib.rt:202:34
 part-runs-among-end : tie.Need-part-runs-among-end
 part-runs-among-end c = search needs
 
--- src/lib.rt:202:9
 runs-among-requires : tie.Need-runs-among-requires
 runs-among-requires c κs = search needs
 
--- src/lib.rt:204:9
 returns-4 : tie.Need-returns-4
 returns-4 c = list-none _ _ _ (c .before .before .before .before .before .before .before .before .if1 .left) (c .before .before .before .before .before .before .before .if2 .left) (c .before .before .before .before .if3 .left) _ (c .before .before .runs-among .ensures .0) (c .if4 .taken)
 
--- src/lib.rt:206:12
 sub-if5 : tie.Need-sub-if5
 sub-if5 c = search needs
 
--- src/lib.rt:207:9
 returns-5 : tie.Need-returns-5
 returns-5 c = list-few _ _ _ (c .before .before .before .before .before .before .before .before .before .if1 .left) (c .before .before .before .before .before .before .before .before .if2 .left) (c .before .before .before .before .before .if3 .left) _ (c .before .before .before .runs-among .ensures .0) (c .before .if4 .left) (c .if5 .taken)
 
--- src/lib.rt:209:37
 sub-t10 : tie.Need-sub-t10
 sub-t10 c = search needs
 
--- src/lib.rt:209:32
 sub-t15 : tie.Need-sub-t15
 sub-t15 c = search needs
 
--- src/lib.rt:187:1
 returns-6 : tie.Need-returns-6
 returns-6 c =
     list-notes _ _ _ (c .before .before .before .before .before .before .before .before .before .if1 .left) (c .before .before .before .before .before .before .before .before .if2 .left) (c .before .before .before .before .before .if3 .left) _ (c .before .before .before .runs-among .ensures .0) (c .before .if4 .left) (c .if5 .left)

@@ -5,23 +5,18 @@ use borrow.Author.Needs.{needs}
 use Rattle.plain.proofs.match_checked.Statement.{statement}
 use Rattle.plain.proofs.match_checked.Tie as tie
 
--- src/lib.rt:393:9
 tier-requires : tie.Need-tier-requires
 tier-requires c κs = search needs
 
--- src/lib.rt:396:9
 returns : tie.Need-returns
 returns c = ended-fails _ _ (c .before .before .tier .ensures .0) _ (not-true _ (c .if1 .taken))
 
--- src/lib.rt:398:5
 show-requires : tie.Need-show-requires
 show-requires c κs = search needs
 
--- src/lib.rt:381:1
 same-length : tie.Need-same-length
 same-length c = search needs
 
--- src/lib.rt:381:1
 returns-2 : tie.Need-returns-2
 returns-2 c = ended-fits _ _ (c .before .before .before .before .before .before .before .tier .ensures .0) _ (not-false _ (c .before .before .before .before .before .if1 .left)) _ (c .before .before .before .before .before .before .before .tier .ensures .1) _ (c .before .before .show .ensures)
 

@@ -6,61 +6,47 @@ use borrow.Author.Needs.{needs}
 use Rattle.plain.proofs.step_at.Statement.{statement}
 use Rattle.plain.proofs.step_at.Tie as tie
 
--- src/lib.rt:236:29
 shared-slice-read-decode : tie.Need-shared-slice-read-decode
 shared-slice-read-decode c = search needs
 
--- src/lib.rt:236:9
 decode-requires : tie.Need-decode-requires
 decode-requires c κs = search needs
 
--- src/lib.rt:238:22
 enum-known-code : tie.Need-enum-known-code
 enum-known-code c = search needs
 
--- src/lib.rt:238:28
 symbol-step-requires : tie.Need-symbol-step-requires
 symbol-step-requires c κs = search needs
 
--- src/lib.rt:239:20
 enum-known-code-2 : tie.Need-enum-known-code-2
 enum-known-code-2 c = search needs
 
--- src/lib.rt:239:45
 extent-requires : tie.Need-extent-requires
 extent-requires c κs = search needs
 
--- src/lib.rt:240:19
 enum-known-code-3 : tie.Need-enum-known-code-3
 enum-known-code-3 c = search needs
 
--- src/lib.rt:241:29
 enum-told : tie.Need-enum-told
 enum-told c = search needs
 
--- src/lib.rt:242:26
 enum-told-2 : tie.Need-enum-told-2
 enum-told-2 c = search needs
 
--- src/lib.rt:231:1
 returns : tie.Need-returns
 returns c = step-by _ _ _ _ _ _ (c .before .before .before .before .decode .ensures) (c .before .before .code .given .1) _ (c .symbol-step .ensures .0) (c .symbol-step .ensures .1)
 
--- src/lib.rt:231:1
 returns-2 : tie.Need-returns-2
 returns-2 c =
     step-by _ _ _ _ _ _ (c .before .before .before .before .decode .ensures) (c .before .before .code2 .given .1) _ (ap (TakesNode (c .before .before .code2 .given .0 .0)) (c .extent .ensures .0))
     (name-below _ _ _ (c .before .before .before .before .decode .ensures) (c .before .before .code2 .given .1), c .extent .ensures .1)
 
--- src/lib.rt:231:1
 returns-3 : tie.Need-returns-3
 returns-3 c = step-by _ _ _ _ _ _ (c .before .before .before .decode .ensures) (c .before .code3 .given .1) _ refl (run-below _ _ _ (c .before .before .before .decode .ensures) (c .before .code3 .given .1))
 
--- src/lib.rt:231:1
 returns-4 : tie.Need-returns-4
 returns-4 c = step-by _ _ _ _ _ _ (c .before .before .decode .ensures) (c .enum-told .given .1) _ refl tt
 
--- src/lib.rt:231:1
 returns-5 : tie.Need-returns-5
 returns-5 c = step-by _ _ _ _ _ _ (c .before .before .decode .ensures) (c .enum-told2 .given .1) _ refl tt
 

@@ -6,37 +6,29 @@ use borrow.Author.Needs.{needs}
 use Rattle.plain.proofs.symbol_step.Statement.{statement}
 use Rattle.plain.proofs.symbol_step.Tie as tie
 
--- src/lib.rt:219:9
 returns : tie.Need-returns
 returns c = symbol-none _ _ _ _ _ (c .if1 .taken)
 
--- src/lib.rt:221:39
 shared-slice-read-same-symbol : tie.Need-shared-slice-read-same-symbol
 shared-slice-read-same-symbol c = search needs
 
--- src/lib.rt:221:9
 same-symbol-requires : tie.Need-same-symbol-requires
 same-symbol-requires c κs = search needs
 
--- src/lib.rt:222:9
 returns-2 : tie.Need-returns-2
 returns-2 c = symbol-differs _ _ _ _ _ (c .before .before .before .if1 .left) (sym (c .before .same-symbol .ensures) ∙ not-true _ (c .if2 .taken))
 
--- src/lib.rt:224:8
 entry-of-requires : tie.Need-entry-of-requires
 entry-of-requires c κs = search needs
 
--- src/lib.rt:225:9
 list-step-requires : tie.Need-list-step-requires
 list-step-requires c κs = search needs
 
--- src/lib.rt:225:9
 returns-3 : tie.Need-returns-3
 returns-3 c =
     symbol-list _ _ _ _ _ (c .before .before .before .before .before .before .if1 .left) (sym (c .before .before .before .before .same-symbol .ensures) ∙ not-false _ (c .before .before .before .if2 .left)) _ (c .before .before .entry-of .ensures)
     (c .before .if3 .taken) _ (c .list-step .ensures)
 
--- src/lib.rt:213:1
 returns-4 : tie.Need-returns-4
 returns-4 c =
     symbol-other _ _ _ _ _ (c .before .before .before .before .before .if1 .left) (sym (c .before .before .before .same-symbol .ensures) ∙ not-false _ (c .before .before .if2 .left)) _ (c .before .entry-of .ensures)

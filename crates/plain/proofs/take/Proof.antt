@@ -3,31 +3,24 @@ use borrow.Author.Needs.{needs}
 use Rattle.plain.proofs.take.Statement.{statement}
 use Rattle.plain.proofs.take.Tie as tie
 
--- src/lib.rt:275:9
 wide-requires : tie.Need-wide-requires
 wide-requires c κs = search needs
 
--- src/lib.rt:276:31
 bound-requires : tie.Need-bound-requires
 bound-requires c κs = search needs
 
--- src/lib.rt:276:16
 packed-requires : tie.Need-packed-requires
 packed-requires c κs = search needs
 
--- src/lib.rt:276:5
 mul-parts : tie.Need-mul-parts
 mul-parts c = search needs
 
--- src/lib.rt:276:5
 element-write-parts : tie.Need-element-write-parts
 element-write-parts c = search needs
 
--- src/lib.rt:277:5
 with-requires : tie.Need-with-requires
 with-requires c κs = search needs
 
--- src/lib.rt:271:1
 returns : tie.Need-returns
 returns c = (c .with .ensures, rw (c .before .packed .ensures, c .before .before .bound .ensures, c .before .before .before .wide .ensures))
 

@@ -5,23 +5,18 @@ use borrow.Author.Needs.{needs}
 use Rattle.plain.proofs.tree_bytes.Statement.{statement}
 use Rattle.plain.proofs.tree_bytes.Tie as tie
 
--- src/lib.rt:104:30
 shared-slice-read-entry-of : tie.Need-shared-slice-read-entry-of
 shared-slice-read-entry-of c = search needs
 
--- src/lib.rt:104:8
 entry-of-requires : tie.Need-entry-of-requires
 entry-of-requires c κs = search needs
 
--- src/lib.rt:105:9
 returns : tie.Need-returns
 returns c = leaf-bytes _ _ (c .before .before .before .before .before .pre) (sym (c .before .entry-of .ensures) ∙ c .if1 .taken)
 
--- src/lib.rt:107:5
 extent-requires : tie.Need-extent-requires
 extent-requires c κs = search needs
 
--- src/lib.rt:99:1
 returns-2 : tie.Need-returns-2
 returns-2 c = search needs
 

@@ -7,11 +7,9 @@ use borrow.Author.Needs.{needs}
 use Rattle.plain.proofs.with.Statement.{statement}
 use Rattle.plain.proofs.with.Tie as tie
 
--- src/lib.rt:77:13
 shl-result : tie.Need-shl-result
 shl-result c = search needs
 
--- src/lib.rt:73:1
 returns : tie.Need-returns
 returns c = ap (bitOr (c .args .mask)) (power-fits (c .args .v) (omega (arith, c .pre)))
 

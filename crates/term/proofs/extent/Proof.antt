@@ -1,109 +1,15 @@
--- `term::extent` meets its contract. The invariant: the extent is the place reached, and how far the trees that are still to come go from there.
--- The measure is what is left of the bytes.
-use Rattle.term.proofs.Extents.{extent-start, extent-over, extent-all, extent-fixed, extent-list}
-use Rattle.term.specs.Extent.{spanOf, extentOf}
+-- `term::extent` meets its contract. Assumes nothing.
+use mathlib.Core.Path.{_∙_}
 use borrow.Author.Needs.{needs}
-use native.Mathlib.Omega.{arith}
-use lib.ListN.{length, drop}
-use mathlib.Core.Bool.{false}
-use Prim.Native.Nat.{_≤_, _-_, _+_}
-use mathlib.Core.Path.{_≡_, sym, _∙_}
+use Rattle.term.proofs.Spans.{one-span}
 use Rattle.term.proofs.extent.Statement.{statement}
 use Rattle.term.proofs.extent.Tie as tie
 
-abbrev Inv-loop : tie.InvT-loop
-Inv-loop table s at₀ end₀ at end = (at ≤ end) × (at ≤ length s) × (extentOf table s ≡ at + spanOf table (drop at s) false (end - at))
+extents-requires : tie.Need-extents-requires
+extents-requires c κs = search needs
 
-abbrev μ-loop : tie.MeasureT-loop
-μ-loop table s at₀ end₀ at end = length s - at
-
-loop-holds : tie.Need-loop-holds Inv-loop μ-loop
-loop-holds c = (omega arith, omega arith, extent-start (c .before .before .args .table .now) (c .before .before .args .s .now))
-
-returns : tie.Need-returns Inv-loop μ-loop
-returns c =
-    let args = c .before .before .before .before .before .args in
-    let turn = c .before .before .loop in
-    (sym (turn .inv .2 ∙ extent-all (args .table .now) (args .s .now) (turn .at) (turn .end) (omega arith) (omega arith)), omega arith)
-
-shared-slice-read-entry-of : tie.Need-shared-slice-read-entry-of Inv-loop μ-loop
-shared-slice-read-entry-of c = omega arith
-
-entry-of-requires : tie.Need-entry-of-requires Inv-loop μ-loop
-entry-of-requires c κs = search needs
-
-add-end : tie.Need-add-end Inv-loop μ-loop
-add-end c = omega arith
-
-add-wide : tie.Need-add-wide Inv-loop μ-loop
-add-wide c = omega arith
-
-shared-slice-read-wide : tie.Need-shared-slice-read-wide Inv-loop μ-loop
-shared-slice-read-wide c = omega arith
-
-wide-requires : tie.Need-wide-requires Inv-loop μ-loop
-wide-requires c κs = search needs
-
-add-end-2 : tie.Need-add-end-2 Inv-loop μ-loop
-add-end-2 c = omega (arith, c .before .shared-slice-known4 .given (c .before .before .before .before .before .before .before .loop .at + 1))
-
-add-at : tie.Need-add-at Inv-loop μ-loop
-add-at c = omega arith
-
-loop-less : tie.Need-loop-less Inv-loop μ-loop
-loop-less c = omega arith
-
-loop-again : tie.Need-loop-again Inv-loop μ-loop
-loop-again c =
-    let args = c .before .before .before .before .before .before .before .before .before .before .args in
-    let turn = c .before .before .before .before .before .before .before .loop in
-    (omega arith, omega arith, turn .inv .2 ∙ extent-list (args .table .now) (args .s .now) (turn .at) (turn .end) (c .wide .result) (omega arith) (omega arith) (sym (c .before .before .before .entry-of .ensures) ∙ c .before .before .if2 .taken) (c .wide .ensures))
-
-wide-requires-2 : tie.Need-wide-requires-2 Inv-loop μ-loop
-wide-requires-2 c κs = search needs
-
-add-end-3 : tie.Need-add-end-3 Inv-loop μ-loop
-add-end-3 c = omega arith
-
-add-at-2 : tie.Need-add-at-2 Inv-loop μ-loop
-add-at-2 c = omega arith
-
-loop-less-2 : tie.Need-loop-less-2 Inv-loop μ-loop
-loop-less-2 c = omega arith
-
-loop-again-2 : tie.Need-loop-again-2 Inv-loop μ-loop
-loop-again-2 c =
-    let args = c .before .before .before .before .before .before .before .before .before .args in
-    let turn = c .before .before .before .before .before .before .loop in
-    (omega arith, omega arith, turn .inv .2 ∙ extent-fixed (args .table .now) (args .s .now) (turn .at) (turn .end) (c .wide2 .result) (omega arith) (omega arith) (c .wide2 .ensures ∙ c .before .before .entry-of .ensures) (λ e. c .before .if2 .left (sym (c .wide2 .ensures) ∙ e)))
-
-returns-2 : tie.Need-returns-2 Inv-loop μ-loop
-returns-2 c =
-    let args = c .before .before .before .before .args in
-    let turn = c .before .loop in
-    (sym (turn .inv .2 ∙ extent-over (args .table .now) (args .s .now) (turn .at) (turn .end) (omega arith)), omega arith)
+returns : tie.Need-returns
+returns c = (c .extents .ensures .0 ∙ one-span _ _, c .extents .ensures .1)
 
 pub extent-spec : {M : Type 1} → statement M
-extent-spec =
-    tie.close
-    (tie.spec
-    Inv-loop
-    μ-loop
-    loop-holds
-    returns
-    shared-slice-read-entry-of
-    entry-of-requires
-    add-end
-    add-wide
-    shared-slice-read-wide
-    wide-requires
-    add-end-2
-    add-at
-    loop-less
-    loop-again
-    wide-requires-2
-    add-end-3
-    add-at-2
-    loop-less-2
-    loop-again-2
-    returns-2)
+extent-spec = tie.close (tie.spec extents-requires returns)

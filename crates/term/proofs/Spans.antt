@@ -106,6 +106,10 @@ module _ (table : List ℕ) where
       let e : suc n ≡ 1 + n = omega arith in
       ap (spanOf table s false) e ∙ span-split s false 1 n
 
+  pub one-span : (s : List ℕ) → spanOf table s false 1 ≡ extentOf table s
+  unfolding extentOf
+  one-span s = refl
+
   pub extent-some : (s : List ℕ) → 0 < length s → 0 < extentOf table s
   unfolding extentOf spanOf
   extent-some [] h = absurd (omega arith)
@@ -113,9 +117,10 @@ module _ (table : List ℕ) where
 
   -- the same at a place, where `end` is the earliest place at which the trees can be over
 
-  pub extent-start : (s : List ℕ) → extentOf table s ≡ 0 + spanOf table (drop 0 s) false (1 - 0)
-  unfolding extentOf
-  extent-start s = omega arith
+  pub extent-start : (s : List ℕ) (count end : ℕ) → end ≡ count → spanOf table s false count ≡ 0 + spanOf table (drop 0 s) false (end - 0)
+  extent-start s count end e =
+      let a : end - 0 ≡ count = omega (arith, e) in
+      sym (zero-add _ ∙ ap (spanOf table (drop 0 s) false) a)
 
   pub extent-over : (s : List ℕ) (at end : ℕ) → end ≤ at → at + spanOf table (drop at s) false (end - at) ≡ at
   extent-over s at end h =

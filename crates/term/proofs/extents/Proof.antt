@@ -1,16 +1,15 @@
--- `skips::extents` meets its contract. The invariant: what is sought is the place reached, and how far the trees that are still to come go from there.
+-- `term::extents` meets its contract. The invariant: what is sought is the place reached, and how far the trees that are still to come go from there.
 -- The measure is what is left of the bytes. Assumes nothing.
-use Rattle.term.proofs.Extents.{extent-over, extent-all, extent-fixed, extent-list}
+use Rattle.term.proofs.Spans.{extent-start, extent-over, extent-all, extent-fixed, extent-list}
 use Rattle.term.specs.Extent.{spanOf}
 use borrow.Author.Needs.{needs}
 use native.Mathlib.Omega.{arith}
 use lib.ListN.{length, drop}
 use mathlib.Core.Bool.{false}
 use Prim.Native.Nat.{_≤_, _-_, _+_}
 use mathlib.Core.Path.{_≡_, sym, _∙_}
-use Rattle.skips.proofs.Passing.{extents-start}
-use Rattle.skips.proofs.extents.Statement.{statement}
-use Rattle.skips.proofs.extents.Tie as tie
+use Rattle.term.proofs.extents.Statement.{statement}
+use Rattle.term.proofs.extents.Tie as tie
 
 abbrev Inv-loop : tie.InvT-loop
 Inv-loop table s count at₀ end₀ at end =
@@ -23,7 +22,7 @@ wide-requires : tie.Need-wide-requires Inv-loop μ-loop
 wide-requires c κs = search needs
 
 loop-holds : tie.Need-loop-holds Inv-loop μ-loop
-loop-holds c = (omega arith, omega arith, extents-start _ _ _ _ (c .wide .ensures))
+loop-holds c = (omega arith, omega arith, extent-start _ _ _ _ (c .wide .ensures))
 
 returns : tie.Need-returns Inv-loop μ-loop
 returns c =
