@@ -3,7 +3,7 @@
 use Prim.Native.Nat.{ℕ}
 use mathlib.Core.List.{List}
 use mathlib.Core.Bool.{Bool, false, cond, _&&_, _||_}
-use lib.ListN.{length, getD, take}
+use lib.ListN.{length, getD, take, drop}
 use lib.Dec.{leb, eqb}
 use Rattle.answers.specs.Part.{isAbsent}
 use Rattle.answers.specs.declared.Part.{Part}
@@ -14,6 +14,7 @@ use Rattle.term.specs.Part.{partBytes}
 use Rattle.term.specs.Same.{sameByte, samePart}
 use Rattle.term.specs.declared.Code.{Code}
 use Rattle.term.specs.declared.Code.the-variants.{Symbol, Name, Run, Complement}
+use Rattle.parts.specs.Packed.{partOf}
 use Rattle.steps.specs.declared.Stop.the-variants.{Failure, NoAllowance, NoPair, RunName}
 use Rattle.steps.specs.declared.Step.{Step}
 use Rattle.steps.specs.declared.Step.the-variants.{Stops, Fails, Closes, Opens, Passes, Binds, PutsBy}
@@ -92,3 +93,16 @@ stepOf outermost table classes bytes q r had children elements left =
     cond (eqb children 0) (overStep outermost elements)
     (cond (eqb (length q) 0) (Stops Failure)
     (codeStep (outermost && eqb children 1) (decodeOf (getD q 0 0)) table classes bytes q r had elements left))
+
+-- The same from a byte of the pattern and one of the record on, by what the variables are assigned: a mask, and a number for each
+
+abbrev pub partFor : Code → ℕ → List ℕ → Part
+partFor c assigned parts = partOf assigned parts (variableOf c)
+
+abbrev pub plainStepFrom : Bool → Code → List ℕ → List ℕ → List ℕ → List ℕ → ℕ → List ℕ → ℕ → ℕ → ℕ → ℕ → Step
+plainStepFrom last c table classes pattern bytes assigned parts elements at node left =
+    plainStep last c table classes bytes (drop at pattern) (drop node bytes) (partFor c assigned parts) elements left
+
+abbrev pub stepFrom : Bool → List ℕ → List ℕ → List ℕ → List ℕ → ℕ → List ℕ → ℕ → ℕ → ℕ → ℕ → ℕ → Step
+stepFrom outermost table classes pattern bytes assigned parts children elements at node left =
+    stepOf outermost table classes bytes (drop at pattern) (drop node bytes) (partOf assigned parts (variableIn (drop at pattern))) children elements left

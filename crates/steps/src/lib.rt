@@ -14,9 +14,8 @@ ghost use mathlib.Core.Path.{_≡_};
 ghost use Prim.Native.Nat.{_≤_, _<_};
 ghost use lib.ListN.{length, drop};
 ghost use Rattle.term.specs.Moment.{old};
-ghost use Rattle.parts.specs.Packed.{partOf};
-ghost use Rattle.steps.specs.Turn.{variableOf, variableIn, standsOf, overStep, symbolStep, assignedStep, nameStep, runStep};
-ghost use Rattle.steps.specs.Turn.{complementStep, pairStep, plainStep, stepOf};
+ghost use Rattle.steps.specs.Turn.{standsOf, overStep, symbolStep, assignedStep, nameStep, runStep};
+ghost use Rattle.steps.specs.Turn.{complementStep, pairStep, partFor, plainStepFrom, stepFrom};
 
 // Where the pairs of a level stop: at a failure, for want of allowance, with no pair left, or at a run name.
 pub enum Stop {
@@ -169,8 +168,7 @@ fn pair(
     elements: u8,
 ) -> Step
     requires { ⌜ 0 < length (now r) ⌝ }
-    ensures { λ x. ⌜ x ≡ pairStep last code (old table) (old classes) (old «record») (old q) (old r)
-        (partOf assigned (old parts) (variableOf code)) elements ⌝ }
+    ensures { λ x. ⌜ x ≡ pairStep last code (old table) (old classes) (old «record») (old q) (old r) (partFor code assigned (old parts)) elements ⌝ }
 {
     match code {
         Code::Symbol(b) => symbol(table, classes, q, r, b),
@@ -215,8 +213,7 @@ fn plain(
     left: u32,
 ) -> Step
     requires { ⌜ at ≤ length (now pattern) ⌝ }
-    ensures { λ x. ⌜ x ≡ plainStep last code (old table) (old classes) (old «record») (drop at (old pattern)) (drop node (old «record»))
-        (partOf assigned (old parts) (variableOf code)) elements left ⌝ }
+    ensures { λ x. ⌜ x ≡ plainStepFrom last code (old table) (old classes) (old pattern) (old «record») assigned (old parts) elements at node left ⌝ }
 {
     if elements == 0 {
         return Step::Stops(Stop::Failure);
@@ -257,8 +254,7 @@ pub fn step_of(
     node: usize,
     left: u32,
 ) -> Step
-    ensures { λ x. ⌜ x ≡ stepOf outermost (old table) (old classes) (old «record») (drop at (old pattern)) (drop node (old «record»))
-        (partOf assigned (old parts) (variableIn (drop at (old pattern)))) children elements left ⌝ }
+    ensures { λ x. ⌜ x ≡ stepFrom outermost (old table) (old classes) (old pattern) (old «record») assigned (old parts) children elements at node left ⌝ }
 {
     if children == 0 {
         return over(outermost, elements);
