@@ -17,7 +17,7 @@ use Rattle.term.specs.declared.Code.the-variants.{Symbol, Name, Run, Complement
 use Rattle.term.proofs.Codes.{decode-below}
 use Rattle.term.proofs.Spans.{span-none, span-fixed}
 use Rattle.plain.specs.Bytes.{sumOf, runs, alsoRun, runsAmong, noRuns, runCode}
-use Rattle.plain.specs.declared.Runs.{Runs}
+use Rattle.plain.specs.declared.runs.Runs.{Runs}
 
 -- one code more
 

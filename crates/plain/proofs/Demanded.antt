@@ -47,7 +47,7 @@ use Rattle.plain.specs.Check.{isPlain}
 use Rattle.plain.specs.Demands.{PlainExact, PlainAnswered, PlainDemanded}
 use Rattle.plain.specs.Plain.{Plain}
 use Rattle.plain.specs.Tier.{wholeTier, shownTier, plainAnswer}
-use Rattle.plain.specs.declared.Tiering.{Tiering}
+use Rattle.plain.specs.declared.tier.Tiering.{Tiering}
 use Rattle.plain.proofs.Agreeing.{same-outcome}
 use Rattle.plain.proofs.Checking.{check-exact}
 use Rattle.plain.proofs.Checks.{reads, checked-exactly, own-checked, first-fails, plain-fails, record-fails, all-pass}

@@ -15,7 +15,7 @@ use Rattle.term.specs.Same.{sameByte}
 use Rattle.term.specs.declared.Code.{Code}
 use Rattle.term.specs.declared.Code.the-variants.{Symbol, Name, Run, Complement}
 use Rattle.plain.specs.Bytes.{alsoRun, isLeaf, leavesOf}
-use Rattle.plain.specs.declared.Runs.{Runs}
+use Rattle.plain.specs.declared.runs.Runs.{Runs}
 use Rattle.plain.proofs.Among.{Among, among-next, leaf-bytes}
 
 -- a symbol is its byte

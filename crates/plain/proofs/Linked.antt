@@ -42,8 +42,8 @@ use Rattle.link.proofs.Represents.{Stands, Shown}
 use Rattle.plain.specs.Bytes.{runs, runsAmong, noRuns, listStep, listOf, symbolOf, turnBy, turnOf, Ending, Standing, standing, takes, stepped, tierFrom, standingStart, tierOn, noParts, toldEnding, shownEnding}
 use Rattle.plain.specs.Plain.{NoComplement, NoComplements, Once, runNames, plainChildren, OneRun, OneRuns, Plain}
 use Rattle.plain.specs.Tier.{Tiered, comesOut, taken, left, runLength, andThen, ifTrue, tier, tiers, wholeTier, shownTier, plainAnswer}
-use Rattle.plain.specs.declared.Turn.{Turn}
-use Rattle.plain.specs.declared.Turn.the-variants.{Fails, Enters, Notes, TakesNode, TakesRun}
+use Rattle.plain.specs.declared.tier.Turn.{Turn}
+use Rattle.plain.specs.declared.tier.Turn.the-variants.{Fails, Enters, Notes, TakesNode, TakesRun}
 use Rattle.plain.proofs.Agreeing.{ComesOut, Number, comes, unequal, fewer, number-comes, count-left}
 use Rattle.plain.proofs.Looked.{lastRun, no-run, runs-children}
 use Rattle.plain.proofs.Parted.{parts-take, parts-none}

@@ -26,9 +26,9 @@ use Rattle.parts.proofs.Masks.{bit-new, bit-other}
 use Rattle.plain.specs.Bytes.{runs, alsoRun, runsAmong, noRuns, lookList, lookSymbol, lookVariable, lookBy, lookOf, onPass, plainFrom}
 use Rattle.plain.specs.Check.{seenOr, goOn, onlyIf, look, looks, isSome, isPlain}
 use Rattle.plain.specs.Plain.{runNames}
-use Rattle.plain.specs.declared.Look.{Look}
-use Rattle.plain.specs.declared.Look.the-variants.{NotPlain, Passes}
-use Rattle.plain.specs.declared.Runs.{Runs}
+use Rattle.plain.specs.declared.check.Look.{Look}
+use Rattle.plain.specs.declared.check.Look.the-variants.{NotPlain, Passes}
+use Rattle.plain.specs.declared.runs.Runs.{Runs}
 use Rattle.plain.proofs.Nodes.{none-seen}
 
 -- the run names of a list's children

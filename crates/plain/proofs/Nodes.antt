@@ -19,11 +19,11 @@ use Rattle.term.specs.declared.Code.the-variants.{Symbol, Name, Run, Complement
 use Rattle.term.proofs.Codes.{decode-below}
 use Rattle.parts.specs.Packed.{bit}
 use Rattle.plain.specs.Bytes.{runsAmong, noRuns, mayHold, rootMayHold, lookList, lookSymbol, lookVariable, lookBy, lookOf, LookWithin, listStep, listOf, symbolOf, turnBy, turnOf, TurnWithin}
-use Rattle.plain.specs.declared.Runs.{Runs}
-use Rattle.plain.specs.declared.Look.{Look}
-use Rattle.plain.specs.declared.Look.the-variants.{NotPlain, Passes}
-use Rattle.plain.specs.declared.Turn.{Turn}
-use Rattle.plain.specs.declared.Turn.the-variants.{Fails, Enters, Notes}
+use Rattle.plain.specs.declared.runs.Runs.{Runs}
+use Rattle.plain.specs.declared.check.Look.{Look}
+use Rattle.plain.specs.declared.check.Look.the-variants.{NotPlain, Passes}
+use Rattle.plain.specs.declared.tier.Turn.{Turn}
+use Rattle.plain.specs.declared.tier.Turn.the-variants.{Fails, Enters, Notes}
 use Rattle.plain.proofs.Among.{runBytes, bytes-behind, among-bytes}
 
 -- a variable's number is one of those of the answer buffer

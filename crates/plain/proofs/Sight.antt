@@ -19,8 +19,8 @@ use Rattle.term.specs.declared.Code.the-variants.{Symbol, Name, Run, Complement
 use Rattle.parts.specs.Packed.{bit}
 use Rattle.parts.proofs.Masks.{bit-new, bit-other, bit-still}
 use Rattle.plain.specs.Bytes.{sumOf, runsAmong, noRuns, runCode, weightOf, weightsOf, rootBytes, lookList, lookSymbol, lookVariable, lookByte, lookBy, lookOf, onPass, plainFrom, SurelyPlain}
-use Rattle.plain.specs.declared.Look.{Look}
-use Rattle.plain.specs.declared.Look.the-variants.{NotPlain, Passes}
+use Rattle.plain.specs.declared.check.Look.{Look}
+use Rattle.plain.specs.declared.check.Look.the-variants.{NotPlain, Passes}
 use Rattle.plain.proofs.Among.{runBytes, among-bytes, here-once}
 use Rattle.plain.proofs.Holding.{SymbolIs, symbol-is}
 use Rattle.plain.proofs.Nodes.{none-seen, look-seldom, look-few}

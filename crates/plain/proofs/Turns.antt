@@ -19,11 +19,11 @@ use Rattle.parts.specs.Packed.{packed}
 use Rattle.plain.specs.Bytes.{lookOf, onPass, plainFrom, isLeaf, leavesOf, turnBy, turnOf, TurnWithin, Ending, ending, tieringOf, Standing, standing, takes, stepped, tierFrom, standingStart, tierOn, rootMayHold}
 use Rattle.plain.proofs.Nodes.{symbol-other, root-no-pattern, root-step}
 use Rattle.plain.proofs.Holding.{leaf-is}
-use Rattle.plain.specs.declared.Look.{Look}
-use Rattle.plain.specs.declared.Look.the-variants.{NotPlain, Passes}
-use Rattle.plain.specs.declared.Turn.{Turn}
-use Rattle.plain.specs.declared.Turn.the-variants.{Fails, Enters, Notes, TakesNode, TakesRun}
-use Rattle.plain.specs.declared.Tiering.{Tiering}
+use Rattle.plain.specs.declared.check.Look.{Look}
+use Rattle.plain.specs.declared.check.Look.the-variants.{NotPlain, Passes}
+use Rattle.plain.specs.declared.tier.Turn.{Turn}
+use Rattle.plain.specs.declared.tier.Turn.the-variants.{Fails, Enters, Notes, TakesNode, TakesRun}
+use Rattle.plain.specs.declared.tier.Tiering.{Tiering}
 
 one-or-two : (w : ℕ) → 1 ≤ w → w ≤ 2 → (w ≡ 1) ⊎ (w ≡ 2)
 one-or-two zero h k = absurd (omega arith)

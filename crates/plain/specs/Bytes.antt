@@ -18,12 +18,12 @@ use Rattle.term.specs.declared.Code.{Code}
 use Rattle.term.specs.declared.Code.the-variants.{Symbol, Name, Run, Complement}
 use Rattle.parts.specs.Packed.{bit, packed, partPlaces, partsIn}
 use Rattle.parts.specs.Shown.{shownParts}
-use Rattle.plain.specs.declared.Runs.{Runs}
-use Rattle.plain.specs.declared.Look.{Look}
-use Rattle.plain.specs.declared.Look.the-variants.{NotPlain, Passes}
-use Rattle.plain.specs.declared.Turn.{Turn}
-use Rattle.plain.specs.declared.Turn.the-variants.{Fails, Enters, Notes, TakesNode, TakesRun}
-use Rattle.plain.specs.declared.Tiering.{Tiering}
+use Rattle.plain.specs.declared.runs.Runs.{Runs}
+use Rattle.plain.specs.declared.check.Look.{Look}
+use Rattle.plain.specs.declared.check.Look.the-variants.{NotPlain, Passes}
+use Rattle.plain.specs.declared.tier.Turn.{Turn}
+use Rattle.plain.specs.declared.tier.Turn.the-variants.{Fails, Enters, Notes, TakesNode, TakesRun}
+use Rattle.plain.specs.declared.tier.Tiering.{Tiering}
 
 -- Run names
 
