@@ -24,7 +24,8 @@ extern "C" {
 /* The version of the library that this header belongs to. */
 #define QONVESHIR_VERSION "0.2.0"
 
-/* The numbers. 13, unread, belongs to the report program. */
+/* The numbers. 13, unread, belongs to the report program. No call gives 16, 18
+   to 22 or 24 yet: they are document 02's, for calls to come. */
 enum {
   QONVESHIR_DONE = 0,       /* bound, written, accepted or bounded */
   QONVESHIR_TABLE = 1,      /* over 200 bytes, or a byte neither 0 to 8 nor 255 */
@@ -43,8 +44,15 @@ enum {
   QONVESHIR_FULL = 12,      /* output too short for what is to be written */
   QONVESHIR_CLASS = 14,     /* a class list breaks its rules, see below */
   QONVESHIR_UNKNOWN = 15,   /* the given run lengths belong to no answer, see below */
+  QONVESHIR_UNSPLICED = 16, /* in edition 2, a list directly inside a list of its class */
   QONVESHIR_LENGTH = 17,    /* a stored list tells another length than that of its children */
-  QONVESHIR_NOT_PLAIN = 23  /* a pattern that the plain tier does not take, see below */
+  QONVESHIR_LOOSE = 18,     /* a template with a complement, or a name not free in the rule */
+  QONVESHIR_OUTGROWN = 19,  /* what a template gives is over a record's limits */
+  QONVESHIR_NO_NAME = 20,   /* no state is kept under that name */
+  QONVESHIR_SHELF = 21,     /* eight states are kept, and the name is a ninth */
+  QONVESHIR_NO_EXAMPLE = 22, /* no record up to that size satisfies the pattern */
+  QONVESHIR_NOT_PLAIN = 23, /* a pattern that the plain tier does not take, see below */
+  QONVESHIR_TURNS = 24      /* more than 6 turns */
 };
 
 /* Limits, in bytes; of a rule sheet in patterns, of nesting in nodes from the

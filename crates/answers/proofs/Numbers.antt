@@ -6,7 +6,7 @@ use mathlib.Core.Bool.{Bool, true, false, _||_, true≢false}
 use lib.Dec.{eqb}
 use Rattle.answers.specs.Refusal.{numberOf}
 use Rattle.answers.specs.declared.Refusal.{Refusal}
-use Rattle.answers.specs.declared.Refusal.the-variants.{Table, Short, Spare, BadCode, Deep, Long, Stray, Narrow, Directory, Full, Unread, Class, Unknown, Length, NotPlain}
+use Rattle.answers.specs.declared.Refusal.the-variants.{Table, Short, Spare, BadCode, Deep, Long, Stray, Narrow, Directory, Full, Unread, Class, Unknown, Unspliced, Length, Loose, Outgrown, NoName, Shelf, NoExample, NotPlain, Turns}
 
 -- bound has 0, none 10, spent 11
 abbrev pub isWord : ℕ → Bool
@@ -26,8 +26,15 @@ no-word Full = refl
 no-word Unread = refl
 no-word Class = refl
 no-word Unknown = refl
+no-word Unspliced = refl
 no-word Length = refl
+no-word Loose = refl
+no-word Outgrown = refl
+no-word NoName = refl
+no-word Shelf = refl
+no-word NoExample = refl
 no-word NotPlain = refl
+no-word Turns = refl
 
 pub word-or-refusal : (n : ℕ) → isWord n ≡ true → (r : Refusal) → n ≡ numberOf r → ⊥
 word-or-refusal n w r e = true≢false (sym w ∙ ap isWord e ∙ no-word r)

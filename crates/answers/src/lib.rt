@@ -23,8 +23,15 @@ pub enum Refusal {
     Unread,
     Class,
     Unknown,
+    Unspliced,
     Length,
+    Loose,
+    Outgrown,
+    NoName,
+    Shelf,
+    NoExample,
     NotPlain,
+    Turns,
 }
 
 impl Refusal {
@@ -46,8 +53,15 @@ impl Refusal {
             Refusal::Unread => 13,
             Refusal::Class => 14,
             Refusal::Unknown => 15,
+            Refusal::Unspliced => 16,
             Refusal::Length => 17,
+            Refusal::Loose => 18,
+            Refusal::Outgrown => 19,
+            Refusal::NoName => 20,
+            Refusal::Shelf => 21,
+            Refusal::NoExample => 22,
             Refusal::NotPlain => 23,
+            Refusal::Turns => 24,
         }
     }
 }

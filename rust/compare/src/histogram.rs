@@ -212,6 +212,8 @@ fn can_give(call: Call, word: Word) -> bool {
         Word::Directory => ![&WITH_A_PATTERN[..], &MOVES, &PLAINS].concat().contains(&call),
         Word::Full => call == Write || MOVES.contains(&call),
         Word::Unread => false,
+        Word::Unspliced | Word::Loose | Word::Outgrown | Word::NoName => false,
+        Word::Shelf | Word::NoExample | Word::Turns => false,
         Word::Class => BRINGING.contains(&call),
         Word::Unknown => NEXTS.contains(&call),
         Word::Length => call == Restore,

@@ -67,17 +67,25 @@ pub enum Word {
     Unread,
     Class,
     Unknown,
-    Length = 17,
-    NotPlain = 23,
+    Unspliced,
+    Length,
+    Loose,
+    Outgrown,
+    NoName,
+    Shelf,
+    NoExample,
+    NotPlain,
+    Turns,
 }
 
 impl Word {
     /// Every word, in the order of the numbers.
-    pub const ALL: [Word; 18] = {
+    pub const ALL: [Word; 25] = {
         use Word::*;
         [
             Bound, Table, Short, Spare, Code, Deep, Long, Stray, Narrow, Directory, None, Spent,
-            Full, Unread, Class, Unknown, Length, NotPlain,
+            Full, Unread, Class, Unknown, Unspliced, Length, Loose, Outgrown, NoName, Shelf,
+            NoExample, NotPlain, Turns,
         ]
     };
 
@@ -110,8 +118,15 @@ impl Word {
             Word::Unread => "unread",
             Word::Class => "class",
             Word::Unknown => "unknown",
+            Word::Unspliced => "unspliced",
             Word::Length => "length",
+            Word::Loose => "loose",
+            Word::Outgrown => "outgrown",
+            Word::NoName => "no name",
+            Word::Shelf => "shelf",
+            Word::NoExample => "no example",
             Word::NotPlain => "not plain",
+            Word::Turns => "turns",
         }
     }
 
@@ -145,11 +160,20 @@ impl Word {
             Word::Unknown => {
                 "the given run lengths are not one for each free run name, or belong to no answer"
             }
+            Word::Unspliced => "in edition 2, a list directly inside a list of its class",
             Word::Length => "a stored list tells another length than that of its children",
+            Word::Loose => "a template with a complement, or a name or run name not free in the rule",
+            Word::Outgrown => {
+                "what a template gives is over 4,096 bytes, nesting 32 or 255 elements of a list"
+            }
+            Word::NoName => "no state is kept under that name",
+            Word::Shelf => "eight states are kept, and the name is a ninth",
+            Word::NoExample => "no record up to that size satisfies the pattern",
             Word::NotPlain => {
                 "a pattern for the plain tier with a complement, a name or run name twice, or two \
                  run names in a list"
             }
+            Word::Turns => "more than 6 turns",
         }
     }
 }
