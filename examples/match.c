@@ -1,5 +1,5 @@
-/* Matches one rule against one state from C, another up to class, lists every answer of a third, and
-   shows what two of them can cost at most.
+/* Matches one rule against one state from C, another up to class, lists every answer of a third,
+   shows what two of them can cost at most, and matches a state that it splices for edition 2.
 
    cc -Iinclude examples/match.c target/staticlib/libqonveshir.a -o target/match && target/match */
 
@@ -46,6 +46,27 @@ static void show_every(const uint8_t *state, size_t state_length) {
   show("after the last", found, answer);
 }
 
+/* Matches gates(@0, shut) in edition 2 against gates(open, gates(held, shut)), as it is and
+   spliced. */
+static void show_edition_2(void) {
+  static const uint8_t rule[] = {5, 2, 232, 1};
+  static const uint8_t state[] = {5, 2, 0, 5, 2, 2, 1};
+  uint8_t spliced[sizeof state];
+  uint16_t answer[QONVESHIR_ANSWER];
+  show("a list in a list",
+       qonveshir_match_in(2, table, sizeof table, classes, sizeof classes, rule, sizeof rule, state,
+                          sizeof state, 100000, answer, QONVESHIR_ANSWER),
+       answer);
+  qonveshir_outcome written =
+      qonveshir_splice_record_in(table, sizeof table, classes, sizeof classes, state, sizeof state,
+                                 spliced, sizeof spliced);
+  printf("spliced: number %u, length %llu\n", written.number, (unsigned long long)written.count);
+  show("its elements in its place",
+       qonveshir_match_in(2, table, sizeof table, classes, sizeof classes, rule, sizeof rule,
+                          spliced, written.count, 100000, answer, QONVESHIR_ANSWER),
+       answer);
+}
+
 int main(void) {
   uint16_t answer[QONVESHIR_ANSWER];
 
@@ -63,14 +84,12 @@ int main(void) {
                        answer, QONVESHIR_ANSWER),
        answer);
   show("row up to class",
-       qonveshir_match_with_classes(table, sizeof table, classes, sizeof classes, row_rule,
-                                    sizeof row_rule, row, sizeof row, 100000, answer,
-                                    QONVESHIR_ANSWER),
+       qonveshir_match_in(1, table, sizeof table, classes, sizeof classes, row_rule,
+                          sizeof row_rule, row, sizeof row, 100000, answer, QONVESHIR_ANSWER),
        answer);
   show("row with a class list that is too short",
-       qonveshir_match_with_classes(table, sizeof table, classes, sizeof classes - 1, row_rule,
-                                    sizeof row_rule, row, sizeof row, 100000, answer,
-                                    QONVESHIR_ANSWER),
+       qonveshir_match_in(1, table, sizeof table, classes, sizeof classes - 1, row_rule,
+                          sizeof row_rule, row, sizeof row, 100000, answer, QONVESHIR_ANSWER),
        answer);
 
   static const uint8_t two[] = {5, 2, 3, 2, 1};  /* gates(gate(held), shut) */
@@ -83,5 +102,7 @@ int main(void) {
   cost = qonveshir_cost(table, sizeof table, gates_rule, sizeof gates_rule);
   printf("gates has no bound: number %u, count %llu\n", cost.number,
          (unsigned long long)cost.count);
+
+  show_edition_2();
   return 0;
 }

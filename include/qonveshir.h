@@ -24,8 +24,8 @@ extern "C" {
 /* The version of the library that this header belongs to. */
 #define QONVESHIR_VERSION "0.2.0"
 
-/* The numbers. 13, unread, belongs to the report program. No call gives 16, 18
-   to 22 or 24 yet: they are document 02's, for calls to come. */
+/* The numbers. 13, unread, belongs to the report program. No call gives 18 to 22
+   or 24 yet: they are document 02's, for calls to come. */
 enum {
   QONVESHIR_DONE = 0,       /* bound, written, accepted or bounded */
   QONVESHIR_TABLE = 1,      /* over 200 bytes, or a byte neither 0 to 8 nor 255 */
@@ -34,10 +34,12 @@ enum {
   QONVESHIR_CODE = 4,       /* a code not allowed there, or not in the table */
   QONVESHIR_DEEP = 5,       /* nesting over 32 */
   QONVESHIR_LONG = 6,       /* pattern, record, stored record or sheet over its limit, over 64
-                               rules; an old form over a record's limit */
+                               rules; an old form over a record's limit; a spliced list over 255
+                               elements */
   QONVESHIR_STRAY = 7,      /* run name elsewhere than as a list's child */
   QONVESHIR_NARROW = 8,     /* answer buffer under 144 numbers */
-  QONVESHIR_DIRECTORY = 9,  /* a sheet breaks its rules, or no such entry */
+  QONVESHIR_DIRECTORY = 9,  /* a sheet breaks its rules, no such entry, or an edition neither 1 nor
+                               2 */
   QONVESHIR_NONE = 10,      /* no assignment satisfies the pattern, or none after the given answer;
                                of a cost, no bound */
   QONVESHIR_SPENT = 11,     /* the count is over the allowance */
@@ -66,6 +68,9 @@ enum {
 #define QONVESHIR_RULES_LIMIT 64
 #define QONVESHIR_NESTING_LIMIT 32
 
+/* What the count of an edition 2 sheet has added. */
+#define QONVESHIR_EDITION_MARK 32768
+
 /* Numbers of names, ?0 to ?31, and of these and run names, @0 to @15. */
 #define QONVESHIR_NAMES 32
 #define QONVESHIR_VARIABLES 48
@@ -91,6 +96,36 @@ typedef struct { uint32_t number; uint32_t index; uint64_t count; } qonveshir_ou
    unless number is 0. */
 typedef struct { uint32_t number; uint32_t offset; uint32_t length; } qonveshir_part;
 
+/* The two forms of a call. The simple form has no class list, and is of edition
+   1 unless a sheet tells another. The form `_in` is told its language: a class
+   list, always, and the edition, where no sheet tells it. Only qonveshir_entry,
+   which reads no table, has one form.
+
+   The edition is 1 or 2. Any other number is refused with 9, before all other
+   checks; index and count are 0. In edition 2 a list directly inside a list of
+   the same symbol, up to class, means its elements in its place. A name in a
+   list still stands for one element. Records and patterns of edition 2 must come
+   already spliced: such a list in a list is refused with 16, at its node after
+   7 and before the 2 for a missing number of children. A complement between the
+   two is not "directly". The calls qonveshir_splice_record and
+   qonveshir_splice_pattern splice what is of edition 1.
+
+   A sheet tells its own edition: QONVESHIR_EDITION_MARK is added to the count of
+   one of edition 2. Its entries are read in its edition, and so is the record
+   that a rule sheet is tried on.
+
+   A class list is as long as the table. Its entry for a symbol, the symbol's
+   class, is the lowest symbol of the same meaning. Symbols of one class count as
+   the same wherever a symbol or two parts are compared, and where a list stands
+   in a list. A list's number of children is no symbol and is compared as it is.
+   An answer shows what stands at each name's first place; answers that differ
+   only within classes count as one. Refused with 14, which shows index 0 and
+   count 0: another length (an empty list too, unless the table is empty), an
+   entry above its own index, an entry that is not its own class, or one with
+   another byte in the table than its symbol. With each symbol its own class,
+   which is also the list for edition 2 without classes, a call of edition 1 does
+   what its simple form does. */
+
 /* Matches one pattern against one record. Bound (0) writes the first
    QONVESHIR_ANSWER numbers of the answer; what lies past them stays, and every
    other number leaves the whole answer as it was. Spent (11) shows the
@@ -101,26 +136,15 @@ qonveshir_outcome qonveshir_match(const uint8_t *table, size_t table_length,
                                   uint32_t allowance,
                                   uint16_t *answer, size_t answer_length);
 
-/* The same up to class: symbols of one class count as the same wherever a
-   symbol or two parts are compared. A list's number of children is no symbol
-   and is compared as it is. The answer shows what stands at each name's first
-   place.
-
-   The class list is as long as the table. Its entry for a symbol, the symbol's
-   class, is the lowest symbol of the same meaning. Refused with 14: another
-   length (an empty list too, unless the table is empty), an entry above its own
-   index, an entry that is not its own class, or one with another byte in the
-   table than its symbol. With each symbol its own class the call does what
-   qonveshir_match does.
-
-   Checks: 8, 1, 14, the pattern, the record; the last two by the table alone.
-   14 shows index 0 and count 0. */
-qonveshir_outcome qonveshir_match_with_classes(const uint8_t *table, size_t table_length,
-                                               const uint8_t *classes, size_t classes_length,
-                                               const uint8_t *pattern, size_t pattern_length,
-                                               const uint8_t *record, size_t record_length,
-                                               uint32_t allowance,
-                                               uint16_t *answer, size_t answer_length);
+/* The same in an edition, up to class. Checks: 9 of the edition, 8, 1, 14, the
+   pattern, the record. */
+qonveshir_outcome qonveshir_match_in(uint32_t edition,
+                                     const uint8_t *table, size_t table_length,
+                                     const uint8_t *classes, size_t classes_length,
+                                     const uint8_t *pattern, size_t pattern_length,
+                                     const uint8_t *record, size_t record_length,
+                                     uint32_t allowance,
+                                     uint16_t *answer, size_t answer_length);
 
 /* Shows the answer after a given one, in the order of answers, or none (10)
    after the last. To list every answer, call qonveshir_match for the first,
@@ -159,17 +183,16 @@ qonveshir_outcome qonveshir_next(const uint8_t *table, size_t table_length,
                                  uint32_t allowance,
                                  uint16_t *answer, size_t answer_length);
 
-/* The same up to class, with a class list as for qonveshir_match_with_classes:
-   the list with which the given answer was shown. Answers that differ only
-   within classes count as one. Checks: 8, 1, 14, the pattern, the record, 15.
-   14 shows index 0 and count 0. */
-qonveshir_outcome qonveshir_next_with_classes(const uint8_t *table, size_t table_length,
-                                              const uint8_t *classes, size_t classes_length,
-                                              const uint8_t *pattern, size_t pattern_length,
-                                              const uint8_t *record, size_t record_length,
-                                              const uint16_t *given, size_t given_length,
-                                              uint32_t allowance,
-                                              uint16_t *answer, size_t answer_length);
+/* The same in an edition, up to class: those in which the given answer was shown.
+   Checks: 9 of the edition, 8, 1, 14, the pattern, the record, 15. */
+qonveshir_outcome qonveshir_next_in(uint32_t edition,
+                                    const uint8_t *table, size_t table_length,
+                                    const uint8_t *classes, size_t classes_length,
+                                    const uint8_t *pattern, size_t pattern_length,
+                                    const uint8_t *record, size_t record_length,
+                                    const uint16_t *given, size_t given_length,
+                                    uint32_t allowance,
+                                    uint16_t *answer, size_t answer_length);
 
 /* Matches one plain pattern against one record, without an allowance: it is
    never spent. A pattern is plain if it has no complement, no name or run name
@@ -188,13 +211,14 @@ qonveshir_outcome qonveshir_match_plain(const uint8_t *table, size_t table_lengt
                                         const uint8_t *record, size_t record_length,
                                         uint16_t *answer, size_t answer_length);
 
-/* The same up to class, with a class list as for qonveshir_match_with_classes.
-   Checks: 8, 1, 14, the pattern, 23, the record. */
-qonveshir_outcome qonveshir_match_plain_with_classes(const uint8_t *table, size_t table_length,
-                                                     const uint8_t *classes, size_t classes_length,
-                                                     const uint8_t *pattern, size_t pattern_length,
-                                                     const uint8_t *record, size_t record_length,
-                                                     uint16_t *answer, size_t answer_length);
+/* The same in an edition, up to class. Checks: 9 of the edition, 8, 1, 14, the
+   pattern, 23, the record. */
+qonveshir_outcome qonveshir_match_plain_in(uint32_t edition,
+                                           const uint8_t *table, size_t table_length,
+                                           const uint8_t *classes, size_t classes_length,
+                                           const uint8_t *pattern, size_t pattern_length,
+                                           const uint8_t *record, size_t record_length,
+                                           uint16_t *answer, size_t answer_length);
 
 /* Tries the rules of a sheet in order, each with the whole allowance, up to the
    first that is bound or spent, whose index is shown. The count is the sum so
@@ -207,15 +231,14 @@ qonveshir_outcome qonveshir_match_rules(const uint8_t *table, size_t table_lengt
                                         uint32_t allowance,
                                         uint16_t *answer, size_t answer_length);
 
-/* The same up to class, with a class list as for qonveshir_match_with_classes.
-   Checks: 8, 1, 14 (index 0), 6 of the sheet, 9, 6 of 64 rules, each pattern
-   (its index is shown), the record (index 0). */
-qonveshir_outcome qonveshir_match_rules_with_classes(const uint8_t *table, size_t table_length,
-                                                     const uint8_t *classes, size_t classes_length,
-                                                     const uint8_t *rules, size_t rules_length,
-                                                     const uint8_t *record, size_t record_length,
-                                                     uint32_t allowance,
-                                                     uint16_t *answer, size_t answer_length);
+/* The same up to class. Checks: 8, 1, 14, 6 of the sheet, 9, 6 of 64 rules, each
+   pattern (its index is shown), the record (index 0). */
+qonveshir_outcome qonveshir_match_rules_in(const uint8_t *table, size_t table_length,
+                                           const uint8_t *classes, size_t classes_length,
+                                           const uint8_t *rules, size_t rules_length,
+                                           const uint8_t *record, size_t record_length,
+                                           uint32_t allowance,
+                                           uint16_t *answer, size_t answer_length);
 
 /* Writes a sheet of joined records, whose lengths are given, and shows the
    sheet's length as the count. Output past that stays; a refusal leaves all of
@@ -226,8 +249,18 @@ qonveshir_outcome qonveshir_write_sheet(const uint8_t *table, size_t table_lengt
                                         const uint16_t *lengths, size_t lengths_length,
                                         uint8_t *output, size_t output_length);
 
-/* Shows where an entry lies in the sheet. Checks: 6 of the sheet, 9 of its
-   directory, 9 of the index; the entry's contents are not read. */
+/* The same in an edition, which the sheet then tells, up to class. Checks: 9 of
+   the edition, 1, 14, 9 (a length 0 or a wrong sum), 6 of the sheet, each record
+   (its index is shown), 12. */
+qonveshir_outcome qonveshir_write_sheet_in(uint32_t edition,
+                                           const uint8_t *table, size_t table_length,
+                                           const uint8_t *classes, size_t classes_length,
+                                           const uint8_t *records, size_t records_length,
+                                           const uint16_t *lengths, size_t lengths_length,
+                                           uint8_t *output, size_t output_length);
+
+/* Shows where an entry lies in a sheet, of either edition. Checks: 6 of the
+   sheet, 9 of its directory, 9 of the index; the entry's contents are not read. */
 qonveshir_part qonveshir_entry(const uint8_t *sheet, size_t sheet_length, uint32_t index);
 
 /* Accepts a sheet of patterns. Checks: 1, 6 of the sheet, 9, 6 of 64 rules,
@@ -235,20 +268,39 @@ qonveshir_part qonveshir_entry(const uint8_t *sheet, size_t sheet_length, uint32
 qonveshir_outcome qonveshir_check_rules(const uint8_t *table, size_t table_length,
                                         const uint8_t *sheet, size_t sheet_length);
 
+/* The same up to class. Checks: 1, 14, 6 of the sheet, 9, 6 of 64 rules, each
+   pattern (its index is shown). */
+qonveshir_outcome qonveshir_check_rules_in(const uint8_t *table, size_t table_length,
+                                           const uint8_t *classes, size_t classes_length,
+                                           const uint8_t *sheet, size_t sheet_length);
+
 /* Accepts a sheet of records. Checks: 1, 6 of the sheet, 9, each record (its
    index is shown). */
 qonveshir_outcome qonveshir_check_states(const uint8_t *table, size_t table_length,
                                          const uint8_t *sheet, size_t sheet_length);
 
+/* The same up to class. Checks: 1, 14, 6 of the sheet, 9, each record (its index
+   is shown). */
+qonveshir_outcome qonveshir_check_states_in(const uint8_t *table, size_t table_length,
+                                            const uint8_t *classes, size_t classes_length,
+                                            const uint8_t *sheet, size_t sheet_length);
+
 /* Shows how much a pattern can cost at most. Bounded (0), with the number of the
-   pattern's nodes as the count, if it has no run names: no match of it, with
-   classes or without, on any record, counts more, nor does the next answer; so
+   pattern's nodes as the count, if it has no run names: no match of it, in any
+   edition, with classes or without, on any record, counts more, nor does the next answer; so
    this number is an allowance that is never spent on it, and so is
    QONVESHIR_AMPLE. A node is a name, a symbol or a complement, within
    complements too. None (10), with count 0, if it has run names, also if these
    stand within complements: then there is no such bound. Checks: 1, the pattern. */
 qonveshir_outcome qonveshir_cost(const uint8_t *table, size_t table_length,
                                  const uint8_t *pattern, size_t pattern_length);
+
+/* The same in an edition, up to class. Checks: 9 of the edition, 1, 14, the
+   pattern. */
+qonveshir_outcome qonveshir_cost_in(uint32_t edition,
+                                    const uint8_t *table, size_t table_length,
+                                    const uint8_t *classes, size_t classes_length,
+                                    const uint8_t *pattern, size_t pattern_length);
 
 /* Writes the stored form of a record, and shows its length as the count. In the
    stored form a list node's number of children is followed by the length in
@@ -260,6 +312,14 @@ qonveshir_outcome qonveshir_store(const uint8_t *table, size_t table_length,
                                   const uint8_t *record, size_t record_length,
                                   uint8_t *output, size_t output_length);
 
+/* The same in an edition, up to class. Checks: 9 of the edition, 1, 14, the
+   record, 12. */
+qonveshir_outcome qonveshir_store_in(uint32_t edition,
+                                     const uint8_t *table, size_t table_length,
+                                     const uint8_t *classes, size_t classes_length,
+                                     const uint8_t *record, size_t record_length,
+                                     uint8_t *output, size_t output_length);
+
 /* Writes the old form of a stored record, and shows its length as the count;
    qonveshir_store of that gives the stored record again. Output past that stays;
    a refusal leaves all of it as it was. Checks: 1, 6 of the stored record, at
@@ -269,6 +329,45 @@ qonveshir_outcome qonveshir_store(const uint8_t *table, size_t table_length,
 qonveshir_outcome qonveshir_restore(const uint8_t *table, size_t table_length,
                                     const uint8_t *stored, size_t stored_length,
                                     uint8_t *output, size_t output_length);
+
+/* The same in an edition, up to class; qonveshir_store_in gives the stored record
+   again. Checks: 9 of the edition, 1, 14, then as above, with 16 of a node after
+   its 5. */
+qonveshir_outcome qonveshir_restore_in(uint32_t edition,
+                                       const uint8_t *table, size_t table_length,
+                                       const uint8_t *classes, size_t classes_length,
+                                       const uint8_t *stored, size_t stored_length,
+                                       uint8_t *output, size_t output_length);
+
+/* Splices an edition 1 record, and shows the length written as the count: in
+   place of a list directly inside a list of the same symbol stand its elements.
+   The outer list keeps its symbol. What is written has at most the record's
+   length, is accepted in edition 2, and is not changed by splicing it again.
+   Output past that stays; a refusal leaves all of it as it was. Checks: 1, the
+   record, 6 if a spliced list has over 255 elements, 12. */
+qonveshir_outcome qonveshir_splice_record(const uint8_t *table, size_t table_length,
+                                          const uint8_t *record, size_t record_length,
+                                          uint8_t *output, size_t output_length);
+
+/* The same up to class: in place of a list directly inside a list of its class.
+   Checks: 1, 14, the record, 6, 12. */
+qonveshir_outcome qonveshir_splice_record_in(const uint8_t *table, size_t table_length,
+                                             const uint8_t *classes, size_t classes_length,
+                                             const uint8_t *record, size_t record_length,
+                                             uint8_t *output, size_t output_length);
+
+/* Splices an edition 1 pattern, as qonveshir_splice_record does a record. A
+   list below a complement is not directly inside the list around that. Checks:
+   1, the pattern, 6, 12. */
+qonveshir_outcome qonveshir_splice_pattern(const uint8_t *table, size_t table_length,
+                                           const uint8_t *pattern, size_t pattern_length,
+                                           uint8_t *output, size_t output_length);
+
+/* The same up to class. Checks: 1, 14, the pattern, 6, 12. */
+qonveshir_outcome qonveshir_splice_pattern_in(const uint8_t *table, size_t table_length,
+                                              const uint8_t *classes, size_t classes_length,
+                                              const uint8_t *pattern, size_t pattern_length,
+                                              uint8_t *output, size_t output_length);
 
 #ifdef __cplusplus
 }

@@ -9,9 +9,13 @@ use borrow.Author.Tests.{eqb-true, eq-eqb}
 use Rattle.term.specs.Class.{classOf}
 use Rattle.term.specs.Pattern.{Pattern, name, symbol, complement, Children, end, plain, run}
 use Rattle.term.specs.Same.{sameTerm, sameTerms}
-use Rattle.term.specs.Term.{Term, node, Terms, nil, _::_, _⧺_, single}
+use Rattle.term.specs.Term.{Term, node, Terms, nil, _::_, _⧺_, single, termTree, termTrees}
+use Rattle.term.specs.Splicing.{standIn, SplicedAll}
+use Rattle.term.specs.declared.Code.the-variants.{Symbol}
+use Rattle.term.specs.declared.Stand.{Stand}
+use Rattle.term.proofs.Splicing.{spliced-elsewhere}
 use Rattle.term.proofs.SameParts.{and-true, same-term, same-terms, same-counts}
-use Rattle.anti_pattern.specs.Language.{Language, TermsOf, _⊢_∼_, _⊢_≈_, _⊢_≋_}
+use Rattle.anti_pattern.specs.Language.{Language, OverAll, TermOf, TermsOf, _⊢_∼_, _⊢_≈_, _⊢_≋_}
 use Rattle.anti_pattern.specs.Meaning.{Assignment, ExtendsAt, Extends, Holds, HoldAll, OneAt, CountAsOne}
 use Rattle.anti_pattern.specs.Order.{lengthOf}
 use Rattle.anti_pattern.specs.Variables.{free, among}
@@ -148,3 +152,11 @@ of-join l (t :: x) us g h = (g .0, of-join l x us (g .1) h)
 pub of-split : (l : Language) (x us : Terms) → TermsOf l (x ⧺ us) → TermsOf l x × TermsOf l us
 of-split l nil us g = (tt, g)
 of-split l (t :: x) us g = let r = of-split l x us (g .1) in ((g .0, r .0), r .1)
+
+-- the children of a term of the language are
+each-of : (l : Language) (stand : Stand) (ts : Terms) → OverAll (l .table) ts → SplicedAll l stand (termTrees ts) → TermsOf l ts
+each-of l stand nil o h = tt
+each-of l stand (t :: ts) o h = ((o .0, spliced-elsewhere l stand (termTree t) (h .0)), each-of l stand ts (o .1) (h .1))
+
+pub children-of : (l : Language) (s : ℕ) (ts : Terms) → TermOf l (node s ts) → TermsOf l ts
+children-of l s ts g = each-of l (standIn (l .table) (Symbol s)) ts (g .0 .2) (g .1 .1)

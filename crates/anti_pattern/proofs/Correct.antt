@@ -19,7 +19,7 @@ use Rattle.anti_pattern.specs.Search.{Env, update, bind, Answers, found,
 use Rattle.anti_pattern.specs.Variables.{vars, varsAll, free}
 use borrow.Author.Tests.{eqb-true, eq-eqb}
 use Rattle.term.proofs.SameParts.{same-terms, same-counts}
-use Rattle.anti_pattern.proofs.Alike.{single-same, single-open, run-trans, one-refl, one-sym, one-trans, holds-one, hold-all-one, of-join, of-split}
+use Rattle.anti_pattern.proofs.Alike.{single-same, single-open, run-trans, one-refl, one-sym, one-trans, holds-one, hold-all-one, of-join, of-split, children-of}
 use Rattle.anti_pattern.proofs.Extensions.{extends-refl, extends-nil, extends-at, extends-add, extends-drop, extends-set, extends-unbind, extends-bound}
 use Rattle.anti_pattern.proofs.Facts.{join-nil, join-one, count-join, head-same, tail-same, nil-cons, none-some, some-same, behind-alike, alike-behind}
 use Rattle.anti_pattern.proofs.Listed.{all-map, all-join, member-left, member-right, ascending-map, ascending-join}
@@ -434,7 +434,7 @@ module _ (l : Language) where
         best-iff (λ b y. (((y .0, y .1 .0 .0), y .1 .0 .1), y .1 .1)) (λ b y. (y .0 .0 .0, ((y .0 .0 .1, y .0 .1), y .1)))
         (sym-best (classOf (l .classes) s) (classOf (l .classes) n) (e .value) (varsAll qs vs) (λ b. (HoldAll l (TermsOf l) qs b ts × K b) × C b)
         (λ u. searches (l .table) (l .classes) how qs ts (at + width (l .table) n) e put k)
-        (searches-lead how qs may ts (g .2) (at + width (l .table) n) k vs K r x e put C ok c p) (eqb (classOf (l .classes) s) (classOf (l .classes) n)) refl)
+        (searches-lead how qs may ts (children-of l n ts g) (at + width (l .table) n) k vs K r x e put C ok c p) (eqb (classOf (l .classes) s) (classOf (l .classes) n)) refl)
     search-leads how (complement q) may t g at k vs K r x e put C ok c p =
         best-iff (λ b y. ((y .1 .1, y .0), y .1 .0)) (λ b y. (y .0 .1, (y .1, y .0 .0)))
         (x e (put ++ ((λ f. search (l .table) (l .classes) freely q t at f [] finish) ∷ [])) (λ b. C b × Holds l (TermsOf l) (complement q) b t) ok

@@ -195,12 +195,12 @@ module _ (table : List ℕ) where
           all-length qs,
         )
 
-  pub few-nodes : (q : Pattern) → PatternAccepted table q → nodes q ≤ ample
-  few-nodes q a = omega (arith, nodes-length q, a .short)
+pub few-nodes : (l : Language) (q : Pattern) → PatternAccepted l q → nodes q ≤ ample
+few-nodes l q a = omega (arith, nodes-length (l .table) q, a .short)
 
-  pub enough-nodes : (q : Pattern) (allowance : ℕ) → PatternAccepted table q → Enough q allowance → nodes q ≤ allowance
-  enough-nodes q allowance a (inl h) = h
-  enough-nodes q allowance a (inr h) = omega (arith, few-nodes q a)
+pub enough-nodes : (l : Language) (q : Pattern) (allowance : ℕ) → PatternAccepted l q → Enough q allowance → nodes q ≤ allowance
+enough-nodes l q allowance a (inl h) = h
+enough-nodes l q allowance a (inr h) = omega (arith, few-nodes l q a)
 
 -- whether there are run names
 

@@ -7,11 +7,13 @@ use mathlib.Core.Bool.{Bool, true, false, cond}
 use native.Mathlib.Omega.{arith}
 use native.Mathlib.Decide.{ℕ-discrete}
 use lib.Dec.{eqb}
-use Rattle.term.specs.Term.{Term}
+use Rattle.term.specs.Term.{Term, termTree}
+use Rattle.term.specs.declared.Stand.the-variants.{Elsewhere}
+use Rattle.term.proofs.Splicing.{one-spliced}
 use Rattle.anti_pattern.specs.Rides.{table, opened, shut, gate, row}
 use Rattle.anti_pattern.specs.AntiTerm.{Anti, var, neg, app, ε, _▸_, Occurs}
 use Rattle.anti_pattern.specs.Ground.{Way, bare, take, Semantics}
-use Rattle.anti_pattern.specs.Language.{Language, language, TermOf}
+use Rattle.anti_pattern.specs.Language.{Language, simple, TermOf}
 use Rattle.term.proofs.SameParts.{term-equal}
 use Rattle.anti_pattern.proofs.Taken.{outermost?, occurs?}
 
@@ -71,16 +73,16 @@ right-first =
 
 -- the rides' table, and no class list
 abbrev pub rideLanguage : Language
-rideLanguage = language table []
+rideLanguage = simple table
 
 open-of : TermOf rideLanguage opened
-open-of = (omega arith, λ e. refl, tt)
+open-of = ((omega arith, λ e. refl, tt), one-spliced table [] Elsewhere (termTree opened))
 
 shut-of : TermOf rideLanguage shut
-shut-of = (omega arith, λ e. refl, tt)
+shut-of = ((omega arith, λ e. refl, tt), one-spliced table [] Elsewhere (termTree shut))
 
 gate-of : (t : Term) → TermOf rideLanguage t → TermOf rideLanguage (gate t)
-gate-of t g = (omega arith, λ e. refl, (g, tt))
+gate-of t g = ((omega arith, λ e. refl, (g .0, tt)), one-spliced table [] Elsewhere (termTree (gate t)))
 
 -- values for the variables 0, 1 and 2
 abbrev values : Term → Term → Term → ℕ → Term

@@ -10,6 +10,7 @@ use Rattle.term.specs.Code.{variables}
 use Rattle.term.specs.Pattern.{Pattern}
 use Rattle.term.specs.Term.{Term, Terms, size}
 use Rattle.term.proofs.SameParts.{term-equal, terms-equal}
+use Rattle.term.specs.declared.Edition.{Edition}
 use Rattle.anti_pattern.specs.Answer.{answer}
 use Rattle.anti_pattern.specs.AntiTerm.{Anti}
 use Rattle.anti_pattern.specs.Demands.{SearchDecides, PartsShown, AnswerExact, PublishedAgrees, OverTable, NextExact, EveryAnswer, CostBound, ChoicesAgree, ChoiceMatters, SingleClasses}
@@ -85,23 +86,23 @@ choices-agree l q t g = record {
 pub choice-matters : ChoiceMatters
 choice-matters = (rideLanguage, crossed, sides, left-first, right-first, left-in, right-out)
 
-pub single-classes : (table classes : List ℕ) → ((s : ℕ) → classOf classes s ≡ s) → SingleClasses table classes
-single-classes table classes single = record {
-  same = λ t u. (term-equal classes single t u, term-eq (language table classes) t u);
+pub single-classes : (l : Language) → ((s : ℕ) → classOf (l .classes) s ≡ s) → SingleClasses l
+single-classes l single = record {
+  same = λ t u. (term-equal (l .classes) single t u, term-eq l t u);
   one = λ a b. (
     λ h. fun-ext (λ v. go (a v) (b v) (h v)),
-    λ e v. subst (λ (c : Assignment). OneAt (language table classes) (a v) (c v)) e (one-refl (language table classes) (a v)),
+    λ e v. subst (λ (c : Assignment). OneAt l (a v) (c v)) e (one-refl l (a v)),
   );
 }
   where
-    go : (o p : Option Terms) → OneAt (language table classes) o p → o ≡ p
+    go : (o p : Option Terms) → OneAt l o p → o ≡ p
     go none none h = refl
     go none (some x) h = absurd h
     go (some w) none h = absurd h
-    go (some w) (some x) h = ap some (terms-equal classes single w x h)
+    go (some w) (some x) h = ap some (terms-equal (l .classes) single w x h)
 
-pub no-classes : (table : List ℕ) → SingleClasses table []
-no-classes table = single-classes table [] (λ s. refl)
+pub no-classes : (edition : Edition) (table : List ℕ) → SingleClasses (language edition table [])
+no-classes edition table = single-classes (language edition table []) (λ s. refl)
 
 pub rides-hold : RidesHold
 unfolding answer search finish behind size

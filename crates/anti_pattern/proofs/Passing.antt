@@ -13,6 +13,7 @@ use Rattle.term.specs.Class.{classOf}
 use Rattle.term.specs.Pattern.{Pattern, name, symbol, complement, Children, end, plain, run}
 use Rattle.term.specs.Table.{width}
 use Rattle.term.specs.Term.{Term, node, Terms, nil, _::_, _⧺_, count, single, size, sizes}
+use Rattle.term.specs.declared.Edition.the-variants.{One}
 use Rattle.anti_pattern.specs.Answer.{bound, nothing, parts, matchingOf}
 use Rattle.anti_pattern.specs.Demands.{OneForEach}
 use Rattle.anti_pattern.specs.Language.{Language, language, TermOf}
@@ -178,7 +179,7 @@ module _ (table classes : List ℕ) (how : ℕ → Tries) where
   resume-places (x ∷ fs) =
       let r = resume-places fs in (
         λ b v. placeAll table (x .patterns) (x .elements) (x .at) b v (r .0 b v),
-        searches-places (language table classes) how (x .patterns) (x .elements) (x .at) (resume table classes how fs) (r .0) (r .1),
+        searches-places (language One table classes) how (x .patterns) (x .elements) (x .at) (resume table classes how fs) (r .0) (r .1),
       )
 
   machine-keeps : (fs : List Frame) (e : Env) (ds : List Pending) (f : Env) → AnswerIn (machine table classes how fs e ds .out) f

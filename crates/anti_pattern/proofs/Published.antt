@@ -19,7 +19,7 @@ use Rattle.anti_pattern.specs.Order.{lengthOf, runLengths}
 use Rattle.anti_pattern.specs.Place.{partsAt}
 use Rattle.anti_pattern.specs.Published.{_⊢_∈⟦_⟧, Solution, NoRuns, NoRunsIn, anti, antis, singly, assignment}
 use Rattle.anti_pattern.specs.Variables.{vars, varsAll, free, among, runs, runsAll, firsts}
-use Rattle.anti_pattern.proofs.Alike.{term-sym, term-trans, term-eq, single-same, single-open, some-one, one-trans}
+use Rattle.anti_pattern.proofs.Alike.{term-sym, term-trans, term-eq, single-same, single-open, some-one, one-trans, children-of}
 use Rattle.anti_pattern.proofs.Answers.{none-exactly, bound-exactly}
 use Rattle.anti_pattern.proofs.Extensions.{extends-at}
 use Rattle.anti_pattern.proofs.Facts.{eqb-same, head-same, none-some, some-same}
@@ -363,7 +363,7 @@ module _ (l : Language) where
           = λ c d o j. link q (λ x. F x ⊎ Free x (act σ q)) (λ x. either? (F? x) (free? x (act σ q))) c d t g o (λ x. inr) j in
           (comp-there q F F? a b t g of k ih, comp-back q F F? a b t g of k ih)
       link (app f qs) F F? a b (node r ts) g of s k =
-          let i = link-all qs F F? a b ts (g .2) of s k in (λ h. (h .0, i .0 (h .1)), λ h. (h .0, i .1 (h .1)))
+          let i = link-all qs F F? a b ts (children-of l r ts g) of s k in (λ h. (h .0, i .0 (h .1)), λ h. (h .0, i .1 (h .1)))
 
       link-all : (qs : Antis ℕ) (F : ℕ → Type 0) (F? : (x : ℕ) → Dec (F x)) (a : ℕ → Term) (b : Assignment) (ts : Terms) → TermsOf l ts → OfLanguage b
           → ((x : ℕ) → FreeIn x (acts σ qs) → F x) → ((x : ℕ) → OccursIn x qs → OneAt l (b x) (known (σ x) (F? x) (a x)))

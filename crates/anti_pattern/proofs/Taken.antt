@@ -10,7 +10,7 @@ use Rattle.anti_pattern.specs.Language.{Language, TermOf, TermsOf, _⊢_
 use Rattle.anti_pattern.specs.Scope.{Apart, ApartAll}
 use Rattle.term.specs.Class.{classOf}
 use Rattle.term.proofs.SameParts.{same-term}
-use Rattle.anti_pattern.proofs.Alike.{node-open, node-same, cons-open, cons-same, term-sym, term-trans, term-eq}
+use Rattle.anti_pattern.proofs.Alike.{node-open, node-same, cons-open, cons-same, term-sym, term-trans, term-eq, children-of}
 use mathlib.Core.Bool.{false≢true}
 
 left : {A B C : Type 0} → (A → B) → A ⊎ C → B ⊎ C
@@ -306,7 +306,7 @@ module _ (l : Language) {X : Type 0} where
       λ p. moved r F a (p .0) t (ground-there F a (p .0) t (p .2)) (p .3),
     )
     split (app f qs) ω r F a (node s ts) g =
-        let i = split-all qs ω r F a ts (g .2) in
+        let i = split-all qs ω r F a ts (children-of l s ts g) in
         (λ h. let p = i .0 (h .1) in (p .0, p .1, (h .0, p .2), p .3), λ p. (p .2 .0, i .1 (p .0, p .1, p .2 .1, p .3)))
 
     split-all : (qs : Antis X) (ω : OutermostIn qs) (r : Anti X) (F : X → Type 0) (a : X → Term) (ts : Terms) → TermsOf l ts

@@ -14,7 +14,7 @@ use Rattle.anti_pattern.specs.Answer.{Matching, bound, nothing, spent, p
 use Rattle.anti_pattern.specs.AntiTerm.{Anti, Free, Substitution}
 use Rattle.anti_pattern.specs.Cost.{nodes}
 use Rattle.anti_pattern.specs.Ground.{Way, Semantics}
-use Rattle.anti_pattern.specs.Language.{Language, language, _⊢_≈_}
+use Rattle.anti_pattern.specs.Language.{Language, _⊢_≈_}
 use Rattle.anti_pattern.specs.Meaning.{Assignment, SatisfiesOver, Satisfies, CountAsOne}
 use Rattle.anti_pattern.specs.Next.{Following, follows, unknown, checkCount, nextCount, next}
 use Rattle.anti_pattern.specs.Order.{All, Member, Ascending, runLengths, Smaller}
@@ -182,6 +182,6 @@ abbrev pub ChoiceMatters : Type 0
 ChoiceMatters = (l : Language) × (q : Anti ℕ) × (t : Term) × (w : Way q) × (v : Way q) × Semantics l w t × (Semantics l v t → ⊥)
 
 -- With a class list of single classes, and without one, the same terms are equal ones, and what counts as one is equal: document 01's words.
-pub record SingleClasses (table classes : List ℕ) : Type 0 where
-  pub same : (t u : Term) → (language table classes ⊢ t ≈ u) ↔ (t ≡ u)
-  pub one : (a b : Assignment) → CountAsOne (language table classes) a b ↔ (a ≡ b)
+pub record SingleClasses (l : Language) : Type 0 where
+  pub same : (t u : Term) → (l ⊢ t ≈ u) ↔ (t ≡ u)
+  pub one : (a b : Assignment) → CountAsOne l a b ↔ (a ≡ b)

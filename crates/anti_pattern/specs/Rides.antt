@@ -9,8 +9,9 @@ use Rattle.answers.specs.Part.{part, absent}
 use Rattle.answers.specs.declared.Part.{Part}
 use Rattle.term.specs.Pattern.{Pattern, name, symbol, complement, Children, end, plain, run}
 use Rattle.term.specs.Term.{Term, node, Terms, nil, _::_, single}
+use Rattle.term.specs.declared.Edition.the-variants.{One}
 use Rattle.anti_pattern.specs.Answer.{Matching, bound, nothing, spent, answer}
-use Rattle.anti_pattern.specs.Language.{Language, language}
+use Rattle.anti_pattern.specs.Language.{Language, language, simple}
 use Rattle.anti_pattern.specs.Next.{Following, follows, unknown, next}
 use Rattle.anti_pattern.specs.Place.{eachVariable}
 
@@ -92,11 +93,11 @@ abbrev under : ℕ → Language → Pattern → Term → Matching → Ride
 under n l q t a = record { language = l; pattern = q; term = t; allowance = n; expected = a }
 
 abbrev ride : Pattern → Term → Matching → Ride
-ride = under ample (language table [])
+ride = under ample (simple table)
 
 -- by the class list
 abbrev classed : Pattern → Term → Matching → Ride
-classed = under ample (language wider classes)
+classed = under ample (language One wider classes)
 
 -- ?0 is the variable 0, @0 the variable 32
 abbrev pub rides : List Ride
@@ -110,7 +111,7 @@ rides =
     ∷ ride (rowᵖ (! (gateᵖ (name 0))) (! (! (gateᵖ (name 0))))) (row (gate opened) (gate shut)) (nothing 5)
     ∷ ride (gatesᵖ (run 32 (plain (! openedᵖ) (run 33 end)))) (gates (opened :: shut :: nil)) (showing ((32, part 2 1 1) ∷ (33, part 4 0 0) ∷ []) 10)
     ∷ ride (gatesᵖ (run 32 (run 33 end))) (gates (opened :: nil)) (showing ((32, part 2 0 0) ∷ (33, part 2 1 1) ∷ []) 4)
-    ∷ under 3 (language table []) (gatesᵖ (run 32 (run 33 end))) (gates (opened :: nil)) (spent 3)
+    ∷ under 3 (simple table) (gatesᵖ (run 32 (run 33 end))) (gates (opened :: nil)) (spent 3)
     ∷ ride (gatesᵖ (run 32 (run 32 end))) (gates (opened :: nil)) (nothing 5)
     ∷ ride (! (gatesᵖ (run 32 (plain (name 0) (run 33 (plain (! (name 0)) (run 34 end))))))) (gates nil) (showing [] 3)
     ∷ ride (gatesᵖ (plain (! openedᵖ) end)) (gates nil) (nothing 1)
@@ -123,7 +124,7 @@ rides =
     ∷ classed (gateᵖ heldᵖ) (gate stopped) (showing [] 2)
     -- row(?0, ?0) on row(held, stopped), three pairs: ?0 is shown at its first place; without the class list the last pair fails
     ∷ classed (rowᵖ (name 0) (name 0)) (row held stopped) (showing ((0, part 1 1 1) ∷ []) 3)
-    ∷ under ample (language wider []) (rowᵖ (name 0) (name 0)) (row held stopped) (nothing 3)
+    ∷ under ample (simple wider) (rowᵖ (name 0) (name 0)) (row held stopped) (nothing 3)
     -- row(?0, !?0): the complement's inside is a fourth pair, which holds
     ∷ classed (rowᵖ (name 0) (! (name 0))) (row held stopped) (nothing 4)
     -- gates(@0, @0) on gates(held, stopped): the list, then lengths 0 and 1, each tried at either place; the second leaves nothing over
@@ -151,7 +152,7 @@ nextRide n l q t given f = record { language = l; pattern = q; term = t; given =
 
 -- gates(@0, @1) on gates(open, shut), under an allowance
 abbrev pair : ℕ → List ℕ → Following → NextRide
-pair n = nextRide n (language table []) (gatesᵖ (run 32 (run 33 end))) (gates (opened :: shut :: nil))
+pair n = nextRide n (simple table) (gatesᵖ (run 32 (run 33 end))) (gates (opened :: shut :: nil))
 
 abbrev pub nextRides : List NextRide
 nextRides =
@@ -170,11 +171,11 @@ nextRides =
     ∷ pair 5 (0 ∷ 2 ∷ []) (follows (spent 5))
     ∷ pair 6 (0 ∷ 2 ∷ []) (follows (showing ((32, part 2 1 1) ∷ (33, part 3 1 1) ∷ []) 6))
     -- G: its answer is the last
-    ∷ nextRide ample (language table []) (gatesᵖ (run 32 (plain (! openedᵖ) (run 33 end)))) (gates (opened :: shut :: nil)) (1 ∷ 0 ∷ []) (follows (nothing 6))
+    ∷ nextRide ample (simple table) (gatesᵖ (run 32 (plain (! openedᵖ) (run 33 end)))) (gates (opened :: shut :: nil)) (1 ∷ 0 ∷ []) (follows (nothing 6))
     -- no free run names: the one answer is followed by none
-    ∷ nextRide ample (language table []) (gateᵖ (name 0)) (gate opened) [] (follows (nothing 2))
+    ∷ nextRide ample (simple table) (gateᵖ (name 0)) (gate opened) [] (follows (nothing 2))
     -- up to class: gates(@0, @0) on gates(held, stopped)
-    ∷ nextRide ample (language wider classes) (gatesᵖ (run 32 (run 32 end))) (gates (held :: stopped :: nil)) (1 ∷ []) (follows (nothing 5))
+    ∷ nextRide ample (language One wider classes) (gatesᵖ (run 32 (run 32 end))) (gates (held :: stopped :: nil)) (1 ∷ []) (follows (nothing 5))
     ∷ []
 
 abbrev pub NextRidesHold : Type 0

@@ -13,7 +13,7 @@ use Rattle.answers.specs.declared.Refusal.the-variants.{Table, Narrow, Class}
 use Rattle.reader.specs.Reading.{Parsed, refused, read}
 use Rattle.term.specs.Table.{tableAccepted}
 use Rattle.parts.specs.Shown.{answerWidth}
-use Rattle.call.specs.Brought.{broughtAccepted}
+use Rattle.reader.specs.Brought.{Brought, broughtAccepted}
 use Rattle.call.specs.Verdict.{Verdict, passed, fault, check, reading, both}
 use Rattle.call.specs.Call.{checks}
 
@@ -35,37 +35,37 @@ both-passed (passed u) (fault r i) x y e = absurd (fault-passed e)
 both-passed {X} {Y} (passed u) (passed v) x y e =
     let z : _≡_ {A = X × Y} (u, v) (x, y) = cc in (ap (λ (p : X × Y). passed (p .0)) z, ap (λ (p : X × Y). passed (p .1)) z)
 
-module _ {X : Type 0} (table : List ℕ) (brought : Option (List ℕ)) (width : ℕ) (own : Verdict X) where
+module _ {X : Type 0} (brought : Brought) (width : ℕ) (own : Verdict X) where
   -- each check by what is told of the ones before it, in the words of whoever makes them
 
   module _ {W : Type 0} (word : Verdict X → W) where
-    pub narrow-fails : width < answerWidth → word (fault Narrow 0) ≡ word (checks table brought width own)
+    pub narrow-fails : width < answerWidth → word (fault Narrow 0) ≡ word (checks brought width own)
     unfolding checks
     narrow-fails h = rw (lt-leb answerWidth width h)
 
     module _ (wide : answerWidth ≤ width) where
-      pub table-fails : tableAccepted table ≡ false → word (fault Table 0) ≡ word (checks table brought width own)
+      pub table-fails : tableAccepted (brought .table) ≡ false → word (fault Table 0) ≡ word (checks brought width own)
       unfolding checks
       table-fails h = rw (le-leb answerWidth width wide, h)
 
-      module _ (tabled : tableAccepted table ≡ true) where
-        pub class-fails : broughtAccepted table brought ≡ false → word (fault Class 0) ≡ word (checks table brought width own)
+      module _ (tabled : tableAccepted (brought .table) ≡ true) where
+        pub class-fails : broughtAccepted brought ≡ false → word (fault Class 0) ≡ word (checks brought width own)
         unfolding checks
         class-fails h = rw (le-leb answerWidth width wide, tabled, h)
 
   -- where all pass, the call's own decide
-  pub then-own : answerWidth ≤ width → tableAccepted table ≡ true → broughtAccepted table brought ≡ true → checks table brought width own ≡ own
+  pub then-own : answerWidth ≤ width → tableAccepted (brought .table) ≡ true → broughtAccepted brought ≡ true → checks brought width own ≡ own
   unfolding checks
   then-own wide tabled h = rw (le-leb answerWidth width wide, tabled, h)
 
-  pub passed-checks : (x : X) → checks table brought width own ≡ passed x
-      → (answerWidth ≤ width) × (broughtAccepted table brought ≡ true) × (tableAccepted table ≡ true) × (own ≡ passed x)
+  pub passed-checks : (x : X) → checks brought width own ≡ passed x
+      → (answerWidth ≤ width) × (broughtAccepted brought ≡ true) × (tableAccepted (brought .table) ≡ true) × (own ≡ passed x)
   unfolding checks
-  passed-checks x e = go (leb answerWidth width) refl (tableAccepted table) refl (broughtAccepted table brought) refl e
+  passed-checks x e = go (leb answerWidth width) refl (tableAccepted (brought .table)) refl (broughtAccepted brought) refl e
     where
-      go : (a : Bool) → leb answerWidth width ≡ a → (b : Bool) → tableAccepted table ≡ b → (c : Bool) → broughtAccepted table brought ≡ c
+      go : (a : Bool) → leb answerWidth width ≡ a → (b : Bool) → tableAccepted (brought .table) ≡ b → (c : Bool) → broughtAccepted brought ≡ c
           → check a Narrow (check b Table (check c Class own)) ≡ passed x
-          → (answerWidth ≤ width) × (broughtAccepted table brought ≡ true) × (tableAccepted table ≡ true) × (own ≡ passed x)
+          → (answerWidth ≤ width) × (broughtAccepted brought ≡ true) × (tableAccepted (brought .table) ≡ true) × (own ≡ passed x)
       go true f true g true h e = (leb-true answerWidth width f, h, g, e)
       go true f true g false h e = absurd (fault-passed e)
       go true f false g c h e = absurd (fault-passed e)
@@ -73,9 +73,9 @@ module _ {X : Type 0} (table : List ℕ) (brought : Option (List ℕ)) (width : 
 
   -- a fault of the first of a call's own checks is a fault of all of them
   pub fault-first : {Y : Type 0} (f : Verdict X → Verdict Y) → ((r : Refusal) (i : ℕ) → f (fault r i) ≡ fault r i) → (r : Refusal) (i : ℕ)
-      → checks table brought width own ≡ fault r i → checks table brought width (f own) ≡ fault r i
+      → checks brought width own ≡ fault r i → checks brought width (f own) ≡ fault r i
   unfolding checks
-  fault-first f strict r i e = go (leb answerWidth width) (tableAccepted table) (broughtAccepted table brought) e
+  fault-first f strict r i e = go (leb answerWidth width) (tableAccepted (brought .table)) (broughtAccepted brought) e
     where
       go : (a b c : Bool) → check a Narrow (check b Table (check c Class own)) ≡ fault r i → check a Narrow (check b Table (check c Class (f own))) ≡ fault r i
       go true true true e = ap f e ∙ strict r i
@@ -83,9 +83,9 @@ module _ {X : Type 0} (table : List ℕ) (brought : Option (List ℕ)) (width : 
       go true false c e = faults-same e
       go false b c e = faults-same e
 
-  -- Accepted input is a table that is accepted and an own reading that passes
-  module _ (Accepted : X → Type 0) (reads : (x : X) → Accepted x ↔ ((tableAccepted table ≡ true) × (own ≡ passed x))) (x : X) where
-    pub passed-exactly : (checks table brought width own ≡ passed x) ↔ ((answerWidth ≤ width) × (broughtAccepted table brought ≡ true) × Accepted x)
+  -- Accepted input is a (brought .table) that is accepted and an own reading that passes
+  module _ (Accepted : X → Type 0) (reads : (x : X) → Accepted x ↔ ((tableAccepted (brought .table) ≡ true) × (own ≡ passed x))) (x : X) where
+    pub passed-exactly : (checks brought width own ≡ passed x) ↔ ((answerWidth ≤ width) × (broughtAccepted brought ≡ true) × Accepted x)
     passed-exactly = (
       λ e. let c = passed-checks x e in (c .0, c .1, reads x .1 (c .2, c .3)),
       λ a. let c = reads x .0 (a .2) in then-own (a .0) (c .0) (a .1) ∙ c .1,

@@ -14,7 +14,7 @@ use Rattle.answers.specs.declared.Refusal.{Refusal}
 use Rattle.term.specs.Table.{tableAccepted}
 use Rattle.anti_pattern.proofs.Metering.{Split, enough, over, split}
 use Rattle.parts.specs.Shown.{numbers, answerWidth}
-use Rattle.call.specs.Brought.{broughtAccepted}
+use Rattle.reader.specs.Brought.{Brought, broughtAccepted}
 use Rattle.call.specs.Verdict.{Verdict, passed, fault}
 use Rattle.call.specs.Call.{checks, answerBy, written, bufferBy}
 use Rattle.call.specs.Demands.{Handled}
@@ -51,21 +51,21 @@ module _ {X A : Type 0} (refused : Refusal → ℕ → A) (told : X → A) (boun
     untouched-by tells (passed x) h = ap (λ (o : Option (List Part)). written o before) (tells .unbound x h)
 
     -- Demand 1, for a call whose accepted input is what it reads
-    module _ (table : List ℕ) (brought : Option (List ℕ)) (own : Verdict X) (Accepted Unanswered : X → Type 0)
-        (reads : (x : X) → Accepted x ↔ ((tableAccepted table ≡ true) × (own ≡ passed x))) where
+    module _ (brought : Brought) (own : Verdict X) (Accepted Unanswered : X → Type 0)
+        (reads : (x : X) → Accepted x ↔ ((tableAccepted (brought .table) ≡ true) × (own ≡ passed x))) where
       abbrev verdict : Verdict X
-      verdict = checks table brought (length before) own
+      verdict = checks brought (length before) own
 
       -- on accepted input it tells the work
-      accepted-told : (x : X) → answerWidth ≤ length before → broughtAccepted table brought ≡ true → Accepted x
+      accepted-told : (x : X) → answerWidth ≤ length before → broughtAccepted brought ≡ true → Accepted x
           → (answerBy refused told verdict ≡ told x) × (bufferBy bound verdict before ≡ written (bound x) before)
-      accepted-told x wide b a = rw (passed-exactly table brought (length before) own Accepted reads x .1 (wide, b, a)) (refl, refl)
+      accepted-told x wide b a = rw (passed-exactly brought (length before) own Accepted reads x .1 (wide, b, a)) (refl, refl)
 
       pub handled : (number count : A → ℕ) → Tells number count
-          → (answerWidth ≤ length before → broughtAccepted table brought ≡ true → (x : X) → Accepted x
+          → (answerWidth ≤ length before → broughtAccepted brought ≡ true → (x : X) → Accepted x
           → ((r : Refusal) × (number (told x) ≡ numberOf r)) ↔ Unanswered x)
           → length (bufferBy bound verdict before) ≡ length before
-          → Handled table brought Accepted Unanswered before (number (answerBy refused told verdict)) (count (answerBy refused told verdict))
+          → Handled brought Accepted Unanswered before (number (answerBy refused told verdict)) (count (answerBy refused told verdict))
           (bufferBy bound verdict before)
       handled number count tells answers same = record {
         refused-exactly = (
@@ -82,11 +82,11 @@ module _ {X A : Type 0} (refused : Refusal → ℕ → A) (told : X → A) (boun
           shows-by (passed x) r e = tells .told-uncounted x r e
 
           refused-by : (v : Verdict X) → verdict ≡ v
-              → (answerWidth ≤ length before → broughtAccepted table brought ≡ true → (x : X) → Accepted x → Unanswered x)
+              → (answerWidth ≤ length before → broughtAccepted brought ≡ true → (x : X) → Accepted x → Unanswered x)
               → (r : Refusal) × (number (answerBy refused told v) ≡ numberOf r)
           refused-by (fault r i) e h = (r, tells .numbered r i)
           refused-by (passed x) e h =
-              let a = passed-exactly table brought (length before) own Accepted reads x .0 e in
+              let a = passed-exactly brought (length before) own Accepted reads x .0 e in
               answers (a .0) (a .1) x (a .2) .1 (h (a .0) (a .1) x (a .2))
 
     -- The whole contract, by the verdict

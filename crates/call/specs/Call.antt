@@ -10,13 +10,13 @@ use Rattle.answers.specs.declared.Refusal.{Refusal}
 use Rattle.answers.specs.declared.Refusal.the-variants.{Table, Narrow, Class}
 use Rattle.term.specs.Table.{tableAccepted}
 pub use Rattle.parts.specs.Shown.{numbers, answerWidth}
-use Rattle.call.specs.Brought.{broughtAccepted}
+use Rattle.reader.specs.Brought.{Brought, broughtAccepted}
 use Rattle.call.specs.Verdict.{Verdict, passed, fault, check}
 
 -- in order: 8 of a buffer of so many numbers, 1, 14, the call's own
-unfoldable pub checks : {X : Type 0} → List ℕ → Option (List ℕ) → ℕ → Verdict X → Verdict X
-checks table brought width own =
-    check (leb answerWidth width) Narrow (check (tableAccepted table) Table (check (broughtAccepted table brought) Class own))
+unfoldable pub checks : {X : Type 0} → Brought → ℕ → Verdict X → Verdict X
+checks brought width own =
+    check (leb answerWidth width) Narrow (check (tableAccepted (brought .table)) Table (check (broughtAccepted brought) Class own))
 
 -- the answer: the refusal, or what the work tells
 abbrev pub answerBy : {X A : Type 0} → (Refusal → ℕ → A) → (X → A) → Verdict X → A

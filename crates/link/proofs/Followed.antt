@@ -14,7 +14,7 @@ use Rattle.term.specs.Term.{Term}
 use Rattle.term.specs.Tree.{listCode}
 use Rattle.term.specs.declared.Code.the-variants.{Symbol}
 use Rattle.anti_pattern.specs.Demands.{NextExact, EveryAnswer}
-use Rattle.anti_pattern.specs.Language.{language}
+use Rattle.anti_pattern.specs.Language.{Language}
 use Rattle.anti_pattern.specs.Variables.{among, NoName, NoNames, runs, runsAll, freeRuns}
 use Rattle.anti_pattern.proofs.Demands.{next-exact, every-answer}
 use Rattle.anti_pattern.proofs.Following.{within-firsts}
@@ -75,17 +75,17 @@ mutual
   all-apart table vs k (plain q qs) left inList f = (names-apart table vs k q left inList (f .0), all-apart table vs k qs left inList (f .1))
   all-apart table vs k (run u qs) left inList f = all-apart table vs k qs left inList (f .1)
 
-module _ (table pattern bytes : List ℕ) (q : Pattern) (t : Term) (i : Input table pattern bytes q t) where
+module _ (l : Language) (pattern bytes : List ℕ) (q : Pattern) (t : Term) (i : Input l pattern bytes q t) where
   pub free-runs-are : Each IsRun (freeRuns q)
   free-runs-are v h =
-      runs-are table q 32 false (i .pattern-accepted .fits) [] (λ u m. absurd (false≢true m)) v (within-firsts (runs q []) v h)
+      runs-are (l .table) q 32 false (i .pattern-accepted .fits) [] (λ u m. absurd (false≢true m)) v (within-firsts (runs q []) v h)
 
   pub apart : NoName (freeRuns q) q
-  apart = names-apart table (freeRuns q) free-runs-are q 32 false (i .pattern-accepted .fits)
+  apart = names-apart (l .table) (freeRuns q) free-runs-are q 32 false (i .pattern-accepted .fits)
 
-  module _ (classes : List ℕ) (k : Alike table classes) where
-    pub next-accepted : (given : List ℕ) (allowance : ℕ) → NextExact (language table classes) q t given allowance
-    next-accepted given allowance = next-exact (language table classes) k q t (accepted-of (language table classes) t (i .record-accepted)) apart given allowance
+  module _ (k : Alike (l .table) (l .classes)) where
+    pub next-accepted : (given : List ℕ) (allowance : ℕ) → NextExact l q t given allowance
+    next-accepted given allowance = next-exact l k q t (accepted-of l t (i .record-accepted)) apart given allowance
 
-    pub every-accepted : EveryAnswer (language table classes) q t
-    every-accepted = every-answer (language table classes) k q t (accepted-of (language table classes) t (i .record-accepted)) apart (λ v h. free-runs-are v h .1)
+    pub every-accepted : EveryAnswer l q t
+    every-accepted = every-answer l k q t (accepted-of l t (i .record-accepted)) apart (λ v h. free-runs-are v h .1)

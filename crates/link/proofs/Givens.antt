@@ -18,7 +18,7 @@ use Rattle.term.specs.Pattern.{Pattern, Children, end, plain, run}
 use Rattle.term.specs.Term.{Term, Terms, nil, _::_, _⧺_, count, single, sizes, termTrees, termsBytes}
 use Rattle.anti_pattern.specs.Answer.{bound, parts}
 use Rattle.anti_pattern.specs.Demands.{OneForEach}
-use Rattle.anti_pattern.specs.Language.{language}
+use Rattle.anti_pattern.specs.Language.{Language}
 use Rattle.anti_pattern.proofs.Machine.{Frame, Pending, frame, machine}
 use Rattle.anti_pattern.proofs.Meter.{Metered, met, missed, usedUp, meter}
 use Rattle.anti_pattern.specs.Next.{follows, givenTo, hasLengths, resumedAfter, next}
@@ -245,33 +245,33 @@ pass-replied : (table bytes : List ℕ) (allowance : ℕ) {p : Passed} {x : Pass
 pass-replied table bytes allowance (both-end a) = ap follows (answers table bytes allowance a)
 pass-replied table bytes allowance both-unknown = refl
 
-module _ (table classes pattern bytes : List ℕ) (alike : Alike table classes) (q : Pattern) (t : Term) (i : Input table pattern bytes q t) (apart : NoName (freeRuns q) q) (given g : List ℕ)
+module _ (l : Language) (pattern bytes : List ℕ) (alike : Alike (l .table) (l .classes)) (q : Pattern) (t : Term) (i : Input l pattern bytes q t) (apart : NoName (freeRuns q) q) (given g : List ℕ)
     (each : OneForEach q given) (spread : (v : ℕ) → among v (freeRuns q) ≡ true → givenTo (freeRuns q) given v ≡ only (getD g v 0))
     (allowance : ℕ) where
-  pub next-fits : Fits table bytes
-      (passing table classes (givenTo (freeRuns q) given) (hasLengths q given) (frame (plain q end) (single t) 0 ∷ []) start [] allowance)
-      (passOf table classes pattern bytes g allowance)
+  pub next-fits : Fits (l .table) bytes
+      (passing (l .table) (l .classes) (givenTo (freeRuns q) given) (hasLengths q given) (frame (plain q end) (single t) 0 ∷ []) start [] allowance)
+      (passOf (l .table) (l .classes) pattern bytes g allowance)
   next-fits =
-      given-searches table (table-short table (i .table-accepted)) classes alike bytes (short table classes pattern bytes alike q t i allowance) (givenTo (freeRuns q) given)
-      (hasLengths q given) (tells (language table classes) q t given allowance) (freeRuns q) g spread pattern (narrow table classes pattern bytes alike q t i allowance) (levels pattern 0)
-      (startOf (replicate variables absent) 0) (plain q end) (single t) [] start [] allowance (start-here table classes pattern bytes alike q t i allowance) (omega arith)
-      (record { meant = told-whole (language table classes) q t given allowance (accepted-of (language table classes) t (i .record-accepted)) apart each; runs = λ v h. firsts-all (runs q []) v h })
+      given-searches (l .table) (table-short (l .table) (i .table-accepted)) (l .classes) alike bytes (short l pattern bytes alike q t i allowance) (givenTo (freeRuns q) given)
+      (hasLengths q given) (tells l q t given allowance) (freeRuns q) g spread pattern (narrow l pattern bytes alike q t i allowance) (levels pattern 0)
+      (startOf (replicate variables absent) 0) (plain q end) (single t) [] start [] allowance (start-here l pattern bytes alike q t i allowance) (omega arith)
+      (record { meant = told-whole l q t given allowance (accepted-of l t (i .record-accepted)) apart each; runs = λ v h. firsts-all (runs q []) v h })
 
   -- the next answer on trees is what the pass on bytes comes to
-  pub next-linked : next (language table classes) q t given allowance ≡ repliedPass allowance (passOf table classes pattern bytes g allowance)
-  next-linked = next-passing (language table classes) q t given allowance each ∙ pass-replied table bytes allowance next-fits
+  pub next-linked : next l q t given allowance ≡ repliedPass allowance (passOf (l .table) (l .classes) pattern bytes g allowance)
+  next-linked = next-passing l q t given allowance each ∙ pass-replied (l .table) bytes allowance next-fits
 
   -- an answer is the first of the search resumed after the given one, and what it shows stands in the record
-  pub next-stands : (ps : List Part) (n : ℕ) → next (language table classes) q t given allowance ≡ follows (bound ps n)
-      → (e : Env) × (firstAnswer (resumedAfter (language table classes) q t given .out) ≡ some e) × (ps ≡ parts table e) × ((shown : List Part) × Shown table bytes shown e)
-  next-stands ps n h = go _ refl next-fits (sym (next-passing (language table classes) q t given allowance each) ∙ h)
+  pub next-stands : (ps : List Part) (n : ℕ) → next l q t given allowance ≡ follows (bound ps n)
+      → (e : Env) × (firstAnswer (resumedAfter l q t given .out) ≡ some e) × (ps ≡ parts (l .table) e) × ((shown : List Part) × Shown (l .table) bytes shown e)
+  next-stands ps n h = go _ refl next-fits (sym (next-passing l q t given allowance each) ∙ h)
     where
       go : (p : Passed)
-          → passing table classes (givenTo (freeRuns q) given) (hasLengths q given) (frame (plain q end) (single t) 0 ∷ []) start [] allowance ≡ p
-          → {x : Pass} → Fits table bytes p x → followedBy table allowance p ≡ follows (bound ps n)
-          → (e : Env) × (firstAnswer (resumedAfter (language table classes) q t given .out) ≡ some e) × (ps ≡ parts table e) × ((shown : List Part) × Shown table bytes shown e)
+          → passing (l .table) (l .classes) (givenTo (freeRuns q) given) (hasLengths q given) (frame (plain q end) (single t) 0 ∷ []) start [] allowance ≡ p
+          → {x : Pass} → Fits (l .table) bytes p x → followedBy (l .table) allowance p ≡ follows (bound ps n)
+          → (e : Env) × (firstAnswer (resumedAfter l q t given .out) ≡ some e) × (ps ≡ parts (l .table) e) × ((shown : List Part) × Shown (l .table) bytes shown e)
       go (ended (met e left)) p (both-end (is-found s)) h =
-          let z : ps ≡ parts table e = cc in (e, passed-first (language table classes) q t given allowance e left p, z, (_, s))
+          let z : ps ≡ parts (l .table) e = cc in (e, passed-first l q t given allowance e left p, z, (_, s))
       go (ended (missed left)) p f h = let z : _≡_ {A = ℕ} 0 1 = cc in absurd (omega arith)
       go (ended usedUp) p f h = let z : _≡_ {A = ℕ} 0 1 = cc in absurd (omega arith)
       go stranger p f h = let z : _≡_ {A = ℕ} 0 1 = cc in absurd (omega arith)

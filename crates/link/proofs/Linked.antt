@@ -17,7 +17,7 @@ use Rattle.term.specs.Tree.{Tree, empty, more, encode}
 use Rattle.term.specs.Term.{Term, single}
 use Rattle.term.specs.Pattern.{Pattern, end, plain}
 use Rattle.term.specs.Limits.{Fits, Accepted, longestPattern, longestRecord}
-use Rattle.anti_pattern.specs.Language.{language}
+use Rattle.anti_pattern.specs.Language.{Language}
 use Rattle.anti_pattern.specs.Search.{Env, start, whole, fail, freely}
 use Rattle.anti_pattern.specs.Place.{assignedPart}
 use Rattle.anti_pattern.specs.Answer.{bound, parts, answer}
@@ -96,37 +96,37 @@ table-short table h = leb-true (length table) 200 (go (leb (length table) 200) h
     go true e = refl
     go false e = absurd (false≢true e)
 
-limited-whole : (table : List ℕ) (records : Bool) (t : Tree) → Accepted table records t → Limited table records (more t empty)
+limited-whole : (l : Language) (records : Bool) (t : Tree) → Accepted l records t → Limited (l .table) records (more t empty)
 unfolding Fits
-limited-whole table records t a = record { left = 32; inList = false; fit = (a .fits, tt) }
+limited-whole l records t a = record { left = 32; inList = false; fit = (a .fits, tt) }
 
-module _ (table classes pattern bytes : List ℕ) (alike : Alike table classes) (q : Pattern) (t : Term) (i : Input table pattern bytes q t) (allowance : ℕ) where
+module _ (l : Language) (pattern bytes : List ℕ) (alike : Alike (l .table) (l .classes)) (q : Pattern) (t : Term) (i : Input l pattern bytes q t) (allowance : ℕ) where
   pub narrow : length pattern ≤ longestPattern
   narrow = rw (i .pattern-bytes) at (i .pattern-accepted .short)
 
   pub short : length bytes ≤ longestRecord
   short = rw (i .record-bytes) at (i .record-accepted .short)
 
-  pub start-here : Represents table pattern bytes (startOf (replicate variables absent) 0) (plain q end) (single t) [] start []
+  pub start-here : Represents (l .table) pattern bytes (startOf (replicate variables absent) 0) (plain q end) (single t) [] start []
   unfolding encode
   start-here =
-      start-represents table pattern bytes (replicate variables absent) start q t 0 (sym (i .pattern-bytes)) (limited-whole table false _ (i .pattern-accepted))
-      (record { after = []; stands = sym (i .record-bytes); within = omega arith; limited = limited-whole table true _ (i .record-accepted) })
-      (shown-start table bytes)
+      start-represents (l .table) pattern bytes (replicate variables absent) start q t 0 (sym (i .pattern-bytes)) (limited-whole l false _ (i .pattern-accepted))
+      (record { after = []; stands = sym (i .record-bytes); within = omega arith; limited = limited-whole l true _ (i .record-accepted) })
+      (shown-start (l .table) bytes)
 
-  searched : searchOf table classes pattern bytes allowance ≡ levelOf (levels pattern 0) table classes bytes pattern (startOf (replicate variables absent) 0) allowance
+  searched : searchOf (l .table) (l .classes) pattern bytes allowance ≡ levelOf (levels pattern 0) (l .table) (l .classes) bytes pattern (startOf (replicate variables absent) 0) allowance
   unfolding searchOf
   searched = rw (le-leb (length pattern) longestPattern narrow, le-leb (length bytes) longestRecord short)
 
   -- the reply under an allowance is what the search on trees under it comes to
-  pub whole-agrees : Agrees table bytes (meter allowance (whole (language table classes) q t)) (searchOf table classes pattern bytes allowance)
+  pub whole-agrees : Agrees (l .table) bytes (meter allowance (whole l q t)) (searchOf (l .table) (l .classes) pattern bytes allowance)
   whole-agrees =
-      carry (ap (meter allowance) (machine-level table classes freely q t 0 start)) searched
-      (level-searches table (table-short table (i .table-accepted)) classes alike bytes short _ pattern narrow (startOf (replicate variables absent) 0) (plain q end) (single t)
+      carry (ap (meter allowance) (machine-level (l .table) (l .classes) freely q t 0 start)) searched
+      (level-searches (l .table) (table-short (l .table) (i .table-accepted)) (l .classes) alike bytes short _ pattern narrow (startOf (replicate variables absent) 0) (plain q end) (single t)
       [] start []
       allowance start-here (omega arith))
 
   -- word, count and parts
-  pub linked : answer (language table classes) q t allowance ≡ outcomeOnBytes table classes pattern bytes allowance
+  pub linked : answer l q t allowance ≡ outcomeOnBytes (l .table) (l .classes) pattern bytes allowance
   unfolding outcomeOnBytes
-  linked = answer-metered (language table classes) q t allowance ∙ answers table bytes allowance whole-agrees
+  linked = answer-metered l q t allowance ∙ answers (l .table) bytes allowance whole-agrees

@@ -25,7 +25,7 @@ use Rattle.anti_pattern.proofs.Following.{map-among}
 use Rattle.anti_pattern.proofs.Within.{accepted-of}
 use Rattle.parts.specs.Shown.{numbers, answerWidth}
 use Rattle.parts.proofs.Shown.{numbers-length}
-use Rattle.call.specs.Brought.{classesOf, languageOf, broughtAccepted}
+use Rattle.reader.specs.Brought.{Brought, classesOf, languageOf, broughtAccepted}
 use Rattle.call.specs.Call.{written}
 use Rattle.call.proofs.Brought.{brought-alike}
 use Rattle.matcher.specs.Call.{Input, told, answerOf, boundParts, bufferOf}
@@ -35,10 +35,10 @@ use Rattle.matcher.proofs.Answered.{shown-at, none-told, bound-told, sa
 use Rattle.link.proofs.Followed.{free-runs-are, next-accepted, every-accepted}
 use Rattle.matcher.proofs.Follows.{is-none, is-bound, same-next}
 
-module _ (table : List ℕ) (brought : Option (List ℕ)) (pattern bytes : List ℕ) (pattern-octets : Octets pattern) (record-octets : Octets bytes)
-    (accepted : broughtAccepted table brought ≡ true) (q : Pattern) (t : Term) (i : Input table pattern bytes q t) where
+module _ (brought : Brought) (pattern bytes : List ℕ) (pattern-octets : Octets pattern) (record-octets : Octets bytes)
+    (accepted : broughtAccepted brought ≡ true) (q : Pattern) (t : Term) (i : Input (languageOf brought) pattern bytes q t) where
   abbrev l : Language
-  l = languageOf table brought
+  l = languageOf brought
 
   of : TermOf l t
   of = accepted-of l t (i .record-accepted)
@@ -52,51 +52,51 @@ module _ (table : List ℕ) (brought : Option (List ℕ)) (pattern bytes : List 
     lengths-shown : map (termsIn (numbers ps ++ rest)) (freeRuns q) ≡ lengthsShown q ps
     lengths-shown =
         map-among (termsIn (numbers ps ++ rest)) (λ v. getD ps v (part 0 0 0) .elements) (freeRuns q)
-        (λ v m. shown-at ps rest v (omega (arith, free-runs-are table pattern bytes q t i v m .1)) 2 (omega arith))
+        (λ v m. shown-at ps rest v (omega (arith, free-runs-are (languageOf brought) pattern bytes q t i v m .1)) 2 (omega arith))
 
   -- a call that is bound shows all the variables, and what the next is given
 
   module _ (given : List ℕ) (allowance : ℕ) (before : List ℕ) (wide : answerWidth ≤ length before) where
-    next-told : (nextOf table brought pattern bytes given allowance (length before) ≡ toldNext (next l q t given allowance))
-        × (nextBufferOf table brought pattern bytes given allowance before ≡ written (boundNext (next l q t given allowance)) before)
-    next-told = same-next table brought pattern bytes given before allowance pattern-octets record-octets wide accepted q t i allowance refl
+    next-told : (nextOf brought pattern bytes given allowance (length before) ≡ toldNext (next l q t given allowance))
+        × (nextBufferOf brought pattern bytes given allowance before ≡ written (boundNext (next l q t given allowance)) before)
+    next-told = same-next brought pattern bytes given before allowance pattern-octets record-octets wide accepted q t i allowance refl
 
     module _ (ps : List Part) (n : ℕ) (e : next l q t given allowance ≡ follows (bound ps n)) where
       next-all : length ps ≡ variables
       next-all =
-          ap length (next-accepted table pattern bytes q t i (classesOf brought) (brought-alike table brought accepted) given allowance .bound-exactly ps n .0 e .2 .4)
+          ap length (next-accepted (languageOf brought) pattern bytes q t i (brought-alike brought accepted) given allowance .bound-exactly ps n .0 e .2 .4)
 
-      next-buffer : nextBufferOf table brought pattern bytes given allowance before ≡ numbers ps ++ drop answerWidth before
+      next-buffer : nextBufferOf brought pattern bytes given allowance before ≡ numbers ps ++ drop answerWidth before
       next-buffer = next-told .1 ∙ ap (λ (f : Following). written (boundNext f) before) e
 
-      next-numbers : take answerWidth (nextBufferOf table brought pattern bytes given allowance before) ≡ numbers ps
+      next-numbers : take answerWidth (nextBufferOf brought pattern bytes given allowance before) ≡ numbers ps
       next-numbers = ap (take answerWidth) next-buffer ∙ numbers-shown ps next-all (drop answerWidth before)
 
-      next-lengths : map (termsIn (nextBufferOf table brought pattern bytes given allowance before)) (freeRuns q) ≡ lengthsShown q ps
+      next-lengths : map (termsIn (nextBufferOf brought pattern bytes given allowance before)) (freeRuns q) ≡ lengthsShown q ps
       next-lengths = ap (λ (b : List ℕ). map (termsIn b) (freeRuns q)) next-buffer ∙ lengths-shown ps next-all (drop answerWidth before)
 
   module _ (allowance : ℕ) (before : List ℕ) (wide : answerWidth ≤ length before) where
-    first-told : (answerOf table brought pattern bytes allowance (length before) ≡ told (answer l q t allowance))
-        × (bufferOf table brought pattern bytes allowance before ≡ written (boundParts (answer l q t allowance)) before)
+    first-told : (answerOf brought pattern bytes allowance (length before) ≡ told (answer l q t allowance))
+        × (bufferOf brought pattern bytes allowance before ≡ written (boundParts (answer l q t allowance)) before)
     first-told =
-        same-call table brought pattern bytes (brought-alike table brought accepted) q t i allowance before pattern-octets record-octets wide accepted allowance refl
+        same-call brought pattern bytes (brought-alike brought accepted) q t i allowance before pattern-octets record-octets wide accepted allowance refl
 
     module _ (ps : List Part) (n : ℕ) (e : answer l q t allowance ≡ bound ps n) where
       first-all : length ps ≡ variables
-      first-all = ap length (answer-exact l (brought-alike table brought accepted) q t of allowance .bound-exactly ps n .0 e .2 .2)
+      first-all = ap length (answer-exact l (brought-alike brought accepted) q t of allowance .bound-exactly ps n .0 e .2 .2)
 
-      first-buffer : bufferOf table brought pattern bytes allowance before ≡ numbers ps ++ drop answerWidth before
+      first-buffer : bufferOf brought pattern bytes allowance before ≡ numbers ps ++ drop answerWidth before
       first-buffer = first-told .1 ∙ ap (λ (o : Matching). written (boundParts o) before) e
 
-      first-numbers : take answerWidth (bufferOf table brought pattern bytes allowance before) ≡ numbers ps
+      first-numbers : take answerWidth (bufferOf brought pattern bytes allowance before) ≡ numbers ps
       first-numbers = ap (take answerWidth) first-buffer ∙ numbers-shown ps first-all (drop answerWidth before)
 
-      first-lengths : map (termsIn (bufferOf table brought pattern bytes allowance before)) (freeRuns q) ≡ lengthsShown q ps
+      first-lengths : map (termsIn (bufferOf brought pattern bytes allowance before)) (freeRuns q) ≡ lengthsShown q ps
       first-lengths = ap (λ (b : List ℕ). map (termsIn b) (freeRuns q)) first-buffer ∙ lengths-shown ps first-all (drop answerWidth before)
 
   -- the calls are calls on trees
 
-  next-on-trees : {given : List ℕ} {nss : List (List ℕ)} → NextCalls table brought pattern bytes q given nss
+  next-on-trees : {given : List ℕ} {nss : List (List ℕ)} → NextCalls brought pattern bytes q given nss
       → (pss : List (List Part)) × Asked l q t given pss × (nss ≡ map numbers pss)
   next-on-trees {given} (NextCalls.no-more allowance before wide e) =
       let s = is-none (next l q t given allowance) (sym (ap answerNumber (next-told given allowance before wide .0)) ∙ e) in
@@ -110,7 +110,7 @@ module _ (table : List ℕ) (brought : Option (List ℕ)) (pattern bytes : List 
         ap₂ _∷_ (next-numbers given allowance before wide (s .0) (s .1) (s .2)) (r .2),
       )
 
-  all-on-trees : {nss : List (List ℕ)} → AllCalls table brought pattern bytes q nss → (pss : List (List Part)) × Calls l q t pss × (nss ≡ map numbers pss)
+  all-on-trees : {nss : List (List ℕ)} → AllCalls brought pattern bytes q nss → (pss : List (List Part)) × Calls l q t pss × (nss ≡ map numbers pss)
   all-on-trees (AllCalls.none-at-all allowance before wide e) =
       let s = none-told (answer l q t allowance) (sym (ap answerNumber (first-told allowance before wide .0)) ∙ e) in
       ([], none-at-all allowance (s .0) (s .1), refl)
@@ -126,29 +126,29 @@ module _ (table : List ℕ) (brought : Option (List ℕ)) (pattern bytes : List 
   -- and back, with this buffer
 
   module _ (before : List ℕ) (wide : answerWidth ≤ length before) where
-    next-on-bytes : {given : List ℕ} {pss : List (List Part)} → Asked l q t given pss → NextCalls table brought pattern bytes q given (map numbers pss)
+    next-on-bytes : {given : List ℕ} {pss : List (List Part)} → Asked l q t given pss → NextCalls brought pattern bytes q given (map numbers pss)
     next-on-bytes {given} (no-more allowance n e) =
         NextCalls.no-more allowance before wide (ap answerNumber (next-told given allowance before wide .0 ∙ ap toldNext e))
     next-on-bytes {given} (one-more {ps = ps} {pss = pss} allowance n e rest) =
-        subst (λ (ns : List ℕ). NextCalls table brought pattern bytes q given (ns ∷ map numbers pss)) (next-numbers given allowance before wide ps n e)
+        subst (λ (ns : List ℕ). NextCalls brought pattern bytes q given (ns ∷ map numbers pss)) (next-numbers given allowance before wide ps n e)
         (NextCalls.one-more allowance before wide (ap answerNumber (next-told given allowance before wide .0 ∙ ap toldNext e))
-        (subst (λ (g : List ℕ). NextCalls table brought pattern bytes q g (map numbers pss)) (sym (next-lengths given allowance before wide ps n e))
+        (subst (λ (g : List ℕ). NextCalls brought pattern bytes q g (map numbers pss)) (sym (next-lengths given allowance before wide ps n e))
         (next-on-bytes rest)))
 
-    all-on-bytes : {pss : List (List Part)} → Calls l q t pss → AllCalls table brought pattern bytes q (map numbers pss)
+    all-on-bytes : {pss : List (List Part)} → Calls l q t pss → AllCalls brought pattern bytes q (map numbers pss)
     all-on-bytes (none-at-all allowance n e) =
         AllCalls.none-at-all allowance before wide (ap answerNumber (first-told allowance before wide .0 ∙ ap told e))
     all-on-bytes (from-first {ps = ps} {pss = pss} allowance n e rest) =
-        subst (λ (ns : List ℕ). AllCalls table brought pattern bytes q (ns ∷ map numbers pss)) (first-numbers allowance before wide ps n e)
+        subst (λ (ns : List ℕ). AllCalls brought pattern bytes q (ns ∷ map numbers pss)) (first-numbers allowance before wide ps n e)
         (AllCalls.from-first allowance before wide (ap answerNumber (first-told allowance before wide .0 ∙ ap told e))
-        (subst (λ (g : List ℕ). NextCalls table brought pattern bytes q g (map numbers pss)) (sym (first-lengths allowance before wide ps n e))
+        (subst (λ (g : List ℕ). NextCalls brought pattern bytes q g (map numbers pss)) (sym (first-lengths allowance before wide ps n e))
         (next-on-bytes rest)))
 
-    pub every-call : EveryCall table brought pattern bytes q t
+    pub every-call : EveryCall brought pattern bytes q t
     every-call =
-        let every = every-accepted table pattern bytes q t i (classesOf brought) (brought-alike table brought accepted) in
-        let joined = map-map numbers (partsAt table q t) (assignments l q t) in record {
+        let every = every-accepted (languageOf brought) pattern bytes q t i (brought-alike brought accepted) in
+        let joined = map-map numbers (partsAt (brought .table) q t) (assignments l q t) in record {
           listed = every .listed;
           shown = λ nss c. let r = all-on-trees c in r .2 ∙ ap (map numbers) (every .shown (r .0) (r .1)) ∙ joined;
-          callable = subst (AllCalls table brought pattern bytes q) joined (all-on-bytes (every .callable));
+          callable = subst (AllCalls brought pattern bytes q) joined (all-on-bytes (every .callable));
         }

@@ -33,7 +33,7 @@ none-or-unknown-told (follows (nothing n)) h = inl refl
 none-or-unknown-told (follows (spent n)) h = absurd h
 none-or-unknown-told unknown h = inr refl
 
-module _ (l : Language) (table : List ℕ) (q : Pattern) (accepted : PatternAccepted table q) (n : NoRuns q) (t : Term) (allowance : ℕ) where
+module _ (l : Language) (q : Pattern) (accepted : PatternAccepted l q) (n : NoRuns q) (t : Term) (allowance : ℕ) where
   cost : CostBound l q t
   cost = cost-bound l q n t
 
@@ -45,7 +45,7 @@ module _ (l : Language) (table : List ℕ) (q : Pattern) (accepted : PatternAcce
   pub bounded : AnswerExact l q t allowance → Bounded allowance q (told (answer l q t allowance))
   bounded x = record {
     shows-at-most = count-told x (answer l q t allowance) refl;
-    bound-or-none = λ h. bound-or-none-told (answer l q t allowance) (cost .bound-or-none allowance (enough-nodes table q allowance accepted h));
+    bound-or-none = λ h. bound-or-none-told (answer l q t allowance) (cost .bound-or-none allowance (enough-nodes l q allowance accepted h));
   }
 
   module _ (given : List ℕ) where
@@ -60,5 +60,5 @@ module _ (l : Language) (table : List ℕ) (q : Pattern) (accepted : PatternAcce
     next-bounded x = record {
       shows-at-most = next-count-told x (next l q t given allowance) refl;
       none-or-unknown = λ h.
-          none-or-unknown-told (next l q t given allowance) (cost .none-follows given allowance (enough-nodes table q allowance accepted h));
+          none-or-unknown-told (next l q t given allowance) (cost .none-follows given allowance (enough-nodes l q allowance accepted h));
     }

@@ -17,7 +17,7 @@ use Rattle.answers.proofs.Numbers.{word-or-refusal}
 use Rattle.anti_pattern.specs.Answer.{Matching, bound, nothing, spent, answer}
 use Rattle.anti_pattern.proofs.Demands.{answer-exact}
 use Rattle.anti_pattern.proofs.Within.{accepted-of}
-use Rattle.call.specs.Brought.{classesOf, languageOf}
+use Rattle.reader.specs.Brought.{Brought, classesOf, languageOf}
 use Rattle.call.proofs.Brought.{brought-alike}
 use Rattle.call.proofs.Handled.{handled, fails, passes}
 use Rattle.matcher.specs.Call.{AcceptedTrees, trees, checked, checkOf, refusal, told, answerOf, boundParts, bufferOf, answerOnBytes, bufferOnBytes}
@@ -40,10 +40,10 @@ told-unbound (bound ps n) h = absurd (h refl)
 told-unbound (nothing n) h = refl
 told-unbound (spent n) h = refl
 
-module _ (table : List ℕ) (brought : Option (List ℕ)) (pattern bytes before : List ℕ) (allowance : ℕ) (pattern-octets : Octets pattern) (record-octets : Octets bytes) where
+module _ (brought : Brought) (pattern bytes before : List ℕ) (allowance : ℕ) (pattern-octets : Octets pattern) (record-octets : Octets bytes) where
   -- the work on trees
   abbrev work : Pattern × Term → Matching
-  work x = answer (languageOf table brought) (x .0) (x .1) allowance
+  work x = answer (languageOf brought) (x .0) (x .1) allowance
 
   abbrev tells : Pattern × Term → Answer
   tells x = told (work x)
@@ -51,24 +51,24 @@ module _ (table : List ℕ) (brought : Option (List ℕ)) (pattern bytes before 
   abbrev binds : Pattern × Term → Option (List Part)
   binds x = boundParts (work x)
 
-  demanded-of : length (bufferOf table brought pattern bytes allowance before) ≡ length before
-      → Demanded table brought pattern bytes before allowance (answerOf table brought pattern bytes allowance (length before))
-      (bufferOf table brought pattern bytes allowance before)
+  demanded-of : length (bufferOf brought pattern bytes allowance before) ≡ length before
+      → Demanded brought pattern bytes before allowance (answerOf brought pattern bytes allowance (length before))
+      (bufferOf brought pattern bytes allowance before)
   unfolding answerOf bufferOf
   demanded-of same = record {
     answered = λ wide a q t i.
-        let z = same-call table brought pattern bytes (brought-alike table brought a) q t i allowance before pattern-octets record-octets wide a allowance refl in
-        rw (z .0, z .1) (answered table brought pattern bytes (brought-alike table brought a) q t i allowance before pattern-octets record-octets wide a);
+        let z = same-call brought pattern bytes (brought-alike brought a) q t i allowance before pattern-octets record-octets wide a allowance refl in
+        rw (z .0, z .1) (answered brought pattern bytes (brought-alike brought a) q t i allowance before pattern-octets record-octets wide a);
     published = λ wide a q t i n.
-        let z = same-call table brought pattern bytes (brought-alike table brought a) q t i allowance before pattern-octets record-octets wide a allowance refl in
-        rw (z .0, z .1) (published table brought pattern bytes (brought-alike table brought a) q t i allowance before pattern-octets record-octets wide a n);
+        let z = same-call brought pattern bytes (brought-alike brought a) q t i allowance before pattern-octets record-octets wide a allowance refl in
+        rw (z .0, z .1) (published brought pattern bytes (brought-alike brought a) q t i allowance before pattern-octets record-octets wide a n);
     bounded = λ wide a q t i n.
-        let k = brought-alike table brought a in
-        let z = same-call table brought pattern bytes k q t i allowance before pattern-octets record-octets wide a allowance refl in
-        let l = languageOf table brought in
-        rw (z .0) (bounded l table q (i .pattern-accepted) n t allowance (answer-exact l k q t (accepted-of l t (i .record-accepted)) allowance));
-    handled = handled refusal tells binds before table brought (trees table pattern bytes) (AcceptedTrees table pattern bytes) (λ x. ⊥)
-        (reads table pattern bytes pattern-octets record-octets) answerNumber answerCount
+        let k = brought-alike brought a in
+        let z = same-call brought pattern bytes k q t i allowance before pattern-octets record-octets wide a allowance refl in
+        let l = languageOf brought in
+        rw (z .0) (bounded l q (i .pattern-accepted) n t allowance (answer-exact l k q t (accepted-of l t (i .record-accepted)) allowance));
+    handled = handled refusal tells binds before brought (trees (languageOf brought) pattern bytes) (AcceptedTrees (languageOf brought) pattern bytes) (λ x. ⊥)
+        (reads brought pattern bytes pattern-octets record-octets) answerNumber answerCount
         (record {
           numbered = λ r i. refl;
           uncounted = λ r i. refl;
@@ -81,26 +81,27 @@ module _ (table : List ℕ) (brought : Option (List ℕ)) (pattern bytes before 
   -- the whole contract
   abbrev Called : Answer → List ℕ → Type 0
   Called a after =
-      (a ≡ answerOf table brought pattern bytes allowance (length before))
-      × ((after ≡ bufferOf table brought pattern bytes allowance before) × Demanded table brought pattern bytes before allowance a after)
+      (a ≡ answerOf brought pattern bytes allowance (length before))
+      × ((after ≡ bufferOf brought pattern bytes allowance before) × Demanded brought pattern bytes before allowance a after)
 
   -- where a check fails
-  pub fails-called : {k : Check} {r : Refusal} → k ≡ checkOf (checked table brought pattern bytes (length before)) → k ≡ Failed r → Called (Refused r) before
+  pub fails-called : {k : Check} {r : Refusal} → k ≡ checkOf (checked brought pattern bytes (length before)) → k ≡ Failed r → Called (Refused r) before
   unfolding answerOf bufferOf
   fails-called {k} {r} e f =
-      let c = check-failed (checked table brought pattern bytes (length before)) r (sym f ∙ e) in
-      fails refusal tells binds before (checked table brought pattern bytes (length before)) (Demanded table brought pattern bytes before allowance) demanded-of r (c .0) (c .1)
+      let c = check-failed (checked brought pattern bytes (length before)) r (sym f ∙ e) in
+      fails refusal tells binds before (checked brought pattern bytes (length before)) (Demanded brought pattern bytes before allowance) demanded-of r (c .0) (c .1)
 
   -- where all pass, and the search takes the class list that is brought, or an empty one
-  pub passes-called : {k : Check} → k ≡ checkOf (checked table brought pattern bytes (length before)) → k ≡ Passed
+  pub passes-called : {k : Check} → k ≡ checkOf (checked brought pattern bytes (length before)) → k ≡ Passed
       → (classes : List ℕ) → classes ≡ classesOf brought → (a : Answer) (after : List ℕ)
-      → (a ≡ answerOnBytes table classes pattern bytes allowance (length before)) × (after ≡ bufferOnBytes table classes pattern bytes allowance before)
+      → (a ≡ answerOnBytes (brought .table) classes pattern bytes allowance (length before))
+      × (after ≡ bufferOnBytes (brought .table) classes pattern bytes allowance before)
       → length after ≡ length before → Called a after
   unfolding answerOf bufferOf
   passes-called e f classes same a after m =
-      let c = check-passed (checked table brought pattern bytes (length before)) (sym f ∙ e) in
-      let i = checked-exactly table pattern bytes pattern-octets record-octets brought (length before) (c .0 .0) (c .0 .1) .0 (c .1) in
-      let g = bytes-answered table (classesOf brought) pattern bytes before allowance (i .0) (brought-alike table brought (i .1)) (c .0 .0) (c .0 .1) (i .2) in
+      let c = check-passed (checked brought pattern bytes (length before)) (sym f ∙ e) in
+      let i = checked-exactly brought pattern bytes pattern-octets record-octets (length before) (c .0 .0) (c .0 .1) .0 (c .1) in
+      let g = bytes-answered (brought .table) (classesOf brought) pattern bytes before allowance (i .0) (brought .edition) (brought-alike brought (i .1)) (c .0 .0) (c .0 .1) (i .2) in
       let n = rw same at m in
-      passes refusal tells binds before (checked table brought pattern bytes (length before)) (Demanded table brought pattern bytes before allowance) demanded-of
+      passes refusal tells binds before (checked brought pattern bytes (length before)) (Demanded brought pattern bytes before allowance) demanded-of
       (c .0) (c .1) a after (n .0 ∙ g .0) (n .1 ∙ g .1)

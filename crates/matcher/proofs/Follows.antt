@@ -16,7 +16,7 @@ use Rattle.term.specs.Term.{Term}
 use Rattle.anti_pattern.specs.Answer.{bound, nothing, spent}
 use Rattle.anti_pattern.specs.Next.{Following, follows, unknown, next}
 use Rattle.parts.specs.Shown.{answerWidth}
-use Rattle.call.specs.Brought.{languageOf, broughtAccepted}
+use Rattle.reader.specs.Brought.{Brought, languageOf, broughtAccepted}
 use Rattle.call.specs.Call.{written}
 use Rattle.matcher.specs.Call.{Input}
 use Rattle.matcher.specs.Next.{toldNext, nextOf, boundNext, nextBufferOf}
@@ -40,16 +40,16 @@ pub is-bound : (f : Following) → answerNumber (toldNext f) ≡ 0 → (ps : Lis
 is-bound (follows o) e = let s = bound-told o e in (s .0, s .1, ap follows (s .2))
 is-bound unknown e = absurd (omega (arith, e))
 
-module _ (table : List ℕ) (brought : Option (List ℕ)) (pattern bytes given before : List ℕ) (allowance : ℕ) (pattern-octets : Octets pattern)
-    (record-octets : Octets bytes) (wide : answerWidth ≤ length before) (accepted : broughtAccepted table brought ≡ true) (q : Pattern) (t : Term)
-    (i : Input table pattern bytes q t) where
+module _ (brought : Brought) (pattern bytes given before : List ℕ) (allowance : ℕ) (pattern-octets : Octets pattern)
+    (record-octets : Octets bytes) (wide : answerWidth ≤ length before) (accepted : broughtAccepted brought ≡ true) (q : Pattern) (t : Term)
+    (i : Input (languageOf brought) pattern bytes q t) where
   abbrev following : ℕ → Following
-  following n = next (languageOf table brought) q t given n
+  following n = next (languageOf brought) q t given n
 
   pub same-next : (more : ℕ) → following more ≡ following allowance
-      → (nextOf table brought pattern bytes given more (length before) ≡ toldNext (following allowance))
-      × (nextBufferOf table brought pattern bytes given more before ≡ written (boundNext (following allowance)) before)
+      → (nextOf brought pattern bytes given more (length before) ≡ toldNext (following allowance))
+      × (nextBufferOf brought pattern bytes given more before ≡ written (boundNext (following allowance)) before)
   unfolding nextOf nextBufferOf
   same-next more z =
-      rw (checked-exactly table pattern bytes pattern-octets record-octets brought (length before) q t .1 (wide, accepted, i))
+      rw (checked-exactly brought pattern bytes pattern-octets record-octets (length before) q t .1 (wide, accepted, i))
       (ap toldNext z, ap (λ (x : Following). written (boundNext x) before) z)

@@ -8,6 +8,7 @@ use Rattle.answers.specs.declared.Part.{Part}
 use Rattle.answers.specs.declared.Refusal.the-variants.{Narrow}
 use Rattle.answers.specs.declared.Answer.{Answer}
 use Rattle.answers.specs.declared.Answer.the-variants.{Refused}
+use Rattle.term.specs.declared.Edition.{Edition}
 use Rattle.term.specs.Class.{Alike}
 use Rattle.term.specs.Pattern.{Pattern}
 use Rattle.term.specs.Term.{Term}
@@ -66,10 +67,10 @@ module _ (table classes pattern bytes before : List ℕ) (allowance : ℕ) where
         )
 
     -- on accepted input it is the answer of the search on trees
-    pub bytes-answered : Alike table classes → (q : Pattern) (t : Term) → Input table pattern bytes q t
-        → (answerOnBytes table classes pattern bytes allowance (length before) ≡ told (answer (language table classes) q t allowance))
-        × (bufferOnBytes table classes pattern bytes allowance before ≡ written (boundParts (answer (language table classes) q t allowance)) before)
+    pub bytes-answered : (edition : Edition) → Alike table classes → (q : Pattern) (t : Term) → Input (language edition table classes) pattern bytes q t
+        → (answerOnBytes table classes pattern bytes allowance (length before) ≡ told (answer (language edition table classes) q t allowance))
+        × (bufferOnBytes table classes pattern bytes allowance before ≡ written (boundParts (answer (language edition table classes) q t allowance)) before)
     unfolding answerOnBytes bufferOnBytes
-    bytes-answered k q t i =
-        let z = sym (linked table classes pattern bytes k q t i allowance) in
+    bytes-answered edition k q t i =
+        let z = sym (linked (language edition table classes) pattern bytes k q t i allowance) in
         rw (le-ltb (length before) answerWidth wide) (ap told z, ap (λ (x : Matching). written (boundParts x) before) z)

@@ -10,6 +10,7 @@ use Rattle.answers.specs.declared.Refusal.{Refusal}
 use Rattle.answers.specs.declared.Refusal.the-variants.{Narrow}
 use Rattle.answers.specs.declared.Answer.{Answer}
 use Rattle.answers.specs.declared.Answer.the-variants.{Bound, None, Spent, Refused}
+use Rattle.term.specs.Language.{Language}
 use Rattle.term.specs.Term.{Term}
 use Rattle.term.specs.Pattern.{Pattern}
 use Rattle.reader.specs.Reading.{readPattern, readRecord}
@@ -17,26 +18,26 @@ use Rattle.anti_pattern.specs.Answer.{Matching, bound, nothing, spent, answer}
 use Rattle.parts.specs.Shown.{answerWidth}
 pub use Rattle.link.specs.Input.{Input}
 use Rattle.link.specs.OnBytes.{outcomeOnBytes}
-use Rattle.call.specs.Brought.{languageOf}
+use Rattle.reader.specs.Brought.{Brought, languageOf}
 use Rattle.call.specs.Call.{checks, answerBy, written, bufferBy}
 use Rattle.call.specs.Verdict.{Verdict, passed, fault, reading, both}
 use Rattle.matcher.specs.declared.Check.{Check}
 use Rattle.matcher.specs.declared.Check.the-variants.{Passed, Failed}
 
 -- accepted input, of the two trees as one
-abbrev pub AcceptedTrees : List ℕ → List ℕ → List ℕ → Pattern × Term → Type 0
-AcceptedTrees table pattern bytes x = Input table pattern bytes (x .0) (x .1)
+abbrev pub AcceptedTrees : Language → List ℕ → List ℕ → Pattern × Term → Type 0
+AcceptedTrees l pattern bytes x = Input l pattern bytes (x .0) (x .1)
 
 -- The checks, in order: those of every call, the pattern's, the record's; they read both trees
 
-abbrev pub ruleChecked : List ℕ → Option (List ℕ) → List ℕ → ℕ → Verdict Pattern
-ruleChecked table brought pattern width = checks table brought width (reading (readPattern table pattern))
+abbrev pub ruleChecked : Brought → List ℕ → ℕ → Verdict Pattern
+ruleChecked brought pattern width = checks brought width (reading (readPattern (languageOf brought) pattern))
 
-abbrev pub trees : List ℕ → List ℕ → List ℕ → Verdict (Pattern × Term)
-trees table pattern bytes = both (reading (readPattern table pattern)) (reading (readRecord table bytes))
+abbrev pub trees : Language → List ℕ → List ℕ → Verdict (Pattern × Term)
+trees l pattern bytes = both (reading (readPattern l pattern)) (reading (readRecord l bytes))
 
-abbrev pub checked : List ℕ → Option (List ℕ) → List ℕ → List ℕ → ℕ → Verdict (Pattern × Term)
-checked table brought pattern bytes width = checks table brought width (trees table pattern bytes)
+abbrev pub checked : Brought → List ℕ → List ℕ → ℕ → Verdict (Pattern × Term)
+checked brought pattern bytes width = checks brought width (trees (languageOf brought) pattern bytes)
 
 -- passed, or the refusal
 abbrev pub checkOf : {X : Type 0} → Verdict X → Check
@@ -54,9 +55,9 @@ told (bound parts count) = Bound count
 told (nothing count) = None count
 told (spent allowance) = Spent allowance
 
-unfoldable pub answerOf : List ℕ → Option (List ℕ) → List ℕ → List ℕ → ℕ → ℕ → Answer
-answerOf table brought pattern bytes allowance width =
-    answerBy refusal (λ x. told (answer (languageOf table brought) (x .0) (x .1) allowance)) (checked table brought pattern bytes width)
+unfoldable pub answerOf : Brought → List ℕ → List ℕ → ℕ → ℕ → Answer
+answerOf brought pattern bytes allowance width =
+    answerBy refusal (λ x. told (answer (languageOf brought) (x .0) (x .1) allowance)) (checked brought pattern bytes width)
 
 -- The answer buffer, by the part of each variable where the answer is bound
 
@@ -65,9 +66,9 @@ boundParts (bound parts count) = some parts
 boundParts (nothing count) = none
 boundParts (spent allowance) = none
 
-unfoldable pub bufferOf : List ℕ → Option (List ℕ) → List ℕ → List ℕ → ℕ → List ℕ → List ℕ
-bufferOf table brought pattern bytes allowance before =
-    bufferBy (λ x. boundParts (answer (languageOf table brought) (x .0) (x .1) allowance)) (checked table brought pattern bytes (length before)) before
+unfoldable pub bufferOf : Brought → List ℕ → List ℕ → ℕ → List ℕ → List ℕ
+bufferOf brought pattern bytes allowance before =
+    bufferBy (λ x. boundParts (answer (languageOf brought) (x .0) (x .1) allowance)) (checked brought pattern bytes (length before)) before
 
 -- The match of any bytes, without the checks but for the buffer's: what the search on bytes comes to. On accepted input it is the answer above
 -- (link/proofs/Linked).

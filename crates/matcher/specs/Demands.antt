@@ -23,7 +23,7 @@ use Rattle.anti_pattern.specs.Order.{runLengths}
 use Rattle.anti_pattern.specs.Place.{place, partsAt}
 use Rattle.anti_pattern.specs.Published.{Solution, NoRuns, anti, assignment}
 use Rattle.anti_pattern.specs.Variables.{free, among, freeRuns}
-use Rattle.call.specs.Brought.{languageOf, broughtAccepted}
+use Rattle.reader.specs.Brought.{Brought, languageOf, broughtAccepted}
 use Rattle.call.specs.Demands.{Handled}
 use Rattle.matcher.specs.Call.{Input, AcceptedTrees, answerOf, bufferOf}
 use Rattle.matcher.specs.Cost.{Bounded, NextBounded}
@@ -54,9 +54,9 @@ pub record Shows (table bytes : List ℕ) (q : Pattern) (t : Term) (x : Assignme
   -- the lengths by which the next answer is asked for
   pub run-lengths : map (termsIn buffer) (freeRuns q) ≡ runLengths q x
 
-module _ (table : List ℕ) (brought : Option (List ℕ)) where
+module _ (brought : Brought) where
   abbrev l : Language
-  l = languageOf table brought
+  l = languageOf brought
 
   -- Demand 3, for the trees of accepted input
   pub record Answered (pattern bytes before : List ℕ) (allowance : ℕ) (q : Pattern) (t : Term) (a : Answer) (after : List ℕ) : Type 0 where
@@ -69,16 +69,16 @@ module _ (table : List ℕ) (brought : Option (List ℕ)) where
     pub none-exactly : (answerNumber a ≡ 10) ↔ ((countOf l q t ≤ allowance) × Unsatisfied l q t)
     -- bound exactly when one does, and then the buffer shows the first
     pub bound-exactly : (answerNumber a ≡ 0) ↔ ((countOf l q t ≤ allowance) × ((x : Assignment) × First l q t x))
-    pub bound-shows : answerNumber a ≡ 0 → (x : Assignment) × First l q t x × Shows table bytes q t x after
+    pub bound-shows : answerNumber a ≡ 0 → (x : Assignment) × First l q t x × Shows (brought .table) bytes q t x after
     -- every larger allowance gives the same answer and final buffer
     pub larger-allowance : (more : ℕ) → countOf l q t ≤ allowance → allowance ≤ more
-        → (answerOf table brought pattern bytes more (length before) ≡ a) × (bufferOf table brought pattern bytes more before ≡ after)
+        → (answerOf brought pattern bytes more (length before) ≡ a) × (bufferOf brought pattern bytes more before ≡ after)
 
   -- Demand 2, for a pattern without run names, by the published definition
   pub record Published (bytes : List ℕ) (allowance : ℕ) (q : Pattern) (n : NoRuns q) (t : Term) (a : Answer) (after : List ℕ) : Type 0 where
     pub none-exactly : (answerNumber a ≡ 10) ↔ ((countOf l q t ≤ allowance) × ((σ : Substitution) → Solution l (anti q n) t σ → ⊥))
     pub bound-exactly : (answerNumber a ≡ 0) ↔ ((countOf l q t ≤ allowance) × ((σ : Substitution) × Solution l (anti q n) t σ))
-    pub bound-shows : answerNumber a ≡ 0 → (σ : Substitution) × Solution l (anti q n) t σ × Shows table bytes q t (assignment σ) after
+    pub bound-shows : answerNumber a ≡ 0 → (σ : Substitution) × Solution l (anti q n) t σ × Shows (brought .table) bytes q t (assignment σ) after
     -- it is the only substitution there is
     pub only-one : (σ ρ : Substitution) → Solution l (anti q n) t σ → Solution l (anti q n) t ρ → CountAsOne l (assignment σ) (assignment ρ)
 
@@ -86,26 +86,26 @@ module _ (table : List ℕ) (brought : Option (List ℕ)) where
   -- there is none. Each call has an allowance and a buffer of its own.
   pub data NextCalls (pattern bytes : List ℕ) (q : Pattern) : List ℕ → List (List ℕ) → Type 0 where
     no-more : {given : List ℕ} (allowance : ℕ) (before : List ℕ) → answerWidth ≤ length before
-        → answerNumber (nextOf table brought pattern bytes given allowance (length before)) ≡ 10 → NextCalls pattern bytes q given []
+        → answerNumber (nextOf brought pattern bytes given allowance (length before)) ≡ 10 → NextCalls pattern bytes q given []
     one-more : {given : List ℕ} {shown : List (List ℕ)} (allowance : ℕ) (before : List ℕ) → answerWidth ≤ length before
-        → answerNumber (nextOf table brought pattern bytes given allowance (length before)) ≡ 0
-        → NextCalls pattern bytes q (map (termsIn (nextBufferOf table brought pattern bytes given allowance before)) (freeRuns q)) shown
-        → NextCalls pattern bytes q given (take answerWidth (nextBufferOf table brought pattern bytes given allowance before) ∷ shown)
+        → answerNumber (nextOf brought pattern bytes given allowance (length before)) ≡ 0
+        → NextCalls pattern bytes q (map (termsIn (nextBufferOf brought pattern bytes given allowance before)) (freeRuns q)) shown
+        → NextCalls pattern bytes q given (take answerWidth (nextBufferOf brought pattern bytes given allowance before) ∷ shown)
 
   -- and from the first on
   pub data AllCalls (pattern bytes : List ℕ) (q : Pattern) : List (List ℕ) → Type 0 where
     none-at-all : (allowance : ℕ) (before : List ℕ) → answerWidth ≤ length before
-        → answerNumber (answerOf table brought pattern bytes allowance (length before)) ≡ 10 → AllCalls pattern bytes q []
+        → answerNumber (answerOf brought pattern bytes allowance (length before)) ≡ 10 → AllCalls pattern bytes q []
     from-first : {shown : List (List ℕ)} (allowance : ℕ) (before : List ℕ) → answerWidth ≤ length before
-        → answerNumber (answerOf table brought pattern bytes allowance (length before)) ≡ 0
-        → NextCalls pattern bytes q (map (termsIn (bufferOf table brought pattern bytes allowance before)) (freeRuns q)) shown
-        → AllCalls pattern bytes q (take answerWidth (bufferOf table brought pattern bytes allowance before) ∷ shown)
+        → answerNumber (answerOf brought pattern bytes allowance (length before)) ≡ 0
+        → NextCalls pattern bytes q (map (termsIn (bufferOf brought pattern bytes allowance before)) (freeRuns q)) shown
+        → AllCalls pattern bytes q (take answerWidth (bufferOf brought pattern bytes allowance before) ∷ shown)
 
   -- "while no call is spent, the answers from the first on are all satisfying assignments, each once, in order"; and there are such calls
   pub record EveryCall (pattern bytes : List ℕ) (q : Pattern) (t : Term) : Type 0 where
     pub listed : Enumerates l q t (assignments l q t)
-    pub shown : (nss : List (List ℕ)) → AllCalls pattern bytes q nss → nss ≡ map (λ x. numbers (partsAt table q t x)) (assignments l q t)
-    pub callable : AllCalls pattern bytes q (map (λ x. numbers (partsAt table q t x)) (assignments l q t))
+    pub shown : (nss : List (List ℕ)) → AllCalls pattern bytes q nss → nss ≡ map (λ x. numbers (partsAt (brought .table) q t x)) (assignments l q t)
+    pub callable : AllCalls pattern bytes q (map (λ x. numbers (partsAt (brought .table) q t x)) (assignments l q t))
 
   -- The next answer (document 02, L3), for the trees of accepted input
   pub record NextAnswered (pattern bytes given before : List ℕ) (allowance : ℕ) (q : Pattern) (t : Term) (a : Answer) (after : List ℕ) : Type 0 where
@@ -121,44 +121,44 @@ module _ (table : List ℕ) (brought : Option (List ℕ)) where
     -- bound exactly when another comes after it, and then the buffer shows the next
     pub bound-exactly : (answerNumber a ≡ 0)
         ↔ ((nextCount l q t given ≤ allowance) × ((x : Assignment) × (y : Assignment) × Given l q t given x × NextAfter l q t x y))
-    pub bound-shows : answerNumber a ≡ 0 → (x : Assignment) × (y : Assignment) × Given l q t given x × NextAfter l q t x y × Shows table bytes q t y after
+    pub bound-shows : answerNumber a ≡ 0 → (x : Assignment) × (y : Assignment) × Given l q t given x × NextAfter l q t x y × Shows (brought .table) bytes q t y after
     -- every larger allowance gives the same answer and final buffer
     pub larger-allowance : (more : ℕ) → nextCount l q t given ≤ allowance → allowance ≤ more
-        → (nextOf table brought pattern bytes given more (length before) ≡ a) × (nextBufferOf table brought pattern bytes given more before ≡ after)
+        → (nextOf brought pattern bytes given more (length before) ≡ a) × (nextBufferOf brought pattern bytes given more before ≡ after)
     -- the answers from the first on are all
     pub every : EveryCall pattern bytes q t
 
 -- All three, and what a rule can cost at most; accepted input is always answered
-pub record Demanded (table : List ℕ) (brought : Option (List ℕ)) (pattern bytes before : List ℕ) (allowance : ℕ) (a : Answer) (after : List ℕ) : Type 0 where
-  pub handled : Handled table brought (AcceptedTrees table pattern bytes) (λ x. ⊥) before (answerNumber a) (answerCount a) after
-  pub published : answerWidth ≤ length before → broughtAccepted table brought ≡ true → (q : Pattern) (t : Term) → Input table pattern bytes q t → (n : NoRuns q)
-      → Published table brought bytes allowance q n t a after
-  pub answered : answerWidth ≤ length before → broughtAccepted table brought ≡ true → (q : Pattern) (t : Term) → Input table pattern bytes q t
-      → Answered table brought pattern bytes before allowance q t a after
-  pub bounded : answerWidth ≤ length before → broughtAccepted table brought ≡ true → (q : Pattern) (t : Term) → Input table pattern bytes q t → NoRuns q
+pub record Demanded (brought : Brought) (pattern bytes before : List ℕ) (allowance : ℕ) (a : Answer) (after : List ℕ) : Type 0 where
+  pub handled : Handled brought (AcceptedTrees (languageOf brought) pattern bytes) (λ x. ⊥) before (answerNumber a) (answerCount a) after
+  pub published : answerWidth ≤ length before → broughtAccepted brought ≡ true → (q : Pattern) (t : Term) → Input (languageOf brought) pattern bytes q t → (n : NoRuns q)
+      → Published brought bytes allowance q n t a after
+  pub answered : answerWidth ≤ length before → broughtAccepted brought ≡ true → (q : Pattern) (t : Term) → Input (languageOf brought) pattern bytes q t
+      → Answered brought pattern bytes before allowance q t a after
+  pub bounded : answerWidth ≤ length before → broughtAccepted brought ≡ true → (q : Pattern) (t : Term) → Input (languageOf brought) pattern bytes q t → NoRuns q
       → Bounded allowance q a
 
 -- The next answer (document 02, L3): answer and final buffer after the answer with the given run lengths
-pub record NextDemanded (table : List ℕ) (brought : Option (List ℕ)) (pattern bytes given before : List ℕ) (allowance : ℕ) (a : Answer) (after : List ℕ) : Type 0 where
-  pub handled : Handled table brought (AcceptedTrees table pattern bytes) (λ x. UnknownLengths (languageOf table brought) (x .0) (x .1) given allowance) before
+pub record NextDemanded (brought : Brought) (pattern bytes given before : List ℕ) (allowance : ℕ) (a : Answer) (after : List ℕ) : Type 0 where
+  pub handled : Handled brought (AcceptedTrees (languageOf brought) pattern bytes) (λ x. UnknownLengths (languageOf brought) (x .0) (x .1) given allowance) before
       (answerNumber a) (answerCount a) after
-  pub answered : answerWidth ≤ length before → broughtAccepted table brought ≡ true → (q : Pattern) (t : Term) → Input table pattern bytes q t
-      → NextAnswered table brought pattern bytes given before allowance q t a after
-  pub bounded : answerWidth ≤ length before → broughtAccepted table brought ≡ true → (q : Pattern) (t : Term) → Input table pattern bytes q t → NoRuns q
+  pub answered : answerWidth ≤ length before → broughtAccepted brought ≡ true → (q : Pattern) (t : Term) → Input (languageOf brought) pattern bytes q t
+      → NextAnswered brought pattern bytes given before allowance q t a after
+  pub bounded : answerWidth ≤ length before → broughtAccepted brought ≡ true → (q : Pattern) (t : Term) → Input (languageOf brought) pattern bytes q t → NoRuns q
       → NextBounded allowance q a
 
 -- answer, final buffer and demands in one, which only a private function's contract cites
-abbrev pub NextCalled : List ℕ → Option (List ℕ) → List ℕ → List ℕ → List ℕ → List ℕ → ℕ → Answer → List ℕ → Type 0
-NextCalled table brought pattern bytes given before allowance a after =
-    (a ≡ nextOf table brought pattern bytes given allowance (length before))
-    × ((after ≡ nextBufferOf table brought pattern bytes given allowance before) × NextDemanded table brought pattern bytes given before allowance a after)
+abbrev pub NextCalled : Brought → List ℕ → List ℕ → List ℕ → List ℕ → ℕ → Answer → List ℕ → Type 0
+NextCalled brought pattern bytes given before allowance a after =
+    (a ≡ nextOf brought pattern bytes given allowance (length before))
+    × ((after ≡ nextBufferOf brought pattern bytes given allowance before) × NextDemanded brought pattern bytes given before allowance a after)
 
 -- What is demanded where only the final buffer is at hand: of the answer that the call has
 
-abbrev pub DemandedOf : List ℕ → Option (List ℕ) → List ℕ → List ℕ → List ℕ → ℕ → List ℕ → Type 0
-DemandedOf table brought pattern bytes before allowance after =
-    Demanded table brought pattern bytes before allowance (answerOf table brought pattern bytes allowance (length before)) after
+abbrev pub DemandedOf : Brought → List ℕ → List ℕ → List ℕ → ℕ → List ℕ → Type 0
+DemandedOf brought pattern bytes before allowance after =
+    Demanded brought pattern bytes before allowance (answerOf brought pattern bytes allowance (length before)) after
 
-abbrev pub NextDemandedOf : List ℕ → Option (List ℕ) → List ℕ → List ℕ → List ℕ → List ℕ → ℕ → List ℕ → Type 0
-NextDemandedOf table brought pattern bytes given before allowance after =
-    NextDemanded table brought pattern bytes given before allowance (nextOf table brought pattern bytes given allowance (length before)) after
+abbrev pub NextDemandedOf : Brought → List ℕ → List ℕ → List ℕ → List ℕ → ℕ → List ℕ → Type 0
+NextDemandedOf brought pattern bytes given before allowance after =
+    NextDemanded brought pattern bytes given before allowance (nextOf brought pattern bytes given allowance (length before)) after

@@ -9,7 +9,7 @@ use Rattle.answers.specs.declared.Refusal.the-variants.{Unknown}
 use Rattle.answers.specs.declared.Answer.{Answer}
 use Rattle.answers.specs.declared.Answer.the-variants.{Refused}
 use Rattle.anti_pattern.specs.Next.{Following, follows, unknown, next}
-use Rattle.call.specs.Brought.{languageOf}
+use Rattle.reader.specs.Brought.{Brought, languageOf}
 use Rattle.call.specs.Call.{answerBy, bufferBy}
 use Rattle.matcher.specs.Call.{checked, refusal, told, boundParts}
 
@@ -18,9 +18,9 @@ abbrev pub toldNext : Following → Answer
 toldNext (follows o) = told o
 toldNext unknown = Refused Unknown
 
-unfoldable pub nextOf : List ℕ → Option (List ℕ) → List ℕ → List ℕ → List ℕ → ℕ → ℕ → Answer
-nextOf table brought pattern bytes given allowance width =
-    answerBy refusal (λ x. toldNext (next (languageOf table brought) (x .0) (x .1) given allowance)) (checked table brought pattern bytes width)
+unfoldable pub nextOf : Brought → List ℕ → List ℕ → List ℕ → ℕ → ℕ → Answer
+nextOf brought pattern bytes given allowance width =
+    answerBy refusal (λ x. toldNext (next (languageOf brought) (x .0) (x .1) given allowance)) (checked brought pattern bytes width)
 
 -- The answer buffer, by the part of each variable where the answer is bound
 
@@ -28,6 +28,6 @@ abbrev pub boundNext : Following → Option (List Part)
 boundNext (follows o) = boundParts o
 boundNext unknown = none
 
-unfoldable pub nextBufferOf : List ℕ → Option (List ℕ) → List ℕ → List ℕ → List ℕ → ℕ → List ℕ → List ℕ
-nextBufferOf table brought pattern bytes given allowance before =
-    bufferBy (λ x. boundNext (next (languageOf table brought) (x .0) (x .1) given allowance)) (checked table brought pattern bytes (length before)) before
+unfoldable pub nextBufferOf : Brought → List ℕ → List ℕ → List ℕ → ℕ → List ℕ → List ℕ
+nextBufferOf brought pattern bytes given allowance before =
+    bufferBy (λ x. boundNext (next (languageOf brought) (x .0) (x .1) given allowance)) (checked brought pattern bytes (length before)) before

@@ -4,13 +4,13 @@ use answers::Refusal;
 use byte_answers::Read;
 use search::Finding;
 use search::Known;
+use term::Edition;
 ghost use mathlib.Core.Path.{_≡_};
 ghost use mathlib.Core.List.{[]};
-ghost use mathlib.Core.Option.{none, some};
 ghost use Prim.Native.Nat.{_≤_};
 ghost use lib.ListN.{length};
 ghost use Rattle.term.specs.Moment.{old, new};
-ghost use Rattle.call.specs.Brought.{broughtBy, classesOf, broughtAccepted};
+ghost use Rattle.reader.specs.Brought.{simply, bringing, listIf, broughtBy, orEmpty};
 ghost use Rattle.link.specs.OnBytes.{repliedBy, followingOnBytes};
 ghost use Rattle.matcher.specs.Call.{ruleChecked, checked, checkOf, answerOf, bufferOf, answerOnBytes, bufferOnBytes, told};
 ghost use Rattle.matcher.specs.Next.{toldNext, nextOf, nextBufferOf};
@@ -26,19 +26,16 @@ pub enum Check {
     Failed(Refusal),
 }
 
-// Whether the class list is accepted, if the call brings one.
-fn accepts_classes(table: &[u8], brings: bool, classes: &[u8]) -> bool
-    ensures { λ r. ⌜ r ≡ broughtAccepted (old table) (broughtBy brings (old classes)) ⌝ }
-{
-    if brings {
-        return term::check_classes(table, classes);
-    }
-    true
-}
-
 // The checks up to the pattern's, in order, for a buffer of so many numbers; `classes` counts if the call brings a class list.
-pub fn check_rule(table: &[u8], brings: bool, classes: &[u8], pattern: &[u8], width: usize) -> Check
-    ensures { λ r. ⌜ r ≡ checkOf (ruleChecked (old table) (broughtBy brings (old classes)) (old pattern) width) ⌝ }
+pub fn check_rule(
+    edition: Edition,
+    table: &[u8],
+    brings: bool,
+    classes: &[u8],
+    pattern: &[u8],
+    width: usize,
+) -> Check
+    ensures { λ r. ⌜ r ≡ checkOf (ruleChecked (broughtBy edition (old table) brings (old classes)) (old pattern) width) ⌝ }
 {
     if width < ANSWER_WIDTH {
         return Check::Failed(Refusal::Narrow);
@@ -46,10 +43,11 @@ pub fn check_rule(table: &[u8], brings: bool, classes: &[u8], pattern: &[u8], wi
     if !term::check_table(table) {
         return Check::Failed(Refusal::Table);
     }
-    if !accepts_classes(table, brings, classes) {
+    if !reader::accepts_list(table, brings, classes) {
         return Check::Failed(Refusal::Class);
     }
-    let p = reader::read_pattern(table, pattern);
+    let list = reader::brought_list(brings, classes);
+    let p = reader::read_pattern_in(edition, table, list, pattern);
     if let Read::Refused(r) = p {
         return Check::Failed(r);
     }
@@ -58,6 +56,7 @@ pub fn check_rule(table: &[u8], brings: bool, classes: &[u8], pattern: &[u8], wi
 
 // All checks in order.
 fn check_input(
+    edition: Edition,
     table: &[u8],
     brings: bool,
     classes: &[u8],
@@ -65,13 +64,14 @@ fn check_input(
     record: &[u8],
     width: usize,
 ) -> Check
-    ensures { λ r. ⌜ r ≡ checkOf (checked (old table) (broughtBy brings (old classes)) (old pattern) (old «record») width) ⌝ }
+    ensures { λ r. ⌜ r ≡ checkOf (checked (broughtBy edition (old table) brings (old classes)) (old pattern) (old «record») width) ⌝ }
 {
-    let rule = check_rule(table, brings, classes, pattern, width);
+    let rule = check_rule(edition, table, brings, classes, pattern, width);
     if let Check::Failed(r) = rule {
         return Check::Failed(r);
     }
-    let s = reader::read_record(table, record);
+    let list = reader::brought_list(brings, classes);
+    let s = reader::read_record_in(edition, table, list, record);
     if let Read::Refused(r) = s {
         return Check::Failed(r);
     }
@@ -120,20 +120,29 @@ pub fn match_one(
     allowance: u32,
     answer: &mut [u16],
 ) -> Answer
-    ensures is { λ r. ⌜ r ≡ answerOf (old table) none (old pattern) (old «record») allowance (length (old answer)) ⌝ }
-    ensures buffer { λ r. ⌜ new answer ≡ bufferOf (old table) none (old pattern) (old «record») allowance (old answer) ⌝ }
-    ensures demand { λ r. ⌜ Demanded (old table) none (old pattern) (old «record») (old answer) allowance r (new answer) ⌝ }
+    ensures is { λ r. ⌜ r ≡ answerOf (simply (old table)) (old pattern) (old «record») allowance (length (old answer)) ⌝ }
+    ensures buffer { λ r. ⌜ new answer ≡ bufferOf (simply (old table)) (old pattern) (old «record») allowance (old answer) ⌝ }
+    ensures demand { λ r. ⌜ Demanded (simply (old table)) (old pattern) (old «record») (old answer) allowance r (new answer) ⌝ }
 {
     let classes = &table[..0];
-    let checks = check_input(table, false, classes, pattern, record, answer.len());
+    let checks = check_input(
+        Edition::One,
+        table,
+        false,
+        classes,
+        pattern,
+        record,
+        answer.len(),
+    );
     match checks {
         Check::Failed(r) => Answer::Refused(r),
         Check::Passed => match_checked(table, classes, pattern, record, allowance, answer),
     }
 }
 
-// The same up to class, by a class list.
-pub fn match_one_with_classes(
+// The same in an edition, up to class by a class list.
+pub fn match_in(
+    edition: Edition,
     table: &[u8],
     classes: &[u8],
     pattern: &[u8],
@@ -141,11 +150,11 @@ pub fn match_one_with_classes(
     allowance: u32,
     answer: &mut [u16],
 ) -> Answer
-    ensures is { λ r. ⌜ r ≡ answerOf (old table) (some (old classes)) (old pattern) (old «record») allowance (length (old answer)) ⌝ }
-    ensures buffer { λ r. ⌜ new answer ≡ bufferOf (old table) (some (old classes)) (old pattern) (old «record») allowance (old answer) ⌝ }
-    ensures demand { λ r. ⌜ Demanded (old table) (some (old classes)) (old pattern) (old «record») (old answer) allowance r (new answer) ⌝ }
+    ensures is { λ r. ⌜ r ≡ answerOf (bringing edition (old table) (old classes)) (old pattern) (old «record») allowance (length (old answer)) ⌝ }
+    ensures buffer { λ r. ⌜ new answer ≡ bufferOf (bringing edition (old table) (old classes)) (old pattern) (old «record») allowance (old answer) ⌝ }
+    ensures demand { λ r. ⌜ Demanded (bringing edition (old table) (old classes)) (old pattern) (old «record») (old answer) allowance r (new answer) ⌝ }
 {
-    let checks = check_input(table, true, classes, pattern, record, answer.len());
+    let checks = check_input(edition, table, true, classes, pattern, record, answer.len());
     match checks {
         Check::Failed(r) => Answer::Refused(r),
         Check::Passed => match_checked(table, classes, pattern, record, allowance, answer),
@@ -176,6 +185,7 @@ fn next_checked(
 
 // The same with every check, by a class list if the call brings one; else `classes` is empty.
 fn next_brought(
+    edition: Edition,
     table: &[u8],
     brings: bool,
     classes: &[u8],
@@ -185,10 +195,18 @@ fn next_brought(
     allowance: u32,
     answer: &mut [u16],
 ) -> Answer
-    requires { ⌜ now classes ≡ classesOf (broughtBy brings (now classes)) ⌝ }
-    ensures { λ r. ⌜ NextCalled (old table) (broughtBy brings (old classes)) (old pattern) (old «record») (old given) (old answer) allowance r (new answer) ⌝ }
+    requires { ⌜ now classes ≡ orEmpty (listIf brings (now classes)) ⌝ }
+    ensures { λ r. ⌜ NextCalled (broughtBy edition (old table) brings (old classes)) (old pattern) (old «record») (old given) (old answer) allowance r (new answer) ⌝ }
 {
-    let checks = check_input(table, brings, classes, pattern, record, answer.len());
+    let checks = check_input(
+        edition,
+        table,
+        brings,
+        classes,
+        pattern,
+        record,
+        answer.len(),
+    );
     match checks {
         Check::Failed(r) => Answer::Refused(r),
         Check::Passed => next_checked(table, classes, pattern, record, given, allowance, answer),
@@ -205,11 +223,12 @@ pub fn next(
     allowance: u32,
     answer: &mut [u16],
 ) -> Answer
-    ensures is { λ r. ⌜ r ≡ nextOf (old table) none (old pattern) (old «record») (old given) allowance (length (old answer)) ⌝ }
-    ensures buffer { λ r. ⌜ new answer ≡ nextBufferOf (old table) none (old pattern) (old «record») (old given) allowance (old answer) ⌝ }
-    ensures demand { λ r. ⌜ NextDemanded (old table) none (old pattern) (old «record») (old given) (old answer) allowance r (new answer) ⌝ }
+    ensures is { λ r. ⌜ r ≡ nextOf (simply (old table)) (old pattern) (old «record») (old given) allowance (length (old answer)) ⌝ }
+    ensures buffer { λ r. ⌜ new answer ≡ nextBufferOf (simply (old table)) (old pattern) (old «record») (old given) allowance (old answer) ⌝ }
+    ensures demand { λ r. ⌜ NextDemanded (simply (old table)) (old pattern) (old «record») (old given) (old answer) allowance r (new answer) ⌝ }
 {
     next_brought(
+        Edition::One,
         table,
         false,
         &table[..0],
@@ -221,8 +240,9 @@ pub fn next(
     )
 }
 
-// The same up to class, by a class list.
-pub fn next_with_classes(
+// The same in an edition, up to class by a class list.
+pub fn next_in(
+    edition: Edition,
     table: &[u8],
     classes: &[u8],
     pattern: &[u8],
@@ -231,11 +251,12 @@ pub fn next_with_classes(
     allowance: u32,
     answer: &mut [u16],
 ) -> Answer
-    ensures is { λ r. ⌜ r ≡ nextOf (old table) (some (old classes)) (old pattern) (old «record») (old given) allowance (length (old answer)) ⌝ }
-    ensures buffer { λ r. ⌜ new answer ≡ nextBufferOf (old table) (some (old classes)) (old pattern) (old «record») (old given) allowance (old answer) ⌝ }
-    ensures demand { λ r. ⌜ NextDemanded (old table) (some (old classes)) (old pattern) (old «record») (old given) (old answer) allowance r (new answer) ⌝ }
+    ensures is { λ r. ⌜ r ≡ nextOf (bringing edition (old table) (old classes)) (old pattern) (old «record») (old given) allowance (length (old answer)) ⌝ }
+    ensures buffer { λ r. ⌜ new answer ≡ nextBufferOf (bringing edition (old table) (old classes)) (old pattern) (old «record») (old given) allowance (old answer) ⌝ }
+    ensures demand { λ r. ⌜ NextDemanded (bringing edition (old table) (old classes)) (old pattern) (old «record») (old given) (old answer) allowance r (new answer) ⌝ }
 {
     next_brought(
+        edition,
         table,
         true,
         classes,

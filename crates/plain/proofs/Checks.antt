@@ -21,7 +21,7 @@ use Rattle.reader.proofs.Typed.{pattern-read}
 use Rattle.parts.specs.Shown.{answerWidth}
 use Rattle.link.specs.Input.{Input}
 use Rattle.link.proofs.Linked.{table-short}
-use Rattle.call.specs.Brought.{broughtAccepted}
+use Rattle.reader.specs.Brought.{Brought, languageOf, broughtAccepted}
 use Rattle.call.specs.Verdict.{Verdict, passed, fault, check, reading, both}
 use Rattle.call.proofs.Checks as every
 use Rattle.matcher.specs.Call.{ruleChecked, checkOf}
@@ -51,66 +51,66 @@ plainly-passed (passed p) w q t = go (isPlain p) refl
       λ e. absurd (true≢false (sym (e .1) ∙ sym (ap isPlain (first-passed p w q t (e .0))) ∙ h)),
     )
 
-module _ (table pattern bytes : List ℕ) (pattern-octets : Octets pattern) (record-octets : Octets bytes) where
+module _ (brought : Brought) (pattern bytes : List ℕ) (pattern-octets : Octets pattern) (record-octets : Octets bytes) where
   -- accepted input is what is read
-  pub reads : (x : Pattern × Term) → AcceptedPlain table pattern bytes x ↔ ((tableAccepted table ≡ true) × (plainTrees table pattern bytes ≡ passed x))
+  pub reads : (x : Pattern × Term) → AcceptedPlain (languageOf brought) pattern bytes x ↔ ((tableAccepted (brought .table) ≡ true) × (plainTrees (languageOf brought) pattern bytes ≡ passed x))
   reads x = (
     λ a.
-        let i = matched.reads table pattern bytes pattern-octets record-octets x .0 (a .0) in
+        let i = matched.reads brought pattern bytes pattern-octets record-octets x .0 (a .0) in
         (i .0, both-plain .1 (i .1, check-exact (x .0) .1 (a .1))),
     λ e.
         let p = both-plain .0 (e .1) in
-        (matched.reads table pattern bytes pattern-octets record-octets x .1 (e .0, p .0), check-exact (x .0) .0 (p .1)),
+        (matched.reads brought pattern bytes pattern-octets record-octets x .1 (e .0, p .0), check-exact (x .0) .0 (p .1)),
   )
     where
-      both-plain : (plainTrees table pattern bytes ≡ passed x)
-          ↔ ((both (reading (readPattern table pattern)) (reading (readRecord table bytes)) ≡ passed x) × (isPlain (x .0) ≡ true))
-      both-plain = plainly-passed (reading (readPattern table pattern)) (reading (readRecord table bytes)) (x .0) (x .1)
+      both-plain : (plainTrees (languageOf brought) pattern bytes ≡ passed x)
+          ↔ ((both (reading (readPattern (languageOf brought) pattern)) (reading (readRecord (languageOf brought) bytes)) ≡ passed x) × (isPlain (x .0) ≡ true))
+      both-plain = plainly-passed (reading (readPattern (languageOf brought) pattern)) (reading (readRecord (languageOf brought) bytes)) (x .0) (x .1)
 
-  module _ (brought : Option (List ℕ)) (width : ℕ) (q : Pattern) (t : Term) where
-    pub checked-exactly : (plainChecked table brought pattern bytes width ≡ passed (q, t))
-        ↔ ((answerWidth ≤ width) × (broughtAccepted table brought ≡ true) × (Input table pattern bytes q t × Plain q))
-    checked-exactly = every.passed-exactly table brought width (plainTrees table pattern bytes) (AcceptedPlain table pattern bytes) reads (q, t)
+  module _ (width : ℕ) (q : Pattern) (t : Term) where
+    pub checked-exactly : (plainChecked brought pattern bytes width ≡ passed (q, t))
+        ↔ ((answerWidth ≤ width) × (broughtAccepted brought ≡ true) × (Input (languageOf brought) pattern bytes q t × Plain q))
+    checked-exactly = every.passed-exactly brought width (plainTrees (languageOf brought) pattern bytes) (AcceptedPlain (languageOf brought) pattern bytes) reads (q, t)
 
 -- the own checks
 
-module _ (table : List ℕ) (brought : Option (List ℕ)) (pattern bytes : List ℕ) (width : ℕ) where
-  pub own-checked : answerWidth ≤ width → tableAccepted table ≡ true → broughtAccepted table brought ≡ true
-      → plainChecked table brought pattern bytes width ≡ plainTrees table pattern bytes
-  own-checked = every.then-own table brought width (plainTrees table pattern bytes)
+module _ (brought : Brought) (pattern bytes : List ℕ) (width : ℕ) where
+  pub own-checked : answerWidth ≤ width → tableAccepted (brought .table) ≡ true → broughtAccepted brought ≡ true
+      → plainChecked brought pattern bytes width ≡ plainTrees (languageOf brought) pattern bytes
+  own-checked = every.then-own brought width (plainTrees (languageOf brought) pattern bytes)
 
-  pub first-fails : (r : Refusal) → Failed r ≡ checkOf (ruleChecked table brought pattern width) → Failed r ≡ checkOf (plainChecked table brought pattern bytes width)
-  first-fails = matched.rule-fails table brought pattern width (λ v. both (plainly v) (reading (readRecord table bytes))) (λ r i. refl)
+  pub first-fails : (r : Refusal) → Failed r ≡ checkOf (ruleChecked brought pattern width) → Failed r ≡ checkOf (plainChecked brought pattern bytes width)
+  first-fails = matched.rule-fails brought pattern width (λ v. both (plainly v) (reading (readRecord (languageOf brought) bytes))) (λ r i. refl)
 
   -- each by what is told of the ones before it
-  module _ (octets : Octets pattern) (rule : Passed ≡ checkOf (ruleChecked table brought pattern width)) where
+  module _ (octets : Octets pattern) (rule : Passed ≡ checkOf (ruleChecked brought pattern width)) where
     abbrev tree : Pattern
-    tree = matched.rule-passed table brought pattern width rule .3 .0
+    tree = matched.rule-passed brought pattern width rule .3 .0
 
-    accepted : (patternBytes table tree [] ≡ pattern) × PatternAccepted table tree
-    accepted = let p = matched.rule-passed table brought pattern width rule in pattern-read table pattern octets (p .3 .1) tree (p .3 .2)
+    accepted : (patternBytes (brought .table) tree [] ≡ pattern) × PatternAccepted (languageOf brought) tree
+    accepted = let p = matched.rule-passed brought pattern width rule in pattern-read (languageOf brought) pattern octets (p .3 .1) tree (p .3 .2)
 
     pub rule-short : length pattern ≤ longestPattern
     rule-short = omega (arith, ap length (accepted .0), accepted .1 .short)
 
-    plain-is : plainFrom table pattern false 0 ≡ isPlain tree
+    plain-is : plainFrom (brought .table) pattern false 0 ≡ isPlain tree
     plain-is =
-        let p = matched.rule-passed table brought pattern width rule in
-        ap (λ (l : List ℕ). plainFrom table l false 0) (sym (accepted .0)) ∙ looked table (table-short table (p .2)) tree _ _ (accepted .1 .fits)
+        let p = matched.rule-passed brought pattern width rule in
+        ap (λ (l : List ℕ). plainFrom (brought .table) l false 0) (sym (accepted .0)) ∙ looked (brought .table) (table-short (brought .table) (p .2)) tree _ _ (accepted .1 .fits)
 
-    by-plain : plainChecked table brought pattern bytes width
-        ≡ both (check (plainFrom table pattern false 0) NotPlain (passed tree)) (reading (readRecord table bytes))
+    by-plain : plainChecked brought pattern bytes width
+        ≡ both (check (plainFrom (brought .table) pattern false 0) NotPlain (passed tree)) (reading (readRecord (languageOf brought) bytes))
     by-plain =
-        let p = matched.rule-passed table brought pattern width rule in
+        let p = matched.rule-passed brought pattern width rule in
         rw (own-checked (p .0) (p .2) (p .1), p .3 .2)
-        (ap (λ (b : Bool). both (check b NotPlain (passed tree)) (reading (readRecord table bytes))) (sym plain-is))
+        (ap (λ (b : Bool). both (check b NotPlain (passed tree)) (reading (readRecord (languageOf brought) bytes))) (sym plain-is))
 
-    pub plain-fails : plainFrom table pattern false 0 ≡ false → Failed NotPlain ≡ checkOf (plainChecked table brought pattern bytes width)
+    pub plain-fails : plainFrom (brought .table) pattern false 0 ≡ false → Failed NotPlain ≡ checkOf (plainChecked brought pattern bytes width)
     plain-fails h = rw (by-plain, h)
 
-    module _ (is-plain : plainFrom table pattern false 0 ≡ true) where
-      pub record-fails : (r : Refusal) → shown (readRecord table bytes) ≡ Read.Refused r → Failed r ≡ checkOf (plainChecked table brought pattern bytes width)
-      record-fails r e = rw (by-plain, is-plain, refused-shown (readRecord table bytes) r e)
+    module _ (is-plain : plainFrom (brought .table) pattern false 0 ≡ true) where
+      pub record-fails : (r : Refusal) → shown (readRecord (languageOf brought) bytes) ≡ Read.Refused r → Failed r ≡ checkOf (plainChecked brought pattern bytes width)
+      record-fails r e = rw (by-plain, is-plain, refused-shown (readRecord (languageOf brought) bytes) r e)
 
-      pub all-pass : (m : ℕ) → shown (readRecord table bytes) ≡ Ends m → Passed ≡ checkOf (plainChecked table brought pattern bytes width)
-      all-pass m e = rw (by-plain, is-plain, ends-shown (readRecord table bytes) m e .1)
+      pub all-pass : (m : ℕ) → shown (readRecord (languageOf brought) bytes) ≡ Ends m → Passed ≡ checkOf (plainChecked brought pattern bytes width)
+      all-pass m e = rw (by-plain, is-plain, ends-shown (readRecord (languageOf brought) bytes) m e .1)

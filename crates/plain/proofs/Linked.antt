@@ -27,7 +27,7 @@ use Rattle.term.proofs.Codes.{code-back}
 use Rattle.term.proofs.Spans.{entry-symbol, extent-term, span-terms}
 use Rattle.term.proofs.Joins.{bytes-join, sizes-join, sizes-single, fit-split}
 use Rattle.term.proofs.Sizes.{arity, number-children, number-terms, childrenBytes, node-bytes, symbol-bytes, past-term, past-terms}
-use Rattle.anti_pattern.specs.Language.{language}
+use Rattle.anti_pattern.specs.Language.{Language}
 use Rattle.anti_pattern.specs.Search.{Env, bind, start}
 use Rattle.anti_pattern.specs.Variables.{vars, varsAll, among}
 use Rattle.parts.specs.Packed.{partPlaces, partsIn}
@@ -520,37 +520,37 @@ module _ (table classes bytes : List ℕ) (small : length table ≤ largestTable
 
 -- on accepted input
 
-module _ (table classes pattern bytes : List ℕ) (alike : Alike table classes) (q : Pattern) (t : Term) (i : Input table pattern bytes q t) (p : Plain q) where
-  goes : (small : length table ≤ largestTable) (short : length bytes ≤ longestRecord)
-      → Goes table classes bytes small alike short [] (standingStart noParts) 0 (0 + size table t) (vars q []) (tierOn table classes pattern bytes noParts)
-      (wholeTier (language table classes) q t .out) (wholeTier (language table classes) q t .cost)
+module _ (lang : Language) (pattern bytes : List ℕ) (alike : Alike (lang .table) (lang .classes)) (q : Pattern) (t : Term) (i : Input lang pattern bytes q t) (p : Plain q) where
+  goes : (small : length (lang .table) ≤ largestTable) (short : length bytes ≤ longestRecord)
+      → Goes (lang .table) (lang .classes) bytes small alike short [] (standingStart noParts) 0 (0 + size (lang .table) t) (vars q []) (tierOn (lang .table) (lang .classes) pattern bytes noParts)
+      (wholeTier lang q t .out) (wholeTier lang q t .cost)
   unfolding tierOn
   goes small short =
-      subst (λ (l : List ℕ). Goes table classes bytes small alike short [] (standingStart noParts) 0 (0 + size table t) (vars q [])
-      (tierFrom table classes bytes l false (standingStart noParts) 0) (wholeTier (language table classes) q t .out) (wholeTier (language table classes) q t .cost))
+      subst (λ (l : List ℕ). Goes (lang .table) (lang .classes) bytes small alike short [] (standingStart noParts) 0 (0 + size (lang .table) t) (vars q [])
+      (tierFrom (lang .table) (lang .classes) bytes l false (standingStart noParts) 0) (wholeTier lang q t .out) (wholeTier lang q t .cost))
       (i .pattern-bytes)
-      (tier-goes table classes bytes small alike short q t nesting nesting false false [] (standingStart noParts) start 0 [] [] (i .pattern-accepted .fits)
+      (tier-goes (lang .table) (lang .classes) bytes small alike short q t nesting nesting false false [] (standingStart noParts) start 0 [] [] (i .pattern-accepted .fits)
       (i .record-accepted .fits) (p .no-complement) (p .one-run) (p .no-variable-twice)
-      (record { lengths-room = refl; parts-room = refl; shown = subst (λ ps. Shown table bytes ps start) (sym parts-none) (shown-start table bytes) })
+      (record { lengths-room = refl; parts-room = refl; shown = subst (λ ps. Shown (lang .table) bytes ps start) (sym parts-none) (shown-start (lang .table) bytes) })
       (λ u m. getD-replicate variables u 1 0 (low u m)) (omega arith) (sym (i .record-bytes)))
     where
       low : (u : ℕ) → among u (vars q []) ≡ true → u < variables
-      low u m = vars-low table q nesting false u (i .pattern-accepted .fits) m
+      low u m = vars-low (lang .table) q nesting false u (i .pattern-accepted .fits) m
 
   -- the answer told, and the buffer shown
   pub linked : (before : List ℕ) → answerWidth ≤ length before
-      → (toldEnding (tierOn table classes pattern bytes noParts) ≡ told (plainAnswer (language table classes) q t))
-      × (shownEnding (tierOn table classes pattern bytes noParts) before ≡ written (boundParts (plainAnswer (language table classes) q t)) before)
+      → (toldEnding (tierOn (lang .table) (lang .classes) pattern bytes noParts) ≡ told (plainAnswer lang q t))
+      × (shownEnding (tierOn (lang .table) (lang .classes) pattern bytes noParts) before ≡ written (boundParts (plainAnswer lang q t)) before)
   unfolding plainAnswer shownParts tierFrom
   linked before wide =
-      go (wholeTier (language table classes) q t .out) (wholeTier (language table classes) q t .cost)
-      (goes (table-short table (i .table-accepted)) (short table classes pattern bytes alike q t i 0))
+      go (wholeTier lang q t .out) (wholeTier lang q t .cost)
+      (goes (table-short (lang .table) (i .table-accepted)) (short lang pattern bytes alike q t i 0))
     where
       go : (o : Option Env) (k : ℕ)
-          → Goes table classes bytes (table-short table (i .table-accepted)) alike (short table classes pattern bytes alike q t i 0) [] (standingStart noParts) 0 (0 + size table t) (vars q [])
-          (tierOn table classes pattern bytes noParts) o k
-          → (toldEnding (tierOn table classes pattern bytes noParts) ≡ told (shownTier table o k))
-          × (shownEnding (tierOn table classes pattern bytes noParts) before ≡ written (boundParts (shownTier table o k)) before)
+          → Goes (lang .table) (lang .classes) bytes (table-short (lang .table) (i .table-accepted)) alike (short lang pattern bytes alike q t i 0) [] (standingStart noParts) 0 (0 + size (lang .table) t) (vars q [])
+          (tierOn (lang .table) (lang .classes) pattern bytes noParts) o k
+          → (toldEnding (tierOn (lang .table) (lang .classes) pattern bytes noParts) ≡ told (shownTier (lang .table) o k))
+          × (shownEnding (tierOn (lang .table) (lang .classes) pattern bytes noParts) before ≡ written (boundParts (shownTier (lang .table) o k)) before)
       go o k (stops f n) =
           let z : 0 + k ≡ k = omega arith in
           rw (f, n) (ap None z, refl)
@@ -558,5 +558,5 @@ module _ (table classes pattern bytes : List ℕ) (alike : Alike table classes) 
           let z : 0 + k ≡ k = omega arith in (
             ap toldEnding x ∙ ap Bound z,
             ap (λ (y : Ending). shownEnding y before) x
-                ∙ rw (le-ltb (length before) answerWidth wide) (ap (λ (ps : List Part). numbers ps ++ drop answerWidth before) (sym (shown-parts table bytes _ e (good .shown)))),
+                ∙ rw (le-ltb (length before) answerWidth wide) (ap (λ (ps : List Part). numbers ps ++ drop answerWidth before) (sym (shown-parts (lang .table) bytes _ e (good .shown)))),
           )

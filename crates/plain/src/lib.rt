@@ -13,15 +13,16 @@ use matcher::Check;
 use matcher::check_rule;
 use parts::PARTS;
 use term::Code;
+use term::Edition;
 ghost use mathlib.Core.Path.{_≡_};
-ghost use mathlib.Core.Option.{none, some};
 ghost use Prim.Native.Nat.{_≤_};
 ghost use lib.ListN.{length};
 ghost use Rattle.term.specs.Moment.{old, new};
 ghost use Rattle.term.specs.Limits.{longestPattern};
+ghost use Rattle.reader.specs.Brought.{simply, bringing, listIf, broughtBy, orEmpty};
 ghost use Rattle.plain.specs.Bytes.{mayHold, rootMayHold, tierOn, noParts, toldEnding, shownEnding};
 ghost use Rattle.plain.specs.Call.{plainOf, plainBufferOf};
-ghost use Rattle.plain.specs.Demands.{PlainDemanded};
+ghost use Rattle.plain.specs.Demands.{PlainDemanded, PlainCalled};
 
 // A symbol may hold where it is the record's; any other code may hold.
 fn may_hold(classes: &[u8], code: Code, r: u8) -> bool
@@ -71,21 +72,27 @@ fn match_checked(
     Answer::Bound(count)
 }
 
-// The match of a plain pattern against a record, with every check.
-pub fn match_plain(table: &[u8], pattern: &[u8], record: &[u8], answer: &mut [u16]) -> Answer
-    ensures is { λ r. ⌜ r ≡ plainOf (old table) none (old pattern) (old «record») (length (old answer)) ⌝ }
-    ensures buffer { λ r. ⌜ new answer ≡ plainBufferOf (old table) none (old pattern) (old «record») (old answer) ⌝ }
-    ensures demand { λ r. ⌜ PlainDemanded (old table) none (old pattern) (old «record») (old answer) r (new answer) ⌝ }
+// The match of a plain pattern against a record with every check, by a class list if the call brings one; else `classes` is empty.
+fn match_plain_brought(
+    edition: Edition,
+    table: &[u8],
+    brings: bool,
+    classes: &[u8],
+    pattern: &[u8],
+    record: &[u8],
+    answer: &mut [u16],
+) -> Answer
+    requires { ⌜ now classes ≡ orEmpty (listIf brings (now classes)) ⌝ }
+    ensures { λ r. ⌜ PlainCalled (broughtBy edition (old table) brings (old classes)) (old pattern) (old «record») (old answer) r (new answer) ⌝ }
 {
-    let classes = &table[..0];
-    let checks = check_rule(table, false, classes, pattern, answer.len());
+    let checks = check_rule(edition, table, brings, classes, pattern, answer.len());
     match checks {
         Check::Failed(r) => Answer::Refused(r),
         Check::Passed => {
             if !is_plain(table, pattern) {
                 return Answer::Refused(Refusal::NotPlain);
             }
-            let s = reader::read_record(table, record);
+            let s = reader::read_record_in(edition, table, classes, record);
             if let Read::Refused(r) = s {
                 return Answer::Refused(r);
             }
@@ -97,33 +104,35 @@ pub fn match_plain(table: &[u8], pattern: &[u8], record: &[u8], answer: &mut [u1
     }
 }
 
-// The same up to class, by a class list.
-pub fn match_plain_with_classes(
+// The match of a plain pattern against a record.
+pub fn match_plain(table: &[u8], pattern: &[u8], record: &[u8], answer: &mut [u16]) -> Answer
+    ensures is { λ r. ⌜ r ≡ plainOf (simply (old table)) (old pattern) (old «record») (length (old answer)) ⌝ }
+    ensures buffer { λ r. ⌜ new answer ≡ plainBufferOf (simply (old table)) (old pattern) (old «record») (old answer) ⌝ }
+    ensures demand { λ r. ⌜ PlainDemanded (simply (old table)) (old pattern) (old «record») (old answer) r (new answer) ⌝ }
+{
+    match_plain_brought(
+        Edition::One,
+        table,
+        false,
+        &table[..0],
+        pattern,
+        record,
+        answer,
+    )
+}
+
+// The same in an edition, up to class by a class list.
+pub fn match_plain_in(
+    edition: Edition,
     table: &[u8],
     classes: &[u8],
     pattern: &[u8],
     record: &[u8],
     answer: &mut [u16],
 ) -> Answer
-    ensures is { λ r. ⌜ r ≡ plainOf (old table) (some (old classes)) (old pattern) (old «record») (length (old answer)) ⌝ }
-    ensures buffer { λ r. ⌜ new answer ≡ plainBufferOf (old table) (some (old classes)) (old pattern) (old «record») (old answer) ⌝ }
-    ensures demand { λ r. ⌜ PlainDemanded (old table) (some (old classes)) (old pattern) (old «record») (old answer) r (new answer) ⌝ }
+    ensures is { λ r. ⌜ r ≡ plainOf (bringing edition (old table) (old classes)) (old pattern) (old «record») (length (old answer)) ⌝ }
+    ensures buffer { λ r. ⌜ new answer ≡ plainBufferOf (bringing edition (old table) (old classes)) (old pattern) (old «record») (old answer) ⌝ }
+    ensures demand { λ r. ⌜ PlainDemanded (bringing edition (old table) (old classes)) (old pattern) (old «record») (old answer) r (new answer) ⌝ }
 {
-    let checks = check_rule(table, true, classes, pattern, answer.len());
-    match checks {
-        Check::Failed(r) => Answer::Refused(r),
-        Check::Passed => {
-            if !is_plain(table, pattern) {
-                return Answer::Refused(Refusal::NotPlain);
-            }
-            let s = reader::read_record(table, record);
-            if let Read::Refused(r) = s {
-                return Answer::Refused(r);
-            }
-            if !root_may_hold(classes, pattern, record) {
-                return Answer::None(1);
-            }
-            match_checked(table, classes, pattern, record, answer)
-        }
-    }
+    match_plain_brought(edition, table, true, classes, pattern, record, answer)
 }

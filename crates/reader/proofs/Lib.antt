@@ -3,6 +3,8 @@ pub mod Answers
 pub mod Nodes
 pub mod Inverse
 pub mod Typed
+pub mod Editions
 pub mod Steps
 pub mod Frames
+pub mod Simple
 pub mod Shallow

@@ -14,8 +14,11 @@ use Rattle.byte_answers.specs.declared.Read.{Read}
 use Rattle.byte_answers.specs.declared.Read.the-variants.{Ends}
 use Rattle.term.specs.Code.{codeIn}
 use Rattle.term.specs.Tree.{Tree, Trees}
+use Rattle.term.specs.Language.{Language}
 use Rattle.term.specs.Limits.{nesting, longest}
 use Rattle.term.specs.declared.Code.{Code}
+use Rattle.term.specs.declared.Stand.{Stand}
+use Rattle.term.specs.declared.Stand.the-variants.{Elsewhere}
 use Rattle.term.proofs.Sizes.{encode-length}
 use Rattle.reader.specs.Node.{nodeAt}
 use Rattle.reader.specs.Reading.{Parsed, refused, read, shown, join, chain, readAll, grow, enter, readTree, unlessSpare, readWhole}
@@ -27,23 +30,24 @@ use Rattle.reader.proofs.Inverse.{TreeSound, sound, tree-unfold}
 
 -- What is read lies within the bytes and the nesting
 
-module _ (table : List ℕ) (records inList : Bool) (left : ℕ) (s : List ℕ) {size k : ℕ} {list : Bool} {low : ℕ} (e : nodeAt table records inList left s ≡ Open size k list low) where
-  node-sound : NodeSound table records inList left s (codeIn records (getD s 0 0)) size k list low
-  node-sound = opened-at (NodeSound table records inList left s (codeIn records (getD s 0 0))) (sound-node table records inList left s) e
+module _ (lang : Language) (records : Bool) (stand : Stand) (left : ℕ) (s : List ℕ) {size k : ℕ} {inside : Stand} {low : ℕ}
+    (e : nodeAt lang records stand left s ≡ Open size k inside low) where
+  node-sound : NodeSound lang records stand left s (codeIn records (getD s 0 0)) size k inside low
+  node-sound = opened-at (NodeSound lang records stand left s (codeIn records (getD s 0 0))) (sound-node lang records stand left s) e
 
   pub node-within : (size ≤ length s) × (0 < size)
   node-within =
       let c = codeIn records (getD s 0 0) in
-      (omega (arith, ap length (node-sound .bytes) ∙ own-length table c k (drop size s), node-sound .long), omega (arith, node-sound .long, own-size table c))
+      (omega (arith, ap length (node-sound .bytes) ∙ own-length (lang .table) c k (drop size s), node-sound .long), omega (arith, node-sound .long, own-size (lang .table) c))
 
   pub node-below : (0 < left) × (low < left + (2 - k))
   node-below = (node-sound .levels, node-sound .fewer)
 
-pub tree-ends : (table : List ℕ) (records : Bool) (left : ℕ) (inList : Bool) (s : List ℕ) (n : ℕ) → shown (readTree table records left inList s) ≡ Ends n → n ≤ length s
-tree-ends table records left inList s n e =
-    let x = ends-shown (readTree table records left inList s) n e in
-    let h = subst (Got (TreeSound table records left inList s)) (x .1) (sound table records left inList s) in
-    omega (arith, ap length (h .bytes) ∙ encode-length table (x .0) (drop n s), h .long)
+pub tree-ends : (lang : Language) (records : Bool) (left : ℕ) (stand : Stand) (s : List ℕ) (n : ℕ) → shown (readTree lang records left stand s) ≡ Ends n → n ≤ length s
+tree-ends lang records left stand s n e =
+    let x = ends-shown (readTree lang records left stand s) n e in
+    let h = subst (Got (TreeSound lang records left stand s)) (x .1) (sound lang records left stand s) in
+    omega (arith, ap length (h .bytes) ∙ encode-length (lang .table) (x .0) (drop n s), h .long)
 
 -- So many bytes before what was read
 
@@ -73,19 +77,19 @@ shown-chain (read t n) g = shown-join t n (g n)
 
 -- One tree
 
-module _ (table : List ℕ) (records : Bool) (left : ℕ) (inList : Bool) (s : List ℕ) where
+module _ (lang : Language) (records : Bool) (left : ℕ) (stand : Stand) (s : List ℕ) where
   -- a node that is refused refuses its tree
-  pub tree-refused : (r : Refusal) → nodeAt table records inList left s ≡ Node.Refused r → shown (readTree table records left inList s) ≡ Read.Refused r
+  pub tree-refused : (r : Refusal) → nodeAt lang records stand left s ≡ Node.Refused r → shown (readTree lang records left stand s) ≡ Read.Refused r
   unfolding shown enter
-  tree-refused r e = ap shown (tree-unfold table records left inList s) ∙ rw e
+  tree-refused r e = ap shown (tree-unfold lang records left stand s) ∙ rw e
 
   -- a node that is open goes on with its children
-  pub tree-open : {size k : ℕ} {list : Bool} {low : ℕ} → nodeAt table records inList left s ≡ Open size k list low
-      → shown (readTree table records left inList s) ≡ plus size (shown (readAll (readTree table records low list) k (drop size s)))
+  pub tree-open : {size k : ℕ} {inside : Stand} {low : ℕ} → nodeAt lang records stand left s ≡ Open size k inside low
+      → shown (readTree lang records left stand s) ≡ plus size (shown (readAll (readTree lang records low inside) k (drop size s)))
   unfolding enter
-  tree-open {size} {k} {list} {low} e =
-      ap shown (tree-unfold table records left inList s)
-      ∙ rw e (shown-grow (codeIn records (getD s 0 0)) size (readAll (readTree table records low list) k (drop size s)))
+  tree-open {size} {k} {inside} {low} e =
+      ap shown (tree-unfold lang records left stand s)
+      ∙ rw e (shown-grow (codeIn records (getD s 0 0)) size (readAll (readTree lang records low inside) k (drop size s)))
 
 -- So many trees
 
@@ -101,12 +105,12 @@ all-more f (suc k) s h = rw (sub-one (suc k))
 
 -- The whole of the bytes
 
-module _ (records : Bool) (table s : List ℕ) where
-  pub whole-long : longest records < length s → shown (readWhole records table s) ≡ Read.Refused Long
+module _ (records : Bool) (lang : Language) (s : List ℕ) where
+  pub whole-long : longest records < length s → shown (readWhole records lang s) ≡ Read.Refused Long
   unfolding readWhole shown
   whole-long h = rw (lt-leb (length s) (longest records) h)
 
-  pub whole-tree : length s ≤ longest records → readWhole records table s ≡ unlessSpare s (readTree table records nesting false s)
+  pub whole-tree : length s ≤ longest records → readWhole records lang s ≡ unlessSpare s (readTree lang records nesting Elsewhere s)
   unfolding readWhole
   whole-tree h = rw (le-leb (length s) (longest records) h)
 

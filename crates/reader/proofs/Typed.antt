@@ -9,6 +9,7 @@ use lib.ListN.{length}
 use Rattle.term.specs.Tree.{Tree, encode}
 use Rattle.term.specs.Term.{Term, termTree, termOf, termBytes}
 use Rattle.term.specs.Pattern.{Pattern, patternTree, patternOf, patternBytes}
+use Rattle.term.specs.Language.{Language}
 use Rattle.term.specs.Limits.{nesting, Fits, Octets, Accepted, TermAccepted, PatternAccepted}
 use Rattle.term.proofs.Trees.{term-back, term-tree, pattern-back, pattern-tree}
 use Rattle.reader.specs.Reading.{Parsed, refused, read, shown, mapParsed, readWhole, readRecord, readPattern}
@@ -26,43 +27,43 @@ map-read f (refused r) x n e = let z : _≡_ {A = ℕ} 0 1 = cc in absurd (omega
 map-read f (read t m) x n e = let z : m ≡ n = cc in (t, ap (read t) z, cc)
 
 module _ {X : Type 0} (write : X → Tree) (make : Tree → X) (back : (x : X) → make (write x) ≡ x)
-    (records : Bool) (table s : List ℕ) (octets : Octets s) (forth : (t : Tree) → Fits table records t nesting false → write (make t) ≡ t) where
-  typed-iff : (x : X) → (mapParsed make (readWhole records table s) ≡ read x (length s)) ↔ ((encode table (write x) [] ≡ s) × Accepted table records (write x))
+    (records : Bool) (l : Language) (s : List ℕ) (octets : Octets s) (forth : (t : Tree) → Fits (l .table) records t nesting false → write (make t) ≡ t) where
+  typed-iff : (x : X) → (mapParsed make (readWhole records l s) ≡ read x (length s)) ↔ ((encode (l .table) (write x) [] ≡ s) × Accepted l records (write x))
   unfolding mapParsed
   typed-iff x = (to, from)
     where
-      to : mapParsed make (readWhole records table s) ≡ read x (length s) → (encode table (write x) [] ≡ s) × Accepted table records (write x)
+      to : mapParsed make (readWhole records l s) ≡ read x (length s) → (encode (l .table) (write x) [] ≡ s) × Accepted l records (write x)
       to e =
-          let m = map-read make (readWhole records table s) x (length s) e in
-          let h = read-iff table records s octets (m .0) .0 (m .1) in
-          subst (λ (t : Tree). (encode table t [] ≡ s) × Accepted table records t) (sym (forth (m .0) (h .1 .fits)) ∙ ap write (m .2)) h
+          let m = map-read make (readWhole records l s) x (length s) e in
+          let h = read-iff l records s octets (m .0) .0 (m .1) in
+          subst (λ (t : Tree). (encode (l .table) t [] ≡ s) × Accepted l records t) (sym (forth (m .0) (h .1 .fits)) ∙ ap write (m .2)) h
 
-      from : (encode table (write x) [] ≡ s) × Accepted table records (write x) → mapParsed make (readWhole records table s) ≡ read x (length s)
-      from h = ap (mapParsed make) (read-iff table records s octets (write x) .1 h) ∙ ap (λ (y : X). read y (length s)) (back x)
+      from : (encode (l .table) (write x) [] ≡ s) × Accepted l records (write x) → mapParsed make (readWhole records l s) ≡ read x (length s)
+      from h = ap (mapParsed make) (read-iff l records s octets (write x) .1 h) ∙ ap (λ (y : X). read y (length s)) (back x)
 
 -- what is read are all the bytes
-read-length : {A : Type 0} (f : Tree → A) (records : Bool) (table s : List ℕ) (x : A) (n : ℕ) → mapParsed f (readWhole records table s) ≡ read x n
-    → mapParsed f (readWhole records table s) ≡ read x (length s)
+read-length : {A : Type 0} (f : Tree → A) (records : Bool) (l : Language) (s : List ℕ) (x : A) (n : ℕ) → mapParsed f (readWhole records l s) ≡ read x n
+    → mapParsed f (readWhole records l s) ≡ read x (length s)
 unfolding Read-whole
-read-length f records table s x n e =
-    let m = map-read f (readWhole records table s) x n e in
-    e ∙ ap (read x) (subst (Got (Read-whole table records s)) (m .1) (whole-read table records s) .1)
+read-length f records l s x n e =
+    let m = map-read f (readWhole records l s) x n e in
+    e ∙ ap (read x) (subst (Got (Read-whole l records s)) (m .1) (whole-read l records s) .1)
 
-module _ (table s : List ℕ) (octets : Octets s) where
+module _ (l : Language) (s : List ℕ) (octets : Octets s) where
   -- bytes are read as a term exactly if they are the term's and the term is within the limits; and so for a pattern
-  pub record-iff : (t : Term) → (readRecord table s ≡ read t (length s)) ↔ ((termBytes table t [] ≡ s) × TermAccepted table t)
+  pub record-iff : (t : Term) → (readRecord l s ≡ read t (length s)) ↔ ((termBytes (l .table) t [] ≡ s) × TermAccepted l t)
   unfolding readRecord
-  record-iff t = typed-iff termTree termOf term-back true table s octets (λ u. term-tree table u nesting false) t
+  record-iff t = typed-iff termTree termOf term-back true l s octets (λ u. term-tree (l .table) u nesting false) t
 
-  pub pattern-iff : (q : Pattern) → (readPattern table s ≡ read q (length s)) ↔ ((patternBytes table q [] ≡ s) × PatternAccepted table q)
+  pub pattern-iff : (q : Pattern) → (readPattern l s ≡ read q (length s)) ↔ ((patternBytes (l .table) q [] ≡ s) × PatternAccepted l q)
   unfolding readPattern
-  pattern-iff q = typed-iff patternTree patternOf pattern-back false table s octets (λ u. pattern-tree table u nesting) q
+  pattern-iff q = typed-iff patternTree patternOf pattern-back false l s octets (λ u. pattern-tree (l .table) u nesting) q
 
   module _ (n : ℕ) where
-    pub record-read : (t : Term) → readRecord table s ≡ read t n → (termBytes table t [] ≡ s) × TermAccepted table t
+    pub record-read : (t : Term) → readRecord l s ≡ read t n → (termBytes (l .table) t [] ≡ s) × TermAccepted l t
     unfolding readRecord
-    record-read t e = record-iff t .0 (read-length termOf true table s t n e)
+    record-read t e = record-iff t .0 (read-length termOf true l s t n e)
 
-    pub pattern-read : (q : Pattern) → readPattern table s ≡ read q n → (patternBytes table q [] ≡ s) × PatternAccepted table q
+    pub pattern-read : (q : Pattern) → readPattern l s ≡ read q n → (patternBytes (l .table) q [] ≡ s) × PatternAccepted l q
     unfolding readPattern
-    pattern-read q e = pattern-iff q .0 (read-length patternOf false table s q n e)
+    pattern-read q e = pattern-iff q .0 (read-length patternOf false l s q n e)

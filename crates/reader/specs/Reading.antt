@@ -13,8 +13,11 @@ use Rattle.term.specs.Code.{codeIn}
 use Rattle.term.specs.Tree.{Tree, Trees, branch, empty, more}
 use Rattle.term.specs.Term.{Term, termOf}
 use Rattle.term.specs.Pattern.{Pattern, patternOf}
+use Rattle.term.specs.Language.{Language}
 use Rattle.term.specs.Limits.{longest, nesting}
 use Rattle.term.specs.declared.Code.{Code}
+use Rattle.term.specs.declared.Stand.{Stand}
+use Rattle.term.specs.declared.Stand.the-variants.{Elsewhere}
 use Rattle.reader.specs.Node.{nodeAt}
 use Rattle.reader.specs.declared.Node.{Node}
 use Rattle.reader.specs.declared.Node.the-variants.{Open}
@@ -48,24 +51,24 @@ grow c size (refused r) = refused r
 grow c size (read ts n) = read (branch c ts) (size + n)
 
 -- a node that is open goes on with its children
-unfoldable pub enter : Code → Node → (ℕ → ℕ → Bool → ℕ → Parsed Trees) → Parsed Tree
+unfoldable pub enter : Code → Node → (ℕ → ℕ → Stand → ℕ → Parsed Trees) → Parsed Tree
 enter c (Node.Refused r) g = refused r
-enter c (Open size k list low) g = grow c size (g size k list low)
+enter c (Open size k stand low) g = grow c size (g size k stand low)
 
 -- the tree at the start of s. The first number bounds the nodes: as many as s has bytes are enough, and with none left s is short
-unfoldable pub readBy : List ℕ → Bool → ℕ → ℕ → Bool → List ℕ → Parsed Tree
-readBy table records zero left inList s = refused Short
-readBy table records (suc n) left inList s =
-    enter (codeIn records (getD s 0 0)) (nodeAt table records inList left s)
-    (λ size k list low. readAll (readBy table records n low list) k (drop size s))
+unfoldable pub readBy : Language → Bool → ℕ → ℕ → Stand → List ℕ → Parsed Tree
+readBy l records zero left stand s = refused Short
+readBy l records (suc n) left stand s =
+    enter (codeIn records (getD s 0 0)) (nodeAt l records stand left s)
+    (λ size k children low. readAll (readBy l records n low children) k (drop size s))
 
-unfoldable pub readTree : List ℕ → Bool → ℕ → Bool → List ℕ → Parsed Tree
-readTree table records left inList s = readBy table records (length s) left inList s
+unfoldable pub readTree : Language → Bool → ℕ → Stand → List ℕ → Parsed Tree
+readTree l records left stand s = readBy l records (length s) left stand s
 
 -- a node's refusal is handed on; of an open node it says nothing
 abbrev pub HandsOn : Node → Read → Type 0
 HandsOn (Node.Refused r) a = a ≡ Read.Refused r
-HandsOn (Open size k list low) a = Unit {0}
+HandsOn (Open size k stand low) a = Unit {0}
 
 -- 3 where bytes are left after the tree
 unfoldable pub unlessSpare : List ℕ → Parsed Tree → Parsed Tree
@@ -73,25 +76,25 @@ unlessSpare s (refused r) = refused r
 unlessSpare s (read t n) = cond (eqb n (length s)) (read t n) (refused Spare)
 
 -- the whole of s as one tree
-unfoldable pub readWhole : Bool → List ℕ → List ℕ → Parsed Tree
-readWhole records table s =
-    cond (leb (length s) (longest records)) (unlessSpare s (readTree table records nesting false s)) (refused Long)
+unfoldable pub readWhole : Bool → Language → List ℕ → Parsed Tree
+readWhole records l s =
+    cond (leb (length s) (longest records)) (unlessSpare s (readTree l records nesting Elsewhere s)) (refused Long)
 
 -- a symbol of the table that has no children
 abbrev pub childless : List ℕ → ℕ → Bool
 childless table b = cond (ltb b (length table)) (eqb (getD table b 0) 0) false
 
 -- true where s is known to be one tree; false says nothing
-abbrev pub SurelyRead : Bool → List ℕ → List ℕ → Bool → Type 0
-SurelyRead records table s true = shown (readWhole records table s) ≡ Ends (length s)
-SurelyRead records table s false = Unit {0}
+abbrev pub SurelyRead : Bool → Language → List ℕ → Bool → Type 0
+SurelyRead records l s true = shown (readWhole records l s) ≡ Ends (length s)
+SurelyRead records l s false = Unit {0}
 
 unfoldable pub mapParsed : {A B : Type 0} → (A → B) → Parsed A → Parsed B
 mapParsed f (refused r) = refused r
 mapParsed f (read a n) = read (f a) n
 
-unfoldable pub readRecord : List ℕ → List ℕ → Parsed Term
-readRecord table s = mapParsed termOf (readWhole true table s)
+unfoldable pub readRecord : Language → List ℕ → Parsed Term
+readRecord l s = mapParsed termOf (readWhole true l s)
 
-unfoldable pub readPattern : List ℕ → List ℕ → Parsed Pattern
-readPattern table s = mapParsed patternOf (readWhole false table s)
+unfoldable pub readPattern : Language → List ℕ → Parsed Pattern
+readPattern l s = mapParsed patternOf (readWhole false l s)

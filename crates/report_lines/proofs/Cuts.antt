@@ -13,15 +13,18 @@ use Rattle.answers.specs.declared.Refusal.the-variants.{Unread, Long}
 use Rattle.byte_answers.specs.declared.Checked.{Checked}
 use Rattle.byte_answers.specs.declared.Checked.the-variants.{Accepted}
 use Rattle.term.specs.Table.{tableAccepted}
-use Rattle.sheet.specs.Check.{longestSheet}
+use Rattle.sheet.specs.Check.{editionOf, longestSheet}
 use Rattle.sheet.specs.Contents.{checkContents, checkRules}
 use Rattle.sheet.proofs.Checks.{sheet-long}
-use Rattle.sheet.proofs.Contents.{contents-refused}
-use Rattle.report_lines.specs.Verdict.{readable, verdict}
+use Rattle.sheet.proofs.Contents.{among-refused, contents-refused}
+use Rattle.report_lines.specs.Verdict.{checkLike, readable, verdict}
 use Rattle.report_lines.specs.Report.{report}
 use Rattle.report_lines.specs.declared.File.{File}
 use Rattle.report_lines.specs.declared.Verdict.{Verdict}
 use Rattle.report_lines.proofs.Verdicts.{table-unread, table-refused, rules-refused, states-refused, report-by}
+use mathlib.Core.Option.{none}
+use Rattle.sheet.specs.declared.Editions.{Editions}
+use Rattle.sheet.specs.declared.Editions.the-variants.{Any, Only}
 
 -- the bytes that a table may have
 abbrev pub longestTable : ℕ
@@ -44,10 +47,10 @@ sheet-unread : (checks : Checked) → readable false checks ≡ Checked.Refused 
 unfolding readable
 sheet-unread checks = refl
 
-sheet-too-long : (records : Bool) (table s : List ℕ) → tableAccepted table ≡ true → longestSheet < length s
-    → readable true (checkContents records table s) ≡ Checked.Refused Long 0
+sheet-too-long : (records : Bool) (editions : Editions) (table s : List ℕ) → tableAccepted table ≡ true → longestSheet < length s
+    → readable true (checkContents records editions table none s) ≡ Checked.Refused Long 0
 unfolding readable
-sheet-too-long records table s t h = contents-refused records table s t Long 0 (sheet-long s h)
+sheet-too-long records editions table s t h = contents-refused records editions table none s t refl Long 0 (among-refused editions s Long 0 (sheet-long s h))
 
 tables-long : (tableRead rulesRead statesRead : Bool) (rules states x y : List ℕ) → longestTable < length x → longestTable < length y
     → report tableRead x rulesRead rules statesRead states ≡ report tableRead y rulesRead rules statesRead states
@@ -71,21 +74,21 @@ module _ (statesRead : Bool) (table states x y : List ℕ) (a : longestSheet < l
           (table-refused true table read x statesRead states refl t) (table-refused true table read y statesRead states refl t)
       go true t false =
           refused-same true table table false x y statesRead states states Unread File.Rules 0
-          (rules-refused true table false x statesRead states refl t Unread 0 (sheet-unread (checkRules table x)))
-          (rules-refused true table false y statesRead states refl t Unread 0 (sheet-unread (checkRules table y)))
+          (rules-refused true table false x statesRead states refl t Unread 0 (sheet-unread (checkRules table none x)))
+          (rules-refused true table false y statesRead states refl t Unread 0 (sheet-unread (checkRules table none y)))
       go true t true =
           refused-same true table table true x y statesRead states states Long File.Rules 0
-          (rules-refused true table true x statesRead states refl t Long 0 (sheet-too-long false table x t a))
-          (rules-refused true table true y statesRead states refl t Long 0 (sheet-too-long false table y t b))
+          (rules-refused true table true x statesRead states refl t Long 0 (sheet-too-long false Any table x t a))
+          (rules-refused true table true y statesRead states refl t Long 0 (sheet-too-long false Any table y t b))
 
 module _ (rulesRead : Bool) (table rules x y : List ℕ) (a : longestSheet < length x) (b : longestSheet < length y) where
   states-long : (tableRead statesRead : Bool) → report tableRead table rulesRead rules statesRead x ≡ report tableRead table rulesRead rules statesRead y
   states-long false statesRead =
       refused-same false table table rulesRead rules rules statesRead x y Unread File.Table 0
       (table-unread false table rulesRead rules statesRead x refl) (table-unread false table rulesRead rules statesRead y refl)
-  states-long true statesRead = go (tableAccepted table) refl (readable rulesRead (checkRules table rules)) refl statesRead
+  states-long true statesRead = go (tableAccepted table) refl (readable rulesRead (checkRules table none rules)) refl statesRead
     where
-      go : (t : Bool) → tableAccepted table ≡ t → (c : Checked) → readable rulesRead (checkRules table rules) ≡ c → (read : Bool)
+      go : (t : Bool) → tableAccepted table ≡ t → (c : Checked) → readable rulesRead (checkRules table none rules) ≡ c → (read : Bool)
           → report true table rulesRead rules read x ≡ report true table rulesRead rules read y
       go false t c e read =
           refused-same true table table rulesRead rules rules read x y Refusal.Table File.Table 0
@@ -95,12 +98,12 @@ module _ (rulesRead : Bool) (table rules x y : List ℕ) (a : longestSheet < len
           (rules-refused true table rulesRead rules read x refl t r i e) (rules-refused true table rulesRead rules read y refl t r i e)
       go true t (Accepted m) e false =
           refused-same true table table rulesRead rules rules false x y Unread File.States 0
-          (states-refused true table rulesRead rules false x refl t m e Unread 0 (sheet-unread (checkContents true table x)))
-          (states-refused true table rulesRead rules false y refl t m e Unread 0 (sheet-unread (checkContents true table y)))
+          (states-refused true table rulesRead rules false x refl t m e Unread 0 (sheet-unread (checkLike table rules x)))
+          (states-refused true table rulesRead rules false y refl t m e Unread 0 (sheet-unread (checkLike table rules y)))
       go true t (Accepted m) e true =
           refused-same true table table rulesRead rules rules true x y Long File.States 0
-          (states-refused true table rulesRead rules true x refl t m e Long 0 (sheet-too-long true table x t a))
-          (states-refused true table rulesRead rules true y refl t m e Long 0 (sheet-too-long true table y t b))
+          (states-refused true table rulesRead rules true x refl t m e Long 0 (sheet-too-long true (Only (editionOf rules)) table x t a))
+          (states-refused true table rulesRead rules true y refl t m e Long 0 (sheet-too-long true (Only (editionOf rules)) table y t b))
 
 -- what is the same of all that is too long is the same of its first bytes
 cut-same : (f : List ℕ → List ℕ) (most n : ℕ) → most < n → ((x y : List ℕ) → most < length x → most < length y → f x ≡ f y) → (l : List ℕ) → f (take n l) ≡ f l

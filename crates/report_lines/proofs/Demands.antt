@@ -14,6 +14,8 @@ use Rattle.report_lines.specs.Report.{stateLine, linesFrom, lines, repor
 use Rattle.report_lines.specs.Demands.{withLine, StateShown}
 use Rattle.report_lines.proofs.States.{state-input}
 use Rattle.report_lines.proofs.Turns.{accepted-report, next-line}
+use Rattle.sheet.specs.Check.{editionOf}
+use Rattle.term.specs.Language.{language}
 
 lines-split : (table rules : List ℕ) (k i : ℕ) (es : List (List ℕ))
     → linesFrom table rules i es ≡ linesFrom table rules i (take k es) ++ linesFrom table rules (i + k) (drop k es)
@@ -44,7 +46,7 @@ state-shown table rules states ro so n k v h =
     let x = state-input table rules states n k v h ro so in
     record {
       placed = placed-line table rules states n k v h;
-      shown = (rulesOf table (entries rules), x .0, x .1, ap (answerLine k) (x .2));
+      shown = (rulesOf (language (editionOf rules) table []) (entries rules), x .0, x .1, ap (answerLine k) (x .2));
       own = λ others m w l same.
           placed-line table rules others m k w l ∙ ap (λ (r : List ℕ). withLine table rules others k (stateLine table rules k r)) same;
     }

@@ -18,7 +18,7 @@ use Rattle.reader.specs.Reading.{Parsed, refused, read, readRecord}
 use Rattle.anti_pattern.specs.Language.{Language, language}
 use Rattle.anti_pattern.specs.Search.{Answers, found, failed, whole}
 use Rattle.anti_pattern.specs.Answer.{Matching, bound, nothing, spent, countOf, matchingOf, limit, answer}
-use Rattle.sheet.specs.Check.{lengthAt, entriesFollow, checkSheet}
+use Rattle.sheet.specs.Check.{editionOf, lengthAt, entriesFollow, checkSheet}
 use Rattle.sheet.specs.Entry.{entries}
 use Rattle.sheet.specs.Contents.{mostRules, checkRules}
 use Rattle.sheet.proofs.Checks.{accepted-directed, follow-true, follow-within}
@@ -42,6 +42,8 @@ use Rattle.report_lines.specs.declared.Verdict.the-variants.{Lines}
 use Rattle.output.proofs.Decimals.{few-length, decimal-length}
 use Rattle.report_lines.proofs.Stores.{line-length}
 use Rattle.report_lines.proofs.Verdicts.{lines-accepted}
+use Rattle.sheet.specs.declared.Editions.the-variants.{Any, Only}
+use mathlib.Core.Option.{none}
 
 -- a rule counts to the allowance at most
 
@@ -89,24 +91,24 @@ told-short k h (noneOf n) s =
 told-short k h (spentAt i n) s =
     omega (arith, line-length (decimal k) (decimal i) spentWord (decimal n), few-length 3 20 k h, few-length 1 20 i (omega arith), few-length 6 20 n (omega arith))
 
-module _ (table rules : List ℕ) (m : ℕ) (p : checkRules table rules ≡ Accepted m) where
-  rules-within : 0 + length (rulesOf table (entries rules)) ≤ mostRules
+module _ (table rules : List ℕ) (m : ℕ) (p : checkRules table none rules ≡ Accepted m) where
+  rules-within : 0 + length (rulesOf (language (editionOf rules) table []) (entries rules)) ≤ mostRules
   rules-within =
-      let c = contents-passed false table rules m p in
-      omega (arith, rules-few table (entries rules), entries-count rules m (c .sheet), leb-true m mostRules (c .not-many))
+      let c = contents-passed false Any table none rules m p in
+      omega (arith, rules-few (language (editionOf rules) table []) (entries rules), entries-count rules m (c .sheet), leb-true m mostRules (c .not-many))
 
   line-short : (k : ℕ) → k < 10000 → (e : List ℕ) → length (stateLine table rules k e) ≤ lineRoom
   unfolding stateLine answerOf checks answerLine
-  line-short k h e = rw (contents-passed false table rules m p .tabled, p) (go (readRecord table e))
+  line-short k h e = rw (contents-passed false Any table none rules m p .tabled, p) (go (readRecord (language (editionOf rules) table []) e))
     where
       go : (x : Parsed Term) → length (answerLine k (answerBy RuleAnswer.Refused
-          (λ (y : List Pattern × Term). told (tryRules (language table []) (y .0) (y .1) allowance))
-          (both (passed (rulesOf table (entries rules))) (reading x)))) ≤ lineRoom
+          (λ (y : List Pattern × Term). told (tryRules (language (editionOf rules) table []) (y .0) (y .1) allowance))
+          (both (passed (rulesOf (language (editionOf rules) table []) (entries rules))) (reading x)))) ≤ lineRoom
       go (refused r) = omega arith
       go (read t n) =
-          told-short k h (tryRules (language table []) (rulesOf table (entries rules)) t allowance)
-          (trial-small (λ q. answer (language table []) q t allowance) (λ q. answer-counted (language table []) q t) 0 0
-          (rulesOf table (entries rules)) rules-within (omega arith))
+          told-short k h (tryRules (language (editionOf rules) table []) (rulesOf (language (editionOf rules) table []) (entries rules)) t allowance)
+          (trial-small (λ q. answer (language (editionOf rules) table []) q t allowance) (λ q. answer-counted (language (editionOf rules) table []) q t) 0 0
+          (rulesOf (language (editionOf rules) table []) (entries rules)) rules-within (omega arith))
 
   lines-short : (k : ℕ) (es : List (List ℕ)) → k + length es ≤ 10000 → length (linesFrom table rules k es) ≤ lineRoom * length es
   unfolding linesFrom
@@ -141,7 +143,7 @@ report-room tableRead table rulesRead rules statesRead states = go (verdict tabl
     go (Verdict.Refused r f i) e = refusal-short r f i reportRoom (omega arith)
     go (Lines n) e =
         let a = lines-accepted tableRead table rulesRead rules statesRead states n e in
-        let c = contents-passed true table states n (a .1) in
+        let c = contents-passed true (Only (editionOf rules)) table none states n (a .1) in
         let counted = entries-count states n (c .sheet) in
         let few = states-few states n (c .sheet) in
         simp length-append (omega (arith, lines-short table rules (a .0 .0) (a .0 .1) 0 (entries states) (omega arith)))

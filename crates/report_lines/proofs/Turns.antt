@@ -16,7 +16,7 @@ use Rattle.sheet.proofs.Entries.{entries-count}
 use Rattle.term.proofs.Stores.{sets-append}
 use Rattle.output.proofs.Puts.{Put, Stored, put-stored}
 use Rattle.call.specs.Call.{answerWidth}
-use Rattle.rules.specs.Call.{answerOf}
+use Rattle.rules.specs.Call.{inSheet, answerOf}
 use Rattle.report_lines.specs.Line.{header, answerLine}
 use Rattle.report_lines.specs.Verdict.{FilesAccepted}
 use Rattle.report_lines.specs.Report.{allowance, stateLine, linesFrom, lines, report, reportRoom}
@@ -78,7 +78,7 @@ module _ (table rules states : List ℕ) (n : ℕ) (v : FilesAccepted table rule
     pub turn-same : length out ≡ length before
     turn-same = turn .same ∙ ap length (header-stored .0) ∙ length-sets before 0 header
 
-    module _ (a : RuleAnswer) (h : state < n) (answers : a ≡ answerOf table none rules (shownEntry states state) allowance answerWidth) where
+    module _ (a : RuleAnswer) (h : state < n) (answers : a ≡ answerOf (inSheet rules table none) rules (shownEntry states state) allowance answerWidth) where
       answer-next : linesLeft table rules states state ≡ answerLine state a ++ linesLeft table rules states (state + 1)
       unfolding stateLine
       answer-next = next-line state h ∙ ap (λ (b : RuleAnswer). answerLine state b ++ linesLeft table rules states (state + 1)) (sym answers)

@@ -6,7 +6,7 @@ use mathlib.Core.Option.{none}
 use lib.ListN.{length, drop}
 use Rattle.sheet.specs.Entry.{entries}
 use Rattle.call.specs.Call.{answerWidth}
-use Rattle.rules.specs.Call.{answerOf}
+use Rattle.rules.specs.Call.{inSheet, answerOf}
 use Rattle.report_lines.specs.Line.{header, answerLine, refusalLine}
 use Rattle.report_lines.specs.Verdict.{verdict}
 use Rattle.report_lines.specs.declared.Verdict.{Verdict}
@@ -17,7 +17,7 @@ allowance = 100000
 
 -- the line of a state: its index, and what the rules answer on its record, without a class list and with a buffer of an answer's width
 unfoldable pub stateLine : List ℕ → List ℕ → ℕ → List ℕ → List ℕ
-stateLine table rules k «record» = answerLine k (answerOf table none rules «record» allowance answerWidth)
+stateLine table rules k «record» = answerLine k (answerOf (inSheet rules table none) rules «record» allowance answerWidth)
 
 -- the lines of these records, the first of which has index k
 unfoldable pub linesFrom : List ℕ → List ℕ → ℕ → List (List ℕ) → List ℕ

@@ -2,7 +2,9 @@
 use answers::Refusal;
 use answers::RuleAnswer;
 use byte_answers::Checked;
+use sheet::Editions;
 ghost use mathlib.Core.Path.{_≡_};
+ghost use mathlib.Core.Option.{none};
 ghost use mathlib.Core.Option.{none};
 ghost use Prim.Native.Nat.{_+_, _≤_, _<_};
 ghost use lib.ListN.{length};
@@ -14,7 +16,7 @@ ghost use Rattle.sheet.specs.Check.{entryCount};
 ghost use Rattle.sheet.specs.Entry.{shownEntry};
 ghost use Rattle.sheet.specs.Contents.{checkContents};
 ghost use Rattle.call.specs.Call.{answerWidth};
-ghost use Rattle.rules.specs.Call.{answerOf};
+ghost use Rattle.rules.specs.Call.{inSheet, answerOf};
 ghost use Rattle.report_lines.specs.Line.{line, noneWord, dash, answerLine, refusalLine};
 ghost use Rattle.report_lines.specs.Verdict.{readable, verdict, FilesAccepted};
 ghost use Rattle.report_lines.specs.Report.{allowance, lines, report, reportRoom, front};
@@ -45,16 +47,13 @@ enum Verdict {
 }
 
 // Checks a sheet of records or of patterns: whether its file could be read, then what it holds.
-fn check_file(records: bool, read: bool, table: &[u8], sheet: &[u8]) -> Checked
-    ensures { λ r. ⌜ r ≡ readable read (checkContents records (old table) (old sheet)) ⌝ }
+fn check_file(records: bool, read: bool, editions: Editions, table: &[u8], sheet: &[u8]) -> Checked
+    ensures { λ r. ⌜ r ≡ readable read (checkContents records editions (old table) none (old sheet)) ⌝ }
 {
     if !read {
         return Checked::Refused(Refusal::Unread, 0);
     }
-    if records {
-        return sheet::check_states(table, sheet);
-    }
-    sheet::check_rules(table, sheet)
+    sheet::check_contents(records, editions, table, false, &table[..0], sheet)
 }
 
 // Checks the files in order, each with whether it could be read.
@@ -74,11 +73,12 @@ fn check_files(
     if !term::check_table(table) {
         return Verdict::Refused(Refusal::Table, File::Table, 0);
     }
-    let patterns = check_file(false, rules_read, table, rules);
+    let patterns = check_file(false, rules_read, Editions::Any, table, rules);
     if let Checked::Refused(r, i) = patterns {
         return Verdict::Refused(r, File::Rules, i);
     }
-    let records = check_file(true, states_read, table, states);
+    let editions = Editions::Only(sheet::edition_of(rules));
+    let records = check_file(true, states_read, editions, table, states);
     match records {
         Checked::Accepted(n) => Verdict::Lines(n),
         Checked::Refused(r, i) => Verdict::Refused(r, File::States, i),
@@ -127,7 +127,7 @@ fn put_answer(out: &mut [u8], at: usize, state: usize, answer: RuleAnswer) -> us
 fn match_state(table: &[u8], rules: &[u8], states: &[u8], state: usize) -> RuleAnswer
     requires { ⌜ FilesAccepted (now table) (now rules) (now states) (entryCount (now states)) ⌝ }
     requires { ⌜ state < entryCount (now states) ⌝ }
-    ensures { λ r. ⌜ r ≡ answerOf (old table) none (old rules) (shownEntry (old states) state) allowance answerWidth ⌝ }
+    ensures { λ r. ⌜ r ≡ answerOf (inSheet (old rules) (old table) none) (old rules) (shownEntry (old states) state) allowance answerWidth ⌝ }
 {
     let mut answer = [0u16; matcher::ANSWER_WIDTH];
     rules::match_rules_checked(

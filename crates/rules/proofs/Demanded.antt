@@ -32,15 +32,16 @@ use Rattle.anti_pattern.specs.Published.{Solution, NoRuns, anti, assignment}
 use Rattle.anti_pattern.proofs.Cost.{enough-nodes}
 use Rattle.anti_pattern.proofs.Demands.{answer-exact, published-agrees, cost-bound}
 use Rattle.anti_pattern.proofs.Within.{accepted-of}
+use Rattle.sheet.specs.Check.{editionOf}
 use Rattle.sheet.specs.Entry.{partAt}
-use Rattle.call.specs.Brought.{classesOf, languageOf, broughtAccepted}
+use Rattle.reader.specs.Brought.{Brought, classesOf, languageOf, broughtAccepted}
 use Rattle.call.specs.Call.{answerWidth, written}
 use Rattle.call.proofs.Brought.{brought-alike}
 use Rattle.call.proofs.Handled.{handled, fails, passes}
 use Rattle.matcher.specs.Call.{Input as PatternInput, told as ownTold, boundParts as ownParts}
 use Rattle.matcher.specs.Demands.{Shows}
 use Rattle.matcher.proofs.Answered.{answered as own-answered}
-use Rattle.rules.specs.Demands.{ShownAs}
+use Rattle.rules.specs.Demands.{ShownAs, Called}
 use Rattle.rules.specs.Trial.{Trial, boundAt, noneOf, spentAt, tryRules}
 use Rattle.rules.specs.Call.{Input, AcceptedTrees, trees, checked, checkOf, told, answerOf, boundParts, bufferOf, answerOnBytes, bufferOnBytes}
 use Rattle.rules.specs.Demands.{EachNone, counts, Reached, EachEnough, Answered, Published, Bounded, Demanded}
@@ -136,14 +137,14 @@ module _ (l : Language) (alike : Alike (l .table) (l .classes)) (qs : List Patte
   none-there n (ends-bound r f) e = let z : _≡_ {A = ℕ} 0 1 = cc in absurd (omega arith)
   none-there n (ends-spent r f) e = let z : _≡_ {A = ℕ} 0 1 = cc in absurd (omega arith)
 
-module _ (table : List ℕ) (brought : Option (List ℕ)) (sheet bytes before : List ℕ) (allowance : ℕ) (sheet-octets : Octets sheet)
-    (record-octets : Octets bytes) where
+module _ (brought : Brought) (sheet bytes before : List ℕ) (allowance : ℕ) (sheet-octets : Octets sheet)
+    (record-octets : Octets bytes) (like : editionOf sheet ≡ brought .edition) where
   abbrev l : Language
-  l = languageOf table brought
+  l = languageOf brought
 
-  module _ (wide : answerWidth ≤ length before) (accepted : broughtAccepted table brought ≡ true) (qs : List Pattern) (t : Term) (i : Input table sheet bytes qs t) where
-    alike : Alike table (classesOf brought)
-    alike = brought-alike table brought accepted
+  module _ (wide : answerWidth ≤ length before) (accepted : broughtAccepted brought ≡ true) (qs : List Pattern) (t : Term) (i : Input brought sheet bytes qs t) where
+    alike : Alike (brought .table) (classesOf brought)
+    alike = brought-alike brought accepted
 
     of : TermOf l t
     of = accepted-of l t (i .record-accepted)
@@ -160,32 +161,32 @@ module _ (table : List ℕ) (brought : Option (List ℕ)) (sheet bytes before : 
         ap (λ (ps : List Pattern). getD ps k (name 0)) (r .rules) ∙ getD-at (r .earlier) q (r .later) (name 0) k (sym (r .index))
 
     part-of : {k : ℕ} {q : Pattern} {sum : ℕ} → Reached l qs t allowance k q sum
-        → PatternInput table (partAt sheet k) bytes q t × Octets (partAt sheet k)
+        → PatternInput (languageOf brought) (partAt sheet k) bytes q t × Octets (partAt sheet k)
     part-of {k} {q} r =
         let h : k < length qs = omega (arith, r .index, ap length (r .rules), length-append (r .earlier) (q ∷ r .later)) in (
-          subst (λ (p : Pattern). PatternInput table (partAt sheet k) bytes p t) (is-rule r) (rule-input table sheet bytes qs t i k h),
-          part-octets table sheet bytes qs t i sheet-octets k h,
+          subst (λ (p : Pattern). PatternInput (languageOf brought) (partAt sheet k) bytes p t) (is-rule r) (rule-input brought sheet bytes qs t i k h),
+          part-octets brought sheet bytes qs t i sheet-octets k h,
         )
 
     bound-shows : (k n : ℕ) {x : Trial} → Ends l t allowance qs x → told x ≡ Bound k n
-        → (q : Pattern) × (sum : ℕ) × Reached l qs t allowance k q sum × ((y : Assignment) × First l q t y × Shows table bytes q t y (written (boundParts x) before))
+        → (q : Pattern) × (sum : ℕ) × Reached l qs t allowance k q sum × ((y : Assignment) × First l q t y × Shows (brought .table) bytes q t y (written (boundParts x) before))
     bound-shows k n (ends-bound {k = j} {q = q} {sum = sum} {ps = ps} {n = m} r f) e =
         let z : j ≡ k = cc in
         let p = part-of r in
-        let s = own-answered table brought (partAt sheet j) bytes alike q t (p .0) allowance before (p .1) record-octets wide accepted .bound-shows
+        let s = own-answered brought (partAt sheet j) bytes alike q t (p .0) allowance before (p .1) record-octets wide accepted .bound-shows
         (ap (λ (o : Matching). answerNumber (ownTold o)) f) in
-        (q, sum, reached-at l qs t allowance z r, (s .0, s .1, subst (Shows table bytes q t (s .0)) (ap (λ (o : Matching). written (ownParts o) before) f) (s .2)))
+        (q, sum, reached-at l qs t allowance z r, (s .0, s .1, subst (Shows (brought .table) bytes q t (s .0)) (ap (λ (o : Matching). written (ownParts o) before) f) (s .2)))
     bound-shows k n (ends-none h) e = let z : _≡_ {A = ℕ} 0 1 = cc in absurd (omega arith)
     bound-shows k n (ends-spent r f) e = let z : _≡_ {A = ℕ} 0 1 = cc in absurd (omega arith)
 
     same-call : (more : ℕ) → tryRules l qs t more ≡ trial
-        → (answerOf table brought sheet bytes more (length before) ≡ told trial) × (bufferOf table brought sheet bytes more before ≡ written (boundParts trial) before)
+        → (answerOf brought sheet bytes more (length before) ≡ told trial) × (bufferOf brought sheet bytes more before ≡ written (boundParts trial) before)
     unfolding answerOf bufferOf
     same-call more z =
-        rw (checked-exactly table sheet bytes sheet-octets record-octets brought (length before) qs t .1 (wide, accepted, i))
+        rw (checked-exactly brought sheet bytes sheet-octets record-octets like (length before) qs t .1 (wide, accepted, i))
         (ap told z, ap (λ (x : Trial). written (boundParts x) before) z)
 
-    answered : Answered table brought sheet bytes before allowance qs t (told trial) (written (boundParts trial) before)
+    answered : Answered brought sheet bytes before allowance qs t (told trial) (written (boundParts trial) before)
     answered = record {
       bound-exactly = λ k n. (
         λ h. bound-there l alike qs t of allowance k n ends (told-bound trial (h .0) ∙ ap₂ Bound (h .1) (h .2)),
@@ -210,9 +211,9 @@ module _ (table : List ℕ) (brought : Option (List ℕ)) (sheet bytes before : 
     never-spent q n enough k sum r h j =
         let s = answered .spent-exactly k (ruleCount (told trial)) .0 (h, j, refl) in
         let over : allowance < countOf l q t = subst (λ (p : Pattern). allowance < countOf l p t) (sym (is-rule (s .2)) ∙ is-rule r) (s .3) in
-        omega (arith, over, cost-bound l q n t .count-at-most, enough-nodes table q allowance (part-of r .0 .pattern-accepted) enough)
+        omega (arith, over, cost-bound l q n t .count-at-most, enough-nodes (languageOf brought) q allowance (part-of r .0 .pattern-accepted) enough)
 
-    bounded : Bounded table brought allowance qs t (told trial)
+    bounded : Bounded brought allowance qs t (told trial)
     bounded = record { never-spent = never-spent; bound-or-none = λ h. words h trial refl }
       where
         words : EachEnough allowance qs → (x : Trial) → trial ≡ x → (ruleNumber (told x) ≡ 0) ⊎ (ruleNumber (told x) ≡ 10)
@@ -237,7 +238,7 @@ module _ (table : List ℕ) (brought : Option (List ℕ)) (sheet bytes before : 
       same-rule : {k : ℕ} {p : Pattern} {sum rest : ℕ} → Reached l qs t allowance k p rest → Reached l qs t allowance k q sum → p ≡ q
       same-rule r s = sym (is-rule r) ∙ is-rule s
 
-      published : Published table brought bytes allowance qs t (told trial) (written (boundParts trial) before) q n
+      published : Published brought bytes allowance qs t (told trial) (written (boundParts trial) before) q n
       published = record {
         none-exactly = (
           λ h. (h .0, λ σ s. h .1 (assignment σ) (agrees .solution-satisfies σ .0 s)),
@@ -251,16 +252,16 @@ module _ (table : List ℕ) (brought : Option (List ℕ)) (sheet bytes before : 
               (subst (λ (p : Pattern). countOf l p t ≤ allowance) e (b .3), (s .0, s .1)),
           λ h.
               let m = countOf l q t in
-              let ps = partsAt table q t (assignment (h .1 .0)) in
+              let ps = partsAt (brought .table) q t (assignment (h .1 .0)) in
               let e = trial-bound l alike t of allowance r ps m (agrees .bound-exactly ps m .1 (refl, h .0, (h .1 .0, h .1 .1, refl))) in
               (ap (λ (x : Trial). ruleNumber (told x)) e, ap (λ (x : Trial). ruleIndex (told x)) e),
         );
         bound-shows = λ sum h r.
             let b = answered .bound-shows h in
             let e = same-rule (b .2) r in
-            let x = subst (λ (p : Pattern). (y : Assignment) × First l p t y × Shows table bytes p t y (written (boundParts trial) before)) e (b .3) in
+            let x = subst (λ (p : Pattern). (y : Assignment) × First l p t y × Shows (brought .table) bytes p t y (written (boundParts trial) before)) e (b .3) in
             let s = solved (x .0) (x .1 .satisfies) in
-            (s .0, s .1, subst (λ (y : Assignment). Shows table bytes q t y (written (boundParts trial) before)) (s .2) (x .2));
+            (s .0, s .1, subst (λ (y : Assignment). Shows (brought .table) bytes q t y (written (boundParts trial) before)) (s .2) (x .2));
         only-one = agrees .at-most-one;
       }
 
@@ -274,16 +275,16 @@ module _ (table : List ℕ) (brought : Option (List ℕ)) (sheet bytes before : 
   abbrev binds : List Pattern × Term → Option (List Part)
   binds x = boundParts (work x)
 
-  demanded-of : length (bufferOf table brought sheet bytes allowance before) ≡ length before
-      → Demanded table brought sheet bytes before allowance (answerOf table brought sheet bytes allowance (length before))
-      (bufferOf table brought sheet bytes allowance before)
+  demanded-of : length (bufferOf brought sheet bytes allowance before) ≡ length before
+      → Demanded brought sheet bytes before allowance (answerOf brought sheet bytes allowance (length before))
+      (bufferOf brought sheet bytes allowance before)
   unfolding answerOf bufferOf
   demanded-of same = record {
     answered = λ wide b qs t i. let z = same-call wide b qs t i allowance refl in rw (z .0, z .1) (answered wide b qs t i);
     published = λ wide b qs t i q n. let z = same-call wide b qs t i allowance refl in rw (z .0, z .1) (published wide b qs t i q n);
     bounded = λ wide b qs t i. rw (same-call wide b qs t i allowance refl .0) (bounded wide b qs t i);
-    handled = handled Refused tells binds before table brought (trees table sheet bytes) (AcceptedTrees table sheet bytes) (λ x. ⊥)
-        (reads table sheet bytes sheet-octets record-octets) ruleNumber ruleCount
+    handled = handled Refused tells binds before brought (trees brought sheet bytes) (AcceptedTrees brought sheet bytes) (λ x. ⊥)
+        (reads brought sheet bytes sheet-octets record-octets like) ruleNumber ruleCount
         (record {
           numbered = λ r i. refl;
           uncounted = λ r i. refl;
@@ -293,30 +294,24 @@ module _ (table : List ℕ) (brought : Option (List ℕ)) (sheet bytes before : 
         (λ wide b x i. (λ e. told-refused (work x) (e .0) (e .1), λ h. absurd h)) same;
   }
 
-  -- the whole contract
-  abbrev Called : RuleAnswer → List ℕ → Type 0
-  Called a after =
-      (a ≡ answerOf table brought sheet bytes allowance (length before))
-      × ((after ≡ bufferOf table brought sheet bytes allowance before) × Demanded table brought sheet bytes before allowance a after)
-
   -- where a check fails
-  pub fails-called : (r : Refusal) (i : ℕ) → SheetChecked.Refused r i ≡ checkOf (checked table brought sheet bytes (length before))
-      → Called (Refused r i) before
+  pub fails-called : (r : Refusal) (i : ℕ) → SheetChecked.Refused r i ≡ checkOf (checked brought sheet bytes (length before))
+      → Called brought sheet bytes before allowance (Refused r i) before
   unfolding answerOf bufferOf
   fails-called r i e =
-      fails Refused tells binds before (checked table brought sheet bytes (length before)) (Demanded table brought sheet bytes before allowance) demanded-of r i
-      (check-failed (checked table brought sheet bytes (length before)) r i e)
+      fails Refused tells binds before (checked brought sheet bytes (length before)) (Demanded brought sheet bytes before allowance) demanded-of r i
+      (check-failed (checked brought sheet bytes (length before)) r i e)
 
   -- where all pass, and the rules are tried with the class list that is brought, or an empty one
-  pub passes-called : (n : ℕ) → Accepted n ≡ checkOf (checked table brought sheet bytes (length before))
+  pub passes-called : (n : ℕ) → Accepted n ≡ checkOf (checked brought sheet bytes (length before))
       → (classes : List ℕ) → classes ≡ classesOf brought → (a : RuleAnswer) (after : List ℕ)
-      → (a ≡ answerOnBytes table classes sheet bytes allowance (length before)) × (after ≡ bufferOnBytes table classes sheet bytes allowance before)
-      → length after ≡ length before → Called a after
+      → (a ≡ answerOnBytes (brought .table) classes sheet bytes allowance (length before)) × (after ≡ bufferOnBytes (brought .table) classes sheet bytes allowance before)
+      → length after ≡ length before → Called brought sheet bytes before allowance a after
   unfolding answerOf bufferOf
   passes-called n e classes same a after m =
-      let c = check-passed (checked table brought sheet bytes (length before)) n e in
-      let i = checked-exactly table sheet bytes sheet-octets record-octets brought (length before) (c .0) (c .1) .0 (c .2) in
-      let g = bytes-answered table (classesOf brought) sheet bytes allowance before (i .0) (brought-alike table brought (i .1)) (c .0) (c .1) (i .2) in
+      let c = check-passed (checked brought sheet bytes (length before)) n e in
+      let i = checked-exactly brought sheet bytes sheet-octets record-octets like (length before) (c .0) (c .1) .0 (c .2) in
+      let g = bytes-answered brought sheet bytes allowance before (i .0) (brought-alike brought (i .1)) (c .0) (c .1) (i .2) in
       let n = rw same at m in
-      passes Refused tells binds before (checked table brought sheet bytes (length before)) (Demanded table brought sheet bytes before allowance) demanded-of
+      passes Refused tells binds before (checked brought sheet bytes (length before)) (Demanded brought sheet bytes before allowance) demanded-of
       (c .0, c .1) (c .2) a after (n .0 ∙ g .0) (n .1 ∙ g .1)

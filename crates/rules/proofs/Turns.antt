@@ -15,7 +15,8 @@ use Rattle.term.specs.Class.{Alike}
 use Rattle.term.specs.Term.{Term}
 use Rattle.term.specs.Pattern.{Pattern, name}
 use Rattle.anti_pattern.specs.Answer.{Matching, bound, nothing, spent, answer}
-use Rattle.anti_pattern.specs.Language.{language}
+use Rattle.anti_pattern.specs.Language.{Language}
+use Rattle.reader.specs.Brought.{Brought, languageOf}
 use Rattle.sheet.specs.Check.{entryCount}
 use Rattle.sheet.specs.Entry.{partAt}
 use Rattle.call.specs.Call.{answerWidth, written}
@@ -66,23 +67,6 @@ module _ (table classes sheet bytes : List ℕ) (allowance : ℕ) where
   abbrev trial : Trial
   trial = tryParts table classes sheet bytes allowance
 
-  -- on accepted input trying the parts is trying the rules
-  trial-accepted : Alike table classes → (qs : List Pattern) (t : Term) → Input table sheet bytes qs t
-      → trial ≡ tryRules (language table classes) qs t allowance
-  trial-accepted alike qs t i =
-      let d = input-directed table sheet bytes qs t i in
-      same-trial own (λ q. answer (language table classes) q t allowance) [] (name 0) parts qs 0 0
-      (parts-length sheet (entryCount sheet) 0 ∙ d .counted)
-      (λ k h.
-      let low : k < length qs = omega (arith, parts-length sheet (entryCount sheet) 0, d .counted) in
-      ap own (parts-at sheet (entryCount sheet) 0 k (omega (arith, d .counted)) ∙ ap (partAt sheet) (omega arith))
-      ∙ sym (linked table classes (partAt sheet k) bytes alike (ruleAt qs k) t (rule-input table sheet bytes qs t i k low) allowance))
-
-  pub answer-answered : (width : ℕ) → answerWidth ≤ width → Alike table classes → (qs : List Pattern) (t : Term) → Input table sheet bytes qs t
-      → answerOnBytes table classes sheet bytes allowance width ≡ told (tryRules (language table classes) qs t allowance)
-  unfolding answerOnBytes
-  answer-answered width wide alike qs t i = rw (le-ltb width answerWidth wide) (ap told (trial-accepted alike qs t i))
-
   module _ (before : List ℕ) where
     -- answer and final buffer on any bytes
     abbrev OnBytes : RuleAnswer → List ℕ → Type 0
@@ -98,15 +82,6 @@ module _ (table classes sheet bytes : List ℕ) (allowance : ℕ) where
     unfolding answerOnBytes bufferOnBytes
     tried wide x z a after e f =
         rw (le-ltb (length before) answerWidth wide) (e ∙ ap told (sym z), f ∙ ap (λ (y : Trial). written (boundParts y) before) (sym z))
-
-    pub bytes-answered : answerWidth ≤ length before → Alike table classes → (qs : List Pattern) (t : Term) → Input table sheet bytes qs t
-        → (answerOnBytes table classes sheet bytes allowance (length before) ≡ told (tryRules (language table classes) qs t allowance))
-        × (bufferOnBytes table classes sheet bytes allowance before ≡ written (boundParts (tryRules (language table classes) qs t allowance)) before)
-    unfolding bufferOnBytes
-    bytes-answered wide alike qs t i = (
-      answer-answered (length before) wide alike qs t i,
-      rw (le-ltb (length before) answerWidth wide) (ap (λ (y : Trial). written (boundParts y) before) (trial-accepted alike qs t i)),
-    )
 
     -- After k turns over so many parts: the trial of all is that of the parts from index k on, with the sum of the counts so far; the buffer is
     -- as it was.
@@ -155,6 +130,38 @@ none-told : (k sum : ℕ) (o : Matching) (next : ℕ → Trial) (n : ℕ) (befor
 none-told k sum (bound parts m) next n before e = let z : _≡_ {A = ℕ} 0 1 = cc in absurd (omega arith)
 none-told k sum (nothing m) next n before e = let z : m ≡ n = cc in (ap (λ (x : ℕ). next (sum + x)) z, refl)
 none-told k sum (spent m) next n before e = let z : _≡_ {A = ℕ} 0 1 = cc in absurd (omega arith)
+
+-- on accepted input trying the parts is trying the rules
+
+module _ (brought : Brought) (sheet bytes : List ℕ) (allowance : ℕ) where
+  abbrev l : Language
+  l = languageOf brought
+
+  trial-accepted : Alike (l .table) (l .classes) → (qs : List Pattern) (t : Term) → Input brought sheet bytes qs t
+      → tryParts (l .table) (l .classes) sheet bytes allowance ≡ tryRules l qs t allowance
+  trial-accepted alike qs t i =
+      let d = input-directed brought sheet bytes qs t i in
+      let rule = own (l .table) (l .classes) sheet bytes allowance in
+      same-trial rule (λ q. answer l q t allowance) [] (name 0) (partsFrom sheet (entryCount sheet) 0) qs 0 0
+      (parts-length sheet (entryCount sheet) 0 ∙ d .counted)
+      (λ k h.
+      let low : k < length qs = omega (arith, parts-length sheet (entryCount sheet) 0, d .counted) in
+      ap rule (parts-at sheet (entryCount sheet) 0 k (omega (arith, d .counted)) ∙ ap (partAt sheet) (omega arith))
+      ∙ sym (linked l (partAt sheet k) bytes alike (ruleAt qs k) t (rule-input brought sheet bytes qs t i k low) allowance))
+
+  pub answer-answered : (width : ℕ) → answerWidth ≤ width → Alike (l .table) (l .classes) → (qs : List Pattern) (t : Term) → Input brought sheet bytes qs t
+      → answerOnBytes (l .table) (l .classes) sheet bytes allowance width ≡ told (tryRules l qs t allowance)
+  unfolding answerOnBytes
+  answer-answered width wide alike qs t i = rw (le-ltb width answerWidth wide) (ap told (trial-accepted alike qs t i))
+
+  pub bytes-answered : (before : List ℕ) → answerWidth ≤ length before → Alike (l .table) (l .classes) → (qs : List Pattern) (t : Term) → Input brought sheet bytes qs t
+      → (answerOnBytes (l .table) (l .classes) sheet bytes allowance (length before) ≡ told (tryRules l qs t allowance))
+      × (bufferOnBytes (l .table) (l .classes) sheet bytes allowance before ≡ written (boundParts (tryRules l qs t allowance)) before)
+  unfolding bufferOnBytes
+  bytes-answered before wide alike qs t i = (
+    answer-answered (length before) wide alike qs t i,
+    rw (le-ltb (length before) answerWidth wide) (ap (λ (y : Trial). written (boundParts y) before) (trial-accepted alike qs t i)),
+  )
 
 module _ {table classes sheet bytes : List ℕ} {allowance : ℕ} {before : List ℕ} {rules : ℕ} {buffer : List ℕ} {sum k : ℕ}
     (turn : Turn table classes sheet bytes allowance before rules buffer sum k) where

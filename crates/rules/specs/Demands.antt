@@ -17,7 +17,7 @@ use Rattle.anti_pattern.specs.Demands.{First, Unsatisfied}
 use Rattle.anti_pattern.specs.Language.{Language}
 use Rattle.anti_pattern.specs.Meaning.{Assignment, CountAsOne}
 use Rattle.anti_pattern.specs.Published.{Solution, NoRuns, anti, assignment}
-use Rattle.call.specs.Brought.{languageOf, broughtAccepted}
+use Rattle.reader.specs.Brought.{Brought, languageOf, broughtAccepted}
 use Rattle.call.specs.Call.{answerWidth}
 use Rattle.call.specs.Demands.{Handled}
 use Rattle.matcher.specs.Demands.{Shows}
@@ -56,9 +56,9 @@ abbrev pub EachEnough : ℕ → List Pattern → Type 0
 EachEnough allowance [] = Unit {0}
 EachEnough allowance (q ∷ qs) = NoRuns q × Enough q allowance × EachEnough allowance qs
 
-module _ (table : List ℕ) (brought : Option (List ℕ)) where
+module _ (brought : Brought) where
   abbrev l : Language
-  l = languageOf table brought
+  l = languageOf brought
 
   -- Demand 3 for each rule, for the trees of accepted input
   pub record Answered (sheet bytes before : List ℕ) (allowance : ℕ) (qs : List Pattern) (t : Term) (a : RuleAnswer) (after : List ℕ) : Type 0 where
@@ -75,10 +75,10 @@ module _ (table : List ℕ) (brought : Option (List ℕ)) where
     pub none-exactly : (n : ℕ) → ShownAs a 10 0 n ↔ (EachNone l t allowance qs × (n ≡ counts l t qs))
     -- of a rule that is bound the buffer shows the first assignment
     pub bound-shows : ruleNumber a ≡ 0
-        → (q : Pattern) × (sum : ℕ) × Reached l qs t allowance (ruleIndex a) q sum × ((x : Assignment) × First l q t x × Shows table bytes q t x after)
+        → (q : Pattern) × (sum : ℕ) × Reached l qs t allowance (ruleIndex a) q sum × ((x : Assignment) × First l q t x × Shows (brought .table) bytes q t x after)
     -- unless a rule is spent, every larger allowance gives the same answer and final buffer
     pub larger-allowance : (more : ℕ) → (ruleNumber a ≡ 11 → ⊥) → allowance ≤ more
-        → (answerOf table brought sheet bytes more (length before) ≡ a) × (bufferOf table brought sheet bytes more before ≡ after)
+        → (answerOf brought sheet bytes more (length before) ≡ a) × (bufferOf brought sheet bytes more before ≡ after)
 
   -- Demand 2, for each rule q without run names, by the published definition
   pub record Published (bytes : List ℕ) (allowance : ℕ) (qs : List Pattern) (t : Term) (a : RuleAnswer) (after : List ℕ) (q : Pattern) (n : NoRuns q) : Type 0 where
@@ -88,7 +88,7 @@ module _ (table : List ℕ) (brought : Option (List ℕ)) where
     pub bound-exactly : (k sum : ℕ) → Reached l qs t allowance k q sum
         → ((ruleNumber a ≡ 0) × (ruleIndex a ≡ k)) ↔ ((countOf l q t ≤ allowance) × ((σ : Substitution) × Solution l (anti q n) t σ))
     pub bound-shows : (sum : ℕ) → ruleNumber a ≡ 0 → Reached l qs t allowance (ruleIndex a) q sum
-        → (σ : Substitution) × Solution l (anti q n) t σ × Shows table bytes q t (assignment σ) after
+        → (σ : Substitution) × Solution l (anti q n) t σ × Shows (brought .table) bytes q t (assignment σ) after
     -- it is the only substitution there is
     pub only-one : (σ ρ : Substitution) → Solution l (anti q n) t σ → Solution l (anti q n) t ρ → CountAsOne l (assignment σ) (assignment ρ)
 
@@ -101,17 +101,23 @@ module _ (table : List ℕ) (brought : Option (List ℕ)) where
     pub bound-or-none : EachEnough allowance qs → (ruleNumber a ≡ 0) ⊎ (ruleNumber a ≡ 10)
 
 -- All three, and what a rule can cost at most; accepted input is always answered
-pub record Demanded (table : List ℕ) (brought : Option (List ℕ)) (sheet bytes before : List ℕ) (allowance : ℕ) (a : RuleAnswer)
+pub record Demanded (brought : Brought) (sheet bytes before : List ℕ) (allowance : ℕ) (a : RuleAnswer)
     (after : List ℕ) : Type 0 where
-  pub handled : Handled table brought (AcceptedTrees table sheet bytes) (λ x. ⊥) before (ruleNumber a) (ruleCount a) after
-  pub published : answerWidth ≤ length before → broughtAccepted table brought ≡ true → (qs : List Pattern) (t : Term) → Input table sheet bytes qs t
-      → (q : Pattern) (n : NoRuns q) → Published table brought bytes allowance qs t a after q n
-  pub answered : answerWidth ≤ length before → broughtAccepted table brought ≡ true → (qs : List Pattern) (t : Term) → Input table sheet bytes qs t
-      → Answered table brought sheet bytes before allowance qs t a after
-  pub bounded : answerWidth ≤ length before → broughtAccepted table brought ≡ true → (qs : List Pattern) (t : Term) → Input table sheet bytes qs t
-      → Bounded table brought allowance qs t a
+  pub handled : Handled brought (AcceptedTrees brought sheet bytes) (λ x. ⊥) before (ruleNumber a) (ruleCount a) after
+  pub published : answerWidth ≤ length before → broughtAccepted brought ≡ true → (qs : List Pattern) (t : Term) → Input brought sheet bytes qs t
+      → (q : Pattern) (n : NoRuns q) → Published brought bytes allowance qs t a after q n
+  pub answered : answerWidth ≤ length before → broughtAccepted brought ≡ true → (qs : List Pattern) (t : Term) → Input brought sheet bytes qs t
+      → Answered brought sheet bytes before allowance qs t a after
+  pub bounded : answerWidth ≤ length before → broughtAccepted brought ≡ true → (qs : List Pattern) (t : Term) → Input brought sheet bytes qs t
+      → Bounded brought allowance qs t a
+
+-- Answer, final buffer and demands in one, which only a private function's contract cites
+abbrev pub Called : Brought → List ℕ → List ℕ → List ℕ → ℕ → RuleAnswer → List ℕ → Type 0
+Called brought sheet bytes before allowance a after =
+    (a ≡ answerOf brought sheet bytes allowance (length before))
+    × ((after ≡ bufferOf brought sheet bytes allowance before) × Demanded brought sheet bytes before allowance a after)
 
 -- What is demanded where only the final buffer is at hand: of the answer that the call has
-abbrev pub DemandedOf : List ℕ → Option (List ℕ) → List ℕ → List ℕ → List ℕ → ℕ → List ℕ → Type 0
-DemandedOf table brought sheet bytes before allowance after =
-    Demanded table brought sheet bytes before allowance (answerOf table brought sheet bytes allowance (length before)) after
+abbrev pub DemandedOf : Brought → List ℕ → List ℕ → List ℕ → ℕ → List ℕ → Type 0
+DemandedOf brought sheet bytes before allowance after =
+    Demanded brought sheet bytes before allowance (answerOf brought sheet bytes allowance (length before)) after

@@ -4,39 +4,36 @@ use answers::Refusal;
 use answers::RuleAnswer;
 use byte_answers::Checked;
 use byte_answers::Read;
+use sheet::Editions;
 ghost use mathlib.Core.Path.{_≡_};
 ghost use mathlib.Core.Option.{none, some};
 ghost use Prim.Native.Nat.{_+_};
 ghost use lib.ListN.{length};
 ghost use Rattle.term.specs.Moment.{old, new};
-ghost use Rattle.rules.specs.Call.{checked, classFault, checkOf, answerOf, bufferOf, answerOnBytes, bufferOnBytes};
-ghost use Rattle.rules.specs.Demands.{Demanded};
+ghost use Rattle.reader.specs.Brought.{listIf, orEmpty};
+ghost use Rattle.rules.specs.Call.{inSheet, checked, checkOf, answerOf, bufferOf, answerOnBytes, bufferOnBytes};
+ghost use Rattle.rules.specs.Demands.{Demanded, Called};
 
-// Whether a class list is at fault, where a buffer of so many numbers and the table are not.
-fn refuses_classes(table: &[u8], classes: &[u8], width: usize) -> bool
-    ensures { λ r. ⌜ r ≡ classFault (old table) (old classes) width ⌝ }
-{
-    if width < matcher::ANSWER_WIDTH {
-        return false;
-    }
-    if !term::check_table(table) {
-        return false;
-    }
-    !term::check_classes(table, classes)
-}
-
-// The checks in order, without a class list and for a buffer of so many numbers: the number of rules, or the refusal.
-fn check_input(table: &[u8], sheet: &[u8], record: &[u8], width: usize) -> Checked
-    ensures { λ r. ⌜ r ≡ checkOf (checked (old table) none (old sheet) (old «record») width) ⌝ }
+// The checks in order, for a buffer of so many numbers: the number of rules, or the refusal. `classes` counts if the call brings a class list.
+fn check_input(
+    table: &[u8],
+    brings: bool,
+    classes: &[u8],
+    sheet: &[u8],
+    record: &[u8],
+    width: usize,
+) -> Checked
+    ensures { λ r. ⌜ r ≡ checkOf (checked (inSheet (old sheet) (old table) (listIf brings (old classes))) (old sheet) (old «record») width) ⌝ }
 {
     if width < matcher::ANSWER_WIDTH {
         return Checked::Refused(Refusal::Narrow, 0);
     }
-    let rules = sheet::check_rules(table, sheet);
+    let rules = sheet::check_contents(false, Editions::Any, table, brings, classes, sheet);
     let Checked::Accepted(_) = rules else {
         return rules;
     };
-    let read = reader::read_record(table, record);
+    let list = reader::brought_list(brings, classes);
+    let read = reader::read_record_in(sheet::edition_of(sheet), table, list, record);
     if let Read::Refused(r) = read {
         return Checked::Refused(r, 0);
     }
@@ -90,49 +87,20 @@ pub fn match_rules_checked(
     RuleAnswer::None(sum)
 }
 
-// A rule sheet against a record, with every check.
-pub fn match_rules(
+// A rule sheet against a record with every check, by a class list if the call brings one; else `classes` is empty.
+fn match_rules_brought(
     table: &[u8],
-    sheet: &[u8],
-    record: &[u8],
-    allowance: u32,
-    answer: &mut [u16],
-) -> RuleAnswer
-    ensures is { λ r. ⌜ r ≡ answerOf (old table) none (old sheet) (old «record») allowance (length (old answer)) ⌝ }
-    ensures buffer { λ r. ⌜ new answer ≡ bufferOf (old table) none (old sheet) (old «record») allowance (old answer) ⌝ }
-    ensures demand { λ r. ⌜ Demanded (old table) none (old sheet) (old «record») (old answer) allowance r (new answer) ⌝ }
-{
-    let checks = check_input(table, sheet, record, answer.len());
-    match checks {
-        Checked::Refused(r, i) => RuleAnswer::Refused(r, i),
-        Checked::Accepted(_) => match_rules_checked(
-            table,
-            &table[..0],
-            sheet,
-            record,
-            allowance,
-            answer,
-        ),
-    }
-}
-
-// The same up to class, by a class list.
-pub fn match_rules_with_classes(
-    table: &[u8],
+    brings: bool,
     classes: &[u8],
     sheet: &[u8],
     record: &[u8],
     allowance: u32,
     answer: &mut [u16],
 ) -> RuleAnswer
-    ensures is { λ r. ⌜ r ≡ answerOf (old table) (some (old classes)) (old sheet) (old «record») allowance (length (old answer)) ⌝ }
-    ensures buffer { λ r. ⌜ new answer ≡ bufferOf (old table) (some (old classes)) (old sheet) (old «record») allowance (old answer) ⌝ }
-    ensures demand { λ r. ⌜ Demanded (old table) (some (old classes)) (old sheet) (old «record») (old answer) allowance r (new answer) ⌝ }
+    requires { ⌜ now classes ≡ orEmpty (listIf brings (now classes)) ⌝ }
+    ensures { λ r. ⌜ Called (inSheet (old sheet) (old table) (listIf brings (old classes))) (old sheet) (old «record») (old answer) allowance r (new answer) ⌝ }
 {
-    if refuses_classes(table, classes, answer.len()) {
-        return RuleAnswer::Refused(Refusal::Class, 0);
-    }
-    let checks = check_input(table, sheet, record, answer.len());
+    let checks = check_input(table, brings, classes, sheet, record, answer.len());
     match checks {
         Checked::Refused(r, i) => RuleAnswer::Refused(r, i),
         Checked::Accepted(_) => match_rules_checked(
@@ -144,4 +112,35 @@ pub fn match_rules_with_classes(
             answer,
         ),
     }
+}
+
+// A rule sheet against a record.
+pub fn match_rules(
+    table: &[u8],
+    sheet: &[u8],
+    record: &[u8],
+    allowance: u32,
+    answer: &mut [u16],
+) -> RuleAnswer
+    ensures is { λ r. ⌜ r ≡ answerOf (inSheet (old sheet) (old table) none) (old sheet) (old «record») allowance (length (old answer)) ⌝ }
+    ensures buffer { λ r. ⌜ new answer ≡ bufferOf (inSheet (old sheet) (old table) none) (old sheet) (old «record») allowance (old answer) ⌝ }
+    ensures demand { λ r. ⌜ Demanded (inSheet (old sheet) (old table) none) (old sheet) (old «record») (old answer) allowance r (new answer) ⌝ }
+{
+    match_rules_brought(table, false, &table[..0], sheet, record, allowance, answer)
+}
+
+// The same up to class, by a class list.
+pub fn match_rules_in(
+    table: &[u8],
+    classes: &[u8],
+    sheet: &[u8],
+    record: &[u8],
+    allowance: u32,
+    answer: &mut [u16],
+) -> RuleAnswer
+    ensures is { λ r. ⌜ r ≡ answerOf (inSheet (old sheet) (old table) (some (old classes))) (old sheet) (old «record») allowance (length (old answer)) ⌝ }
+    ensures buffer { λ r. ⌜ new answer ≡ bufferOf (inSheet (old sheet) (old table) (some (old classes))) (old sheet) (old «record») allowance (old answer) ⌝ }
+    ensures demand { λ r. ⌜ Demanded (inSheet (old sheet) (old table) (some (old classes))) (old sheet) (old «record») (old answer) allowance r (new answer) ⌝ }
+{
+    match_rules_brought(table, true, classes, sheet, record, allowance, answer)
 }

@@ -1,5 +1,5 @@
 -- Reading a sheet and writing it are inverse: pair by pair, and entry by entry.
-use Prim.Native.Nat.{ℕ, zero, suc, _+_, _*_, _-_, _≤_}
+use Prim.Native.Nat.{ℕ, zero, suc, _+_, _*_, _-_, _≤_, _<_}
 use native.Mathlib.Omega.{arith}
 use mathlib.Core.Path.{_≡_, refl, sym, ap, ap₂, _∙_}
 use mathlib.Core.List.{List, [], _∷_, _++_, map, flatten}
@@ -9,12 +9,13 @@ use lib.Seq.{drop-drop, take-at, drop-at, length-take-le}
 use borrow.Author.Tests.{eq-eqb, lt-ltb, eqb-true}
 use Rattle.byte_answers.specs.declared.Checked.the-variants.{Accepted}
 use Rattle.term.specs.Limits.{Octets}
+use Rattle.term.specs.declared.Edition.{Edition}
 use Rattle.sheet.specs.Word.{wordBytes, word, wordAt}
-use Rattle.sheet.specs.Sheet.{pairBytes, pastPairs, directory, sheetBytes, NoneEmpty}
-use Rattle.sheet.specs.Check.{longestSheet, entryCount, offsetAt, lengthAt, entriesFollow, checkSheet}
+use Rattle.sheet.specs.Sheet.{pairBytes, pastPairs, editionMark, marked, directory, sheetBytes, NoneEmpty}
+use Rattle.sheet.specs.Check.{longestSheet, entryCount, editionOf, offsetAt, lengthAt, entriesFollow, checkSheet}
 use Rattle.sheet.specs.Entry.{entryAt, entriesFrom, entries}
 use Rattle.sheet.specs.Demands.{Reading}
-use Rattle.sheet.proofs.Words.{word-back, word-past, word-forth}
+use Rattle.sheet.proofs.Words.{word-back, word-past, word-forth, word-told, told-word}
 use Rattle.sheet.proofs.Entries.{entries-length}
 use Rattle.sheet.proofs.Checks.{Directed, directed-accepted, follow-true, follow-within}
 
@@ -64,17 +65,19 @@ module _ (s : List ℕ) where
       rw (n, ← g) (followed-pairs o k (i + 1) (at + lengthAt s i) (omega arith) (a .2)) in
       first ∙ ap (λ (l : List ℕ). word at ++ l) (second ∙ ap (λ (l : List ℕ). word (length (entryAt s i)) ++ l) rest)
 
-  accepted-bytes : (n : ℕ) → Octets s → Directed s n → sheetBytes (entries s) ≡ s
-  unfolding sheetBytes entries entryCount word
+  accepted-bytes : (n : ℕ) → Octets s → Directed s n → sheetBytes (editionOf s) (entries s) ≡ s
+  unfolding sheetBytes entries word
   accepted-bytes n o d =
       let es = entriesFrom s n 0 in
-      let c : wordAt s 0 ≡ n = d .counted in
+      let c : entryCount s ≡ n = d .counted in
+      let m : ℕ = marked (editionOf s) n in
+      let w : wordAt s 0 ≡ m = rw c at (word-told s o) in
       let z : 0 + n ≡ n = omega arith in
-      let first : s ≡ word n ++ drop 2 s = rw c at (word-forth s 0 o (omega (arith, d .within))) in
+      let first : s ≡ word m ++ drop 2 s = rw w at (word-forth s 0 o (omega (arith, d .within))) in
       let pairs : drop 2 s ≡ directory (pastPairs n) (map length es) ++ drop (pastPairs n) s =
       rw z at (followed-pairs o n 0 (pastPairs n) (omega (arith, d .within)) (d .follow)) in
       rw (c, entries-length s n 0)
-      (sym (first ∙ ap (λ (l : List ℕ). word n ++ l) (pairs ∙ ap (λ (l : List ℕ). directory (pastPairs n) (map length es) ++ l) (followed-entries n 0 (pastPairs n) (d .follow)))))
+      (sym (first ∙ ap (λ (l : List ℕ). word m ++ l) (pairs ∙ ap (λ (l : List ℕ). directory (pastPairs n) (map length es) ++ l) (followed-entries n 0 (pastPairs n) (d .follow)))))
 
 -- and from the entries to the bytes
 
@@ -116,42 +119,49 @@ module _ (s : List ℕ) where
       rw (eq-eqb (offsetAt s i) at (a .0), lt-ltb 0 (lengthAt s i) (omega (arith, a .1, m .0)), a .1)
       (written-followed es (i + 1) (at + length e) rest (m .1) (omega (arith, more)) (a .2) (past-entry at e (flatten es) q))
 
-module _ (es : List (List ℕ)) where
-  pub written-count : entryCount (sheetBytes es) ≡ length es
-  unfolding sheetBytes entryCount word
-  written-count = word-back (sheetBytes es) 0 (length es) (directory (pastPairs (length es)) (map length es) ++ flatten es) refl
+module _ (edition : Edition) (es : List (List ℕ)) where
+  written-word : wordAt (sheetBytes edition es) 0 ≡ marked edition (length es)
+  unfolding sheetBytes word
+  written-word = word-back (sheetBytes edition es) 0 (marked edition (length es)) (directory (pastPairs (length es)) (map length es) ++ flatten es) refl
 
-  past-directory : drop (pastPairs (length es)) (sheetBytes es) ≡ flatten es
+  module _ (few : length es < editionMark) where
+    pub written-count : entryCount (sheetBytes edition es) ≡ length es
+    written-count = told-word (sheetBytes edition es) edition (length es) few written-word .0
+
+    pub written-edition : editionOf (sheetBytes edition es) ≡ edition
+    written-edition = told-word (sheetBytes edition es) edition (length es) few written-word .1
+
+  past-directory : drop (pastPairs (length es)) (sheetBytes edition es) ≡ flatten es
   unfolding sheetBytes word
   past-directory =
       let at = pastPairs (length es) in
-      drop-at (word (length es) ++ directory at (map length es)) (flatten es) at (omega (arith, directory-length at (map length es), length-map es length))
+      drop-at (word (marked edition (length es)) ++ directory at (map length es)) (flatten es) at (omega (arith, directory-length at (map length es), length-map es length))
 
-  pub written-read : entries (sheetBytes es) ≡ es
+  pub written-read : length es < editionMark → entries (sheetBytes edition es) ≡ es
   unfolding entries sheetBytes word
-  written-read = rw written-count (written-entries (sheetBytes es) es 0 (pastPairs (length es)) (flatten es) refl past-directory)
+  written-read few = rw (written-count few) (written-entries (sheetBytes edition es) es 0 (pastPairs (length es)) (flatten es) refl past-directory)
 
-  pub written-length : length (sheetBytes es) ≡ pastPairs (length es) + length (flatten es)
+  pub written-length : length (sheetBytes edition es) ≡ pastPairs (length es) + length (flatten es)
   unfolding sheetBytes word
   written-length =
       let at = pastPairs (length es) in
       omega (arith, length-append (directory at (map length es)) (flatten es), directory-length at (map length es), length-map es length)
 
-  pub written-directed : NoneEmpty es → length (sheetBytes es) ≤ longestSheet → Directed (sheetBytes es) (length es)
+  pub written-directed : NoneEmpty es → length (sheetBytes edition es) ≤ longestSheet → Directed (sheetBytes edition es) (length es)
   unfolding sheetBytes word
   written-directed m l =
       let at = pastPairs (length es) in
-      let w : at ≤ length (sheetBytes es) = omega (arith, written-length) in
+      let w : at ≤ length (sheetBytes edition es) = omega (arith, written-length) in
       record {
         short = l;
-        counted = written-count;
+        counted = written-count (omega (arith, w, l));
         within = w;
-        follow = written-followed (sheetBytes es) es 0 at (flatten es) m w refl past-directory;
+        follow = written-followed (sheetBytes edition es) es 0 at (flatten es) m w refl past-directory;
       }
 
 -- as readings
 
-pub accepted-reading : (s : List ℕ) (n : ℕ) → Octets s → Directed s n → Reading s n (entries s)
+pub accepted-reading : (s : List ℕ) (n : ℕ) → Octets s → Directed s n → Reading (editionOf s) s n (entries s)
 unfolding entries
 accepted-reading s n o d =
     record {
@@ -161,6 +171,10 @@ accepted-reading s n o d =
       bytes = accepted-bytes s n o d;
     }
 
-pub reading-accepted : (s : List ℕ) (n : ℕ) (es : List (List ℕ)) → Reading s n es → checkSheet s ≡ Accepted n
-reading-accepted s n es r =
-    rw (← r .bytes, ← r .counted) (directed-accepted (sheetBytes es) (length es) (written-directed es (r .none-empty) (rw (r .bytes) (r .short))))
+module _ (edition : Edition) (s : List ℕ) (n : ℕ) (es : List (List ℕ)) (r : Reading edition s n es) where
+  pub reading-few : length es < editionMark
+  reading-few = omega (arith, written-length edition es, ap length (r .bytes), r .short)
+
+  pub reading-accepted : checkSheet s ≡ Accepted n
+  reading-accepted =
+      rw (← r .bytes, ← r .counted) (directed-accepted (sheetBytes edition es) (length es) (written-directed edition es (r .none-empty) (rw (r .bytes) (r .short))))

@@ -1,13 +1,19 @@
 -- 16-bit numbers: reading and writing them are inverse.
 use Prim.Native.Nat.{ℕ, zero, suc, _+_, _*_, _/_, _%_, _≤_, _<_}
 use native.Mathlib.Omega.{arith}
-use mathlib.Core.Path.{_≡_, sym, ap, ap₂, _∙_}
+use mathlib.Core.Path.{_≡_, refl, sym, ap, ap₂, _∙_}
 use mathlib.Core.List.{List, [], _∷_, _++_}
 use lib.ListN.{length, getD, drop, List·getD-eq-default}
+use lib.Dec.{ltb}
+use borrow.Author.Tests.{lt-ltb, le-ltb, ltb-true, ltb-false}
+use mathlib.Core.Bool.{Bool, true, false, cond}
 use lib.Seq.{drop-cons, drop-drop, getD-drop}
 use Rattle.term.specs.Limits.{Octets}
+use Rattle.term.specs.declared.Edition.{Edition}
+use Rattle.term.specs.declared.Edition.the-variants.{One, Two}
+use Rattle.sheet.specs.Sheet.{editionMark, marked}
 use Rattle.sheet.specs.Word.{wordBytes, word, wordAt}
-use Rattle.sheet.specs.Check.{entryCount}
+use Rattle.sheet.specs.Check.{entryCount, editionOf}
 
 -- what is written is read
 
@@ -62,8 +68,43 @@ count-none s h =
     let b : getD s 1 0 ≡ 0 = List·getD-eq-default s 0 (omega arith) in
     omega arith
 
-pub count-one : (s : List ℕ) → length s ≡ 1 → entryCount s ≡ getD s 0 0
+pub count-one : (s : List ℕ) → Octets s → length s ≡ 1 → entryCount s ≡ getD s 0 0
 unfolding entryCount wordAt
-count-one s h =
+count-one s o h =
     let b : getD s 1 0 ≡ 0 = List·getD-eq-default s 0 (omega arith) in
-    omega arith
+    omega (arith, o 0)
+
+-- the edition
+
+pub edition-short : (s : List ℕ) → Octets s → length s < 2 → editionOf s ≡ One
+unfolding editionOf wordAt
+edition-short s o h =
+    let b : getD s 1 0 ≡ 0 = List·getD-eq-default s 0 (omega arith) in
+    rw (lt-ltb (getD s 0 0 + 256 * getD s 1 0) editionMark (omega (arith, o 0, b)))
+
+pub edition-below : (s : List ℕ) → wordAt s 0 < editionMark → editionOf s ≡ One
+unfolding editionOf
+edition-below s h = rw (lt-ltb (wordAt s 0) editionMark h)
+
+pub edition-above : (s : List ℕ) → editionMark ≤ wordAt s 0 → editionOf s ≡ Two
+unfolding editionOf
+edition-above s h = rw (le-ltb (wordAt s 0) editionMark h)
+
+-- count and edition are what the first word tells
+
+word-limit : (s : List ℕ) (at : ℕ) → Octets s → wordAt s at ≤ largestWord
+unfolding wordAt
+word-limit s at o = omega (arith, o at, o (at + 1))
+
+pub word-told : (s : List ℕ) → Octets s → wordAt s 0 ≡ marked (editionOf s) (entryCount s)
+unfolding editionOf entryCount
+word-told s o = go (ltb (wordAt s 0) editionMark) refl
+  where
+    go : (b : Bool) → ltb (wordAt s 0) editionMark ≡ b → wordAt s 0 ≡ marked (cond b One Two) (wordAt s 0 % editionMark)
+    go true e = omega (arith, ltb-true (wordAt s 0) editionMark e)
+    go false e = omega (arith, ltb-false (wordAt s 0) editionMark e, word-limit s 0 o)
+
+pub told-word : (s : List ℕ) (edition : Edition) (n : ℕ) → n < editionMark → wordAt s 0 ≡ marked edition n → (entryCount s ≡ n) × (editionOf s ≡ edition)
+unfolding entryCount
+told-word s One n h e = (omega (arith, e), edition-below s (omega (arith, e)))
+told-word s Two n h e = (omega (arith, e), edition-above s (omega (arith, e)))

@@ -1,21 +1,28 @@
 -- The check of a sheet: 6 over 32,768 bytes, then 9 where its directory breaks a rule.
-use Prim.Native.Nat.{ℕ, zero, suc, _+_}
+use Prim.Native.Nat.{ℕ, zero, suc, _+_, _%_}
 use mathlib.Core.List.{List}
-use mathlib.Core.Bool.{Bool, cond, _&&_}
+use mathlib.Core.Bool.{Bool, true, false, cond, _&&_}
 use lib.ListN.{length}
 use lib.Dec.{leb, ltb, eqb}
 use Rattle.answers.specs.declared.Refusal.the-variants.{Long, Directory}
 use Rattle.byte_answers.specs.declared.Checked.{Checked}
 use Rattle.byte_answers.specs.declared.Checked.the-variants.{Accepted}
+use Rattle.term.specs.declared.Edition.{Edition}
+use Rattle.term.specs.declared.Edition.the-variants.{One, Two}
 use Rattle.sheet.specs.Word.{wordBytes, wordAt}
-use Rattle.sheet.specs.Sheet.{pastPairs}
+use Rattle.sheet.specs.declared.Editions.{Editions}
+use Rattle.sheet.specs.declared.Editions.the-variants.{Any, Only}
+use Rattle.sheet.specs.Sheet.{pastPairs, editionMark}
 
 abbrev pub longestSheet : ℕ
 longestSheet = 32768
 
--- the number of entries that a sheet tells
+-- the number of entries that a sheet tells, and its edition
 unfoldable pub entryCount : List ℕ → ℕ
-entryCount s = wordAt s 0
+entryCount s = wordAt s 0 % editionMark
+
+unfoldable pub editionOf : List ℕ → Edition
+editionOf s = cond (ltb (wordAt s 0) editionMark) One Two
 
 -- the directory's pair of an index
 abbrev pub offsetAt : List ℕ → ℕ → ℕ
@@ -44,3 +51,17 @@ checkSheet s =
 abbrev pub andThen : Checked → (ℕ → Checked) → Checked
 andThen (Accepted n) next = next n
 andThen (Checked.Refused r i) next = Checked.Refused r i
+
+-- "sheets of unlike editions in one call are 9 of the later one": any edition, or only that of the sheets before
+abbrev pub sameEdition : Edition → Edition → Bool
+sameEdition One One = true
+sameEdition One Two = false
+sameEdition Two One = false
+sameEdition Two Two = true
+
+abbrev pub allowed : Editions → Edition → Bool
+allowed Any edition = true
+allowed (Only wanted) edition = sameEdition wanted edition
+
+unfoldable pub checkAmong : Editions → List ℕ → Checked
+checkAmong editions s = andThen (checkSheet s) (λ n. cond (allowed editions (editionOf s)) (Accepted n) (Checked.Refused Directory 0))

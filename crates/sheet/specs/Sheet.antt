@@ -2,6 +2,8 @@
 use Prim.Native.Nat.{ℕ, _+_, _*_, _<_}
 use mathlib.Core.List.{List, [], _∷_, _++_, map, flatten}
 use lib.ListN.{length}
+use Rattle.term.specs.declared.Edition.{Edition}
+use Rattle.term.specs.declared.Edition.the-variants.{One, Two}
 use Rattle.sheet.specs.Word.{wordBytes, word}
 
 -- how many bytes a pair has: an offset and a length
@@ -17,8 +19,16 @@ unfoldable pub directory : ℕ → List ℕ → List ℕ
 directory at [] = []
 directory at (n ∷ ns) = word at ++ word n ++ directory (at + n) ns
 
-unfoldable pub sheetBytes : List (List ℕ) → List ℕ
-sheetBytes es = word (length es) ++ directory (pastPairs (length es)) (map length es) ++ flatten es
+-- "Edition 2 sheets add 32,768 to their count"
+abbrev pub editionMark : ℕ
+editionMark = 32768
+
+abbrev pub marked : Edition → ℕ → ℕ
+marked One n = n
+marked Two n = editionMark + n
+
+unfoldable pub sheetBytes : Edition → List (List ℕ) → List ℕ
+sheetBytes edition es = word (marked edition (length es)) ++ directory (pastPairs (length es)) (map length es) ++ flatten es
 
 -- no entry is empty
 unfoldable pub NoneEmpty : List (List ℕ) → Type 0

@@ -10,6 +10,9 @@ use lib.Seq.{getD-set-same}
 use lib.Dec.{ltb}
 use borrow.Author.Tests.{ltb-false}
 use Rattle.term.specs.Limits.{nesting}
+use Rattle.term.specs.Splicing.{inList}
+use Rattle.term.specs.declared.Stand.{Stand}
+use Rattle.term.specs.declared.Stand.the-variants.{Elsewhere}
 use Rattle.reader.specs.Frame.{frame}
 use Rattle.reader.specs.declared.Frame.{Frame}
 use Rattle.reader.proofs.Frames.{restOf, none, stack, stack-kept, stack-pushed, stack-popped}
@@ -31,7 +34,7 @@ levels-length (suc d) fs xs = ap suc (levels-length d fs xs)
 -- each has a nesting of its own, and starts behind a list's length and after the one around it
 abbrev pub Nested : List (Frame × ℕ) → ℕ → Type 0
 Nested [] at = Unit {0}
-Nested (l ∷ ls) at = (length ls + l .0 .left ≤ nesting) × (lengthBytes (l .0 .list) ≤ l .1) × (l .1 ≤ at) × Nested ls (l .1)
+Nested (l ∷ ls) at = (length ls + l .0 .left ≤ nesting) × (lengthBytes (inList (l .0 .stand)) ≤ l .1) × (l .1 ≤ at) × Nested ls (l .1)
 
 -- up to `at`, with these levels to go, of which P holds
 pub record Standing (P : List (Frame × ℕ) → Type 0) (around : List Frame) (starts : List ℕ) (depth : ℕ) (top : Frame) (at : ℕ) : Type 0 where
@@ -41,7 +44,7 @@ pub record Standing (P : List (Frame × ℕ) → Type 0) (around : List Frame) (
   pub to-go : P ((top, getD starts depth 0) ∷ levels depth around starts)
 
 pub standing-starts : {P : List (Frame × ℕ) → Type 0} (around : List Frame) (starts : List ℕ) (top : Frame) → length around ≡ nesting → length starts ≡ nesting + 1
-    → getD starts 0 0 ≡ 0 → top ≡ frame 1 nesting false → P ((frame 1 nesting false, 0) ∷ []) → Standing P around starts 0 top 0
+    → getD starts 0 0 ≡ 0 → top ≡ frame 1 nesting Elsewhere → P ((frame 1 nesting Elsewhere, 0) ∷ []) → Standing P around starts 0 top 0
 standing-starts around starts top a b z e p = record {
   frames = a;
   places = b;
@@ -53,7 +56,7 @@ module _ {P : List (Frame × ℕ) → Type 0} {around : List Frame} {starts : Li
   pub depth-within : depth + top .left ≤ nesting
   depth-within = omega (arith, i .nested .0, levels-length depth around starts)
 
-  pub stands : {size : ℕ} → at ≤ size → Stands (top .list) (getD starts depth 0) at size
+  pub stands : {size : ℕ} → at ≤ size → Stands (inList (top .stand)) (getD starts depth 0) at size
   stands h = record { behind = i .nested .1; before = i .nested .2; within = h }
 
   module _ {Q : List (Frame × ℕ) → Type 0} where
@@ -67,8 +70,8 @@ module _ {P : List (Frame × ℕ) → Type 0} {around : List Frame} {starts : Li
     }
 
     -- any other: its children come next
-    pub next-level : {k low : ℕ} {list : Bool} (to : ℕ) (g : Frame) → g ≡ frame k low list → low < top .left → at ≤ to → lengthBytes list ≤ to
-        → Q ((frame k low list, to) ∷ (restOf top, getD starts depth 0) ∷ levels depth around starts)
+    pub next-level : {k low : ℕ} {inside : Stand} (to : ℕ) (g : Frame) → g ≡ frame k low inside → low < top .left → at ≤ to → lengthBytes (inList inside) ≤ to
+        → Q ((frame k low inside, to) ∷ (restOf top, getD starts depth 0) ∷ levels depth around starts)
         → Standing Q (set around depth (restOf top)) (set starts (depth + 1) to) (depth + 1) g to
     next-level to g e l h b q =
         let a = stack-pushed none depth around (restOf top) (omega (arith, depth-within, i .frames)) in

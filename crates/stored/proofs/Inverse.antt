@@ -16,9 +16,15 @@ use Rattle.term.specs.Code.{codeIn, byteOf}
 use Rattle.term.specs.Table.{isList}
 use Rattle.term.specs.Tree.{Tree, Trees, branch, empty, more, number, listCode, own, encode}
 use Rattle.term.specs.Term.{Term, Terms, node, nil, _::_, termTree, termTrees, termOf}
+use Rattle.term.specs.Language.{Language}
 use Rattle.term.specs.Limits.{nesting, longestRecord, Written, Counted, Shape, Fits, FitAll, Octets, TermAccepted}
-use Rattle.reader.specs.Node.{openNode, codeNode, nodeAt}
+use Rattle.term.specs.Splicing.{standIn, inList, unspliced, SplicedAt, SplicedAll, Spliced}
+use Rattle.term.specs.declared.Stand.{Stand}
+use Rattle.term.specs.declared.Stand.the-variants.{InList, Elsewhere}
+use Rattle.term.proofs.Splicing.{stand-list}
+use Rattle.reader.specs.Node.{nodeAt}
 use Rattle.reader.specs.Reading.{Parsed, refused, read, join, chain, readAll, grow, enter, unlessSpare, mapParsed}
+use Rattle.term.specs.declared.Code.{Code}
 use Rattle.term.specs.declared.Code.the-variants.{Symbol}
 use Rattle.reader.specs.declared.Node.{Node}
 use Rattle.reader.specs.declared.Node.the-variants.{Open}
@@ -37,55 +43,58 @@ use Rattle.stored.proofs.Forms.{store-append, branch-length, more-lengt
 
 -- One node
 
--- where a record's node stands makes no difference
-any-place : (table : List ℕ) (inList : Bool) (left : ℕ) (s : List ℕ) → nodeAt table true inList left s ≡ nodeAt table true false left s
-unfolding nodeAt codeNode openNode
-any-place table inList left s = refl
-
-module _ (table : List ℕ) (left : ℕ) (s : List ℕ) where
-  pub record NodeReads (size k : ℕ) (list : Bool) (low : ℕ) : Type 0 where
+module _ (lang : Language) (stand : Stand) (left : ℕ) (s : List ℕ) where
+  pub record NodeReads (size k : ℕ) (inside : Stand) (low : ℕ) : Type 0 where
     pub own-bytes : ℕ
-    pub node : (inList : Bool) → NodeSound table true inList left s (codeIn true (getD s 0 0)) own-bytes k list low
-    pub is-size : size ≡ own-bytes + lengthBytes list
+    pub node : NodeSound lang true stand left s (codeIn true (getD s 0 0)) own-bytes k inside low
+    pub is-size : size ≡ own-bytes + lengthBytes (inList inside)
     pub within : size ≤ length s
 
-  node-by : (n : Node) → nodeAt table true false left s ≡ n → Opened NodeReads (withLength s n)
+  node-by : (n : Node) → nodeAt lang true stand left s ≡ n → Opened NodeReads (withLength s n)
   node-by (Node.Refused r) e = tt
-  node-by (Open size k list low) e =
-      cond-all (Opened NodeReads) (leb (size + lengthBytes list) (length s))
+  node-by (Open size k inside low) e =
+      cond-all (Opened NodeReads) (leb (size + lengthBytes (inList inside)) (length s))
       (λ l. record {
         own-bytes = size;
-        node = λ i. opened-at (NodeSound table true i left s (codeIn true (getD s 0 0))) (sound-node table true i left s) (any-place table i left s ∙ e);
+        node = opened-at (NodeSound lang true stand left s (codeIn true (getD s 0 0))) (sound-node lang true stand left s) e;
         is-size = refl;
-        within = leb-true (size + lengthBytes list) (length s) l;
+        within = leb-true (size + lengthBytes (inList inside)) (length s) l;
       })
       (λ l. tt)
 
-  pub node-reads : Opened NodeReads (storedNode table left s)
+  pub node-reads : Opened NodeReads (storedNode lang stand left s)
   unfolding storedNode
-  node-reads = node-by (nodeAt table true false left s) refl
+  node-reads = node-by (nodeAt lang true stand left s) refl
+
+-- whether a node is a list, and its own bytes
+module _ {lang : Language} {stand : Stand} {left : ℕ} {s : List ℕ} {size k : ℕ} {inside : Stand} {low : ℕ} where
+  pub is-list : {c : Code} → NodeSound lang true stand left s c size k inside low → inList inside ≡ listCode (lang .table) c
+  is-list {c} o = ap inList (o .is-inside) ∙ stand-list (lang .table) c
+
+  pub own-long : {c : Code} → NodeSound lang true stand left s c size k inside low → size ≡ cond (inList inside) 2 1
+  own-long o = o .long ∙ ap (λ (b : Bool). cond b 2 1) (sym (is-list o))
 
 -- The checks of a node, one after the other
-module _ (table : List ℕ) (left : ℕ) (s : List ℕ) {n : Node} (is : n ≡ nodeAt table true false left s) where
-  pub node-refused : {r : Refusal} → n ≡ Node.Refused r → n ≡ storedNode table left s
+module _ (lang : Language) (stand : Stand) (left : ℕ) (s : List ℕ) {n : Node} (is : n ≡ nodeAt lang true stand left s) where
+  pub node-refused : {r : Refusal} → n ≡ Node.Refused r → n ≡ storedNode lang stand left s
   unfolding storedNode
   node-refused e = e ∙ sym (ap (withLength s) (sym is ∙ e))
 
-  module _ {size k : ℕ} {list : Bool} {low : ℕ} (e : n ≡ Open size k list low) where
+  module _ {size k : ℕ} {inside : Stand} {low : ℕ} (e : n ≡ Open size k inside low) where
     pub node-size : size ≤ length s
-    node-size = node-within table true false left s (sym is ∙ e) .0
+    node-size = node-within lang true stand left s (sym is ∙ e) .0
 
-    pub node-other : list ≡ false → Open size k list low ≡ storedNode table left s
+    pub node-other : inList inside ≡ false → Open size k inside low ≡ storedNode lang stand left s
     unfolding storedNode
     node-other l =
         let z : size + 0 ≡ size = omega arith in
         sym (ap (withLength s) (sym is ∙ e) ∙ rw (l, z, le-leb size (length s) node-size))
 
-    pub node-short : list ≡ true → length s < size + 2 → Node.Refused Short ≡ storedNode table left s
+    pub node-short : inList inside ≡ true → length s < size + 2 → Node.Refused Short ≡ storedNode lang stand left s
     unfolding storedNode
     node-short l h = sym (ap (withLength s) (sym is ∙ e) ∙ rw (l, lt-leb (size + 2) (length s) h))
 
-    pub node-list : list ≡ true → size + 2 ≤ length s → Open (size + 2) k list low ≡ storedNode table left s
+    pub node-list : inList inside ≡ true → size + 2 ≤ length s → Open (size + 2) k inside low ≡ storedNode lang stand left s
     unfolding storedNode
     node-list l h = sym (ap (withLength s) (sym is ∙ e) ∙ rw (l, le-leb (size + 2) (length s) h))
 
@@ -106,21 +115,26 @@ unfolding tell
 tell-forth true s size n e o h a = rw (e, ← eqb-true (toldLength s) n a) (word-forth s 2 o (omega arith))
 tell-forth false s size n e o h a = let z : size ≡ size + 0 = omega arith in ap (λ (k : ℕ). drop k s) z
 
-module _ (table : List ℕ) (left : ℕ) where
+module _ (lang : Language) (left : ℕ) (stand : Stand) where
+  abbrev table : List ℕ
+  table = lang .table
+
   pub record TreeSound (s : List ℕ) (t : Tree) (n : ℕ) : Type 0 where
-    pub bytes : Octets s → s ≡ store table t (drop n s)
-    pub long : n ≡ length (store table t [])
-    pub fits : Octets s → (inList : Bool) → Fits table true t left inList
+    pub bytes : Octets s → s ≡ store (lang .table) t (drop n s)
+    pub long : n ≡ length (store (lang .table) t [])
+    pub fits : Octets s → Fits (lang .table) true t left (inList stand)
+    pub spliced : SplicedAt lang stand t
 
   pub record TreesSound (s : List ℕ) (k : ℕ) (ts : Trees) (n : ℕ) : Type 0 where
-    pub bytes : Octets s → s ≡ stores table ts (drop n s)
-    pub long : n ≡ length (stores table ts [])
+    pub bytes : Octets s → s ≡ stores (lang .table) ts (drop n s)
+    pub long : n ≡ length (stores (lang .table) ts [])
     pub counted : number ts ≡ k
-    pub fits : Octets s → (inList : Bool) → FitAll table true ts left inList
+    pub fits : Octets s → FitAll (lang .table) true ts left (inList stand)
+    pub spliced : SplicedAll lang stand ts
 
   none-sound : (s : List ℕ) → TreesSound s 0 empty 0
   unfolding stores number FitAll
-  none-sound s = record { bytes = λ o. refl; long = refl; counted = refl; fits = λ o i. tt }
+  none-sound s = record { bytes = λ o. refl; long = refl; counted = refl; fits = λ o. tt; spliced = tt }
 
   more-sound : (s : List ℕ) (k : ℕ) (t : Tree) (n : ℕ) (ts : Trees) (m : ℕ) → TreeSound s t n → TreesSound (drop n s) k ts m → TreesSound s (suc k) (more t ts) (n + m)
   unfolding stores number FitAll
@@ -128,7 +142,8 @@ module _ (table : List ℕ) (left : ℕ) where
     bytes = λ o. a .bytes o ∙ ap (store table t) (b .bytes (octets-drop n s o) ∙ ap (stores table ts) (drop-drop m n s));
     long = rw (more-length table t ts) (ap₂ _+_ (a .long) (b .long));
     counted = ap suc (b .counted);
-    fits = λ o i. (a .fits o i, b .fits (octets-drop n s o) i);
+    fits = λ o. (a .fits o, b .fits (octets-drop n s o));
+    spliced = (a .spliced, b .spliced);
   }
 
   sound-all : (f : List ℕ → Parsed Tree) → ((s : List ℕ) → Got (TreeSound s) (f s)) → (k : ℕ) (s : List ℕ) → Got (TreesSound s k) (readAll f k s)
@@ -142,160 +157,170 @@ pub stored-size : (l : Bool) (own-bytes size n m : ℕ) → own-bytes ≡ cond l
 stored-size true own-bytes size n m a b c = omega arith
 stored-size false own-bytes size n m a b c = omega arith
 
-grow-sound : (table : List ℕ) (left : ℕ) (s : List ℕ) (size k : ℕ) (list : Bool) (low : ℕ) (ts : Trees) (n : ℕ)
-    → NodeReads table (suc left) s size k list low → TreesSound table left (drop size s) k ts n → agrees list (toldLength s) n ≡ true
-    → TreeSound table (suc left) s (branch (codeIn true (getD s 0 0)) ts) (size + n)
+grow-sound : (lang : Language) (left : ℕ) (stand : Stand) (s : List ℕ) (size k : ℕ) (inside : Stand) (low : ℕ) (ts : Trees) (n : ℕ)
+    → NodeReads lang stand (suc left) s size k inside low → TreesSound lang left inside (drop size s) k ts n → agrees (inList inside) (toldLength s) n ≡ true
+    → TreeSound lang (suc left) stand s (branch (codeIn true (getD s 0 0)) ts) (size + n)
 unfolding store Fits
-grow-sound table left s size k list low ts n o b a =
+grow-sound lang left stand s size k inside low ts n o b a =
+    let table = lang .table in
     let c = codeIn true (getD s 0 0) in
-    let node = o .node false in
+    let node = o .node in
+    let list = inList inside in
     record {
       bytes = λ x.
           let told : drop (o .own-bytes) s ≡ tell list n (drop size s) =
-          tell-forth list s (o .own-bytes) n (node .long ∙ ap (λ (l : Bool). cond l 2 1) (sym (node .is-list))) x (rw (← o .is-size) (o .within)) a ∙ ap (λ (m : ℕ). tell list n (drop m s)) (sym (o .is-size)) in
-          rw (b .counted, ← b .long, ← node .is-list)
+          tell-forth list s (o .own-bytes) n (own-long node) x (rw (← o .is-size) (o .within)) a ∙ ap (λ (m : ℕ). tell list n (drop m s)) (sym (o .is-size)) in
+          rw (b .counted, ← b .long, ← is-list node)
           (node .bytes ∙ ap (own table c k) (told ∙ ap (tell list n) (b .bytes (octets-drop size s x) ∙ ap (stores table ts) (drop-drop n size s))));
-      long = rw (branch-length table c ts) (stored-size (listCode table c) (o .own-bytes) size n (length (stores table ts [])) (node .long) (o .is-size ∙ ap (λ (l : Bool). o .own-bytes + lengthBytes l) (node .is-list)) (b .long));
-      fits = λ x i. (node .levels, node .written, rw (b .counted) (o .node i .shape x), rw (sub-one (suc left)) (b .fits (octets-drop size s x) (listCode table c)));
+      long = rw (branch-length table c ts)
+          (stored-size (listCode table c) (o .own-bytes) size n (length (stores table ts [])) (node .long) (o .is-size ∙ ap (λ (l : Bool). o .own-bytes + lengthBytes l) (is-list node)) (b .long));
+      fits = λ x. (node .levels, node .written, rw (b .counted) (node .shape x), rw (sub-one (suc left), ← is-list node) (b .fits (octets-drop size s x)));
+      spliced = (node .spliced, rw (← node .is-inside) (b .spliced));
     }
 
-pub sound : (table : List ℕ) (left : ℕ) (s : List ℕ) → Got (TreeSound table left s) (readStoredTree table left s)
+pub sound : (lang : Language) (left : ℕ) (stand : Stand) (s : List ℕ) → Got (TreeSound lang left stand s) (readStoredTree lang left stand s)
 unfolding readStoredTree readNode
-sound table zero s =
-    got-enter (TreeSound table zero s) (codeIn true (getD s 0 0)) (storedNode table zero s) _
-    (opened-map (λ size k list low o. absurd (omega (arith, o .node false .levels))) (storedNode table zero s) (node-reads table zero s))
-sound table (suc left) s =
-    got-enter (TreeSound table (suc left) s) (codeIn true (getD s 0 0)) (storedNode table (suc left) s) _
+sound lang zero stand s =
+    got-enter (TreeSound lang zero stand s) (codeIn true (getD s 0 0)) (storedNode lang stand zero s) _
+    (opened-map (λ size k inside low o. absurd (omega (arith, o .node .levels))) (storedNode lang stand zero s) (node-reads lang stand zero s))
+sound lang (suc left) stand s =
+    got-enter (TreeSound lang (suc left) stand s) (codeIn true (getD s 0 0)) (storedNode lang stand (suc left) s) _
     (opened-map
-    (λ size k list low o.
-    got-agreed (λ ts n. TreeSound table (suc left) s (branch (codeIn true (getD s 0 0)) ts) (size + n)) list (toldLength s) (readAll (readStoredTree table left) k (drop size s))
-    (got-map (λ ts n b a. grow-sound table left s size k list low ts n o b a) (readAll (readStoredTree table left) k (drop size s))
-    (sound-all table left (readStoredTree table left) (sound table left) k (drop size s))))
-    (storedNode table (suc left) s) (node-reads table (suc left) s))
+    (λ size k inside low o.
+    got-agreed (λ ts n. TreeSound lang (suc left) stand s (branch (codeIn true (getD s 0 0)) ts) (size + n)) (inList inside) (toldLength s)
+    (readAll (readStoredTree lang left inside) k (drop size s))
+    (got-map (λ ts n b a. grow-sound lang left stand s size k inside low ts n o b a) (readAll (readStoredTree lang left inside) k (drop size s))
+    (sound-all lang left inside (readStoredTree lang left inside) (sound lang left inside) k (drop size s))))
+    (storedNode lang stand (suc left) s) (node-reads lang stand (suc left) s))
 
 -- Terms within the limits are read back
 
-module _ (table : List ℕ) where
+agreed-untold : (m n : ℕ) (a : Parsed Trees) → agreed false m a ≡ agreed false n a
+unfolding agreed
+agreed-untold m n (refused r) = refl
+agreed-untold m n (read ts k) = refl
+
+agrees-self : (l : Bool) (n : ℕ) → agrees l n n ≡ true
+agrees-self true n = eq-eqb n n refl
+agrees-self false n = refl
+
+behind-tree : (table : List ℕ) (t : Tree) (bs : List ℕ) → drop (length (store table t [])) (store table t bs) ≡ bs
+behind-tree table t bs = ap (drop (length (store table t []))) (store-append table t [] bs) ∙ drop-at (store table t []) bs (length (store table t [])) refl
+
+module _ (lang : Language) where
   -- the node at the start of its own bytes
-  node-opens : (l : Bool) (b k n left : ℕ) (r : List ℕ) → isList table b ≡ l → b < length table → Counted l k (getD table b 0)
-      → storedNode table (suc left) (b ∷ cond l (k ∷ tell l n r) (tell l n r)) ≡ Open (storedSize l) k l left
-  unfolding storedNode own tell word Written Shape listCode byteOf
-  node-opens true b k n left r e h c =
-      let s = b ∷ k ∷ (n % 256) ∷ (n / 256) ∷ r in
-      let o : nodeAt table true false (suc left) s ≡ Open 2 k true left =
-      rw (e, sub-one (suc left)) at (node-complete table true false (suc left) (Symbol b) k ((n % 256) ∷ (n / 256) ∷ r) (omega arith) tt (h, rw e c)) in
-      rw (o, le-leb 4 (length s) (omega arith))
-  node-opens false b k n left r e h c =
-      let s = b ∷ r in
-      let o : nodeAt table true false (suc left) s ≡ Open 1 k false left =
-      rw (e, sub-one (suc left)) at (node-complete table true false (suc left) (Symbol b) k r (omega arith) tt (h, rw e c)) in
-      rw (o, le-leb 1 (length s) (omega arith))
+  module _ (b k n left : ℕ) (stand : Stand) (r : List ℕ) where
+    node-opens : (l : Bool) → isList (lang .table) b ≡ l → b < length (lang .table) → Counted l k (getD (lang .table) b 0)
+        → unspliced (lang .edition) (lang .classes) stand (standIn (lang .table) (Symbol b)) ≡ false
+        → storedNode lang stand (suc left) (b ∷ cond l (k ∷ tell l n r) (tell l n r)) ≡ Open (storedSize l) k (cond l (InList b) Elsewhere) left
+    unfolding storedNode own tell word Written Shape listCode byteOf
+    node-opens true e h c u =
+        let s = b ∷ k ∷ (n % 256) ∷ (n / 256) ∷ r in
+        let o : nodeAt lang true stand (suc left) s ≡ Open 2 k (InList b) left =
+        rw (e, sub-one (suc left)) at (node-complete lang true stand (suc left) (Symbol b) k ((n % 256) ∷ (n / 256) ∷ r) (omega arith) tt (h, rw e c) u) in
+        rw (o, le-leb 4 (length s) (omega arith))
+    node-opens false e h c u =
+        let s = b ∷ r in
+        let o : nodeAt lang true stand (suc left) s ≡ Open 1 k Elsewhere left =
+        rw (e, sub-one (suc left)) at (node-complete lang true stand (suc left) (Symbol b) k r (omega arith) tt (h, rw e c) u) in
+        rw (o, le-leb 1 (length s) (omega arith))
 
-  agreed-untold : (m n : ℕ) (a : Parsed Trees) → agreed false m a ≡ agreed false n a
-  unfolding agreed
-  agreed-untold m n (refused r) = refl
-  agreed-untold m n (read ts k) = refl
-
-  -- and then what its children are read from
-  node-step : (l : Bool) (b k n left : ℕ) (r : List ℕ) → isList table b ≡ l → b < length table → Counted l k (getD table b 0)
-      → readStoredTree table (suc left) (b ∷ cond l (k ∷ tell l n r) (tell l n r))
-      ≡ grow (Symbol b) (storedSize l) (agreed l n (readAll (readStoredTree table left) k r))
-  unfolding readStoredTree readNode enter tell word wordAt
-  node-step true b k n left r e h c =
-      let z : (n % 256) + 256 * (n / 256) ≡ n = omega arith in
-      rw (node-opens true b k n left r e h c, z)
-  node-step false b k n left r e h c =
-      rw (node-opens false b k n left r e h c) (ap (grow (Symbol b) 1) (agreed-untold (toldLength (b ∷ r)) n (readAll (readStoredTree table left) k r)))
-
-  agrees-self : (l : Bool) (n : ℕ) → agrees l n n ≡ true
-  agrees-self true n = eq-eqb n n refl
-  agrees-self false n = refl
-
-  behind-tree : (t : Tree) (bs : List ℕ) → drop (length (store table t [])) (store table t bs) ≡ bs
-  behind-tree t bs = ap (drop (length (store table t []))) (store-append table t [] bs) ∙ drop-at (store table t []) bs (length (store table t [])) refl
+    -- and then what its children are read from
+    node-step : (l : Bool) → isList (lang .table) b ≡ l → b < length (lang .table) → Counted l k (getD (lang .table) b 0)
+        → unspliced (lang .edition) (lang .classes) stand (standIn (lang .table) (Symbol b)) ≡ false
+        → readStoredTree lang (suc left) stand (b ∷ cond l (k ∷ tell l n r) (tell l n r))
+        ≡ grow (Symbol b) (storedSize l) (agreed l n (readAll (readStoredTree lang left (cond l (InList b) Elsewhere)) k r))
+    unfolding readStoredTree readNode enter tell word wordAt
+    node-step true e h c u =
+        let z : (n % 256) + 256 * (n / 256) ≡ n = omega arith in
+        rw (node-opens true e h c u, z)
+    node-step false e h c u =
+        rw (node-opens false e h c u) (ap (grow (Symbol b) 1) (agreed-untold (toldLength (b ∷ r)) n (readAll (readStoredTree lang left Elsewhere) k r)))
 
   mutual
     unfolding Fits Shape listCode byteOf store own grow agreed readAll number chain join
 
-    complete : (t : Term) (left : ℕ) (inList : Bool) (bs : List ℕ) → Fits table true (termTree t) left inList
-        → readStoredTree table left (store table (termTree t) bs) ≡ read (termTree t) (length (store table (termTree t) []))
-    complete (node b ts) zero inList bs f = absurd (omega (arith, f .0))
-    complete (node b ts) (suc left) inList bs f =
+    complete : (t : Term) (left : ℕ) (stand : Stand) (in-list : Bool) (bs : List ℕ) → Fits (lang .table) true (termTree t) left in-list → SplicedAt lang stand (termTree t)
+        → readStoredTree lang left stand (store (lang .table) (termTree t) bs) ≡ read (termTree t) (length (store (lang .table) (termTree t) []))
+    complete (node b ts) zero stand in-list bs f d = absurd (omega (arith, f .0))
+    complete (node b ts) (suc left) stand in-list bs f d =
+        let table = lang .table in
         let n = length (stores table (termTrees ts) []) in
         rw (
-          node-step (isList table b) b (number (termTrees ts)) n left (stores table (termTrees ts) bs) refl (f .2 .0) (f .2 .1),
-          completes ts left (isList table b) bs (rw (sub-one (suc left)) at (f .3)),
+          node-step b (number (termTrees ts)) n left stand (stores table (termTrees ts) bs) (isList table b) refl (f .2 .0) (f .2 .1) (d .0),
+          completes ts left (standIn table (Symbol b)) (isList table b) bs (rw (sub-one (suc left)) at (f .3)) (d .1),
           agrees-self (isList table b) n,
           branch-length table (Symbol b) (termTrees ts),
         )
 
-    completes : (ts : Terms) (left : ℕ) (inList : Bool) (bs : List ℕ) → FitAll table true (termTrees ts) left inList
-        → readAll (readStoredTree table left) (number (termTrees ts)) (stores table (termTrees ts) bs) ≡ read (termTrees ts) (length (stores table (termTrees ts) []))
-    completes nil left inList bs f = refl
-    completes (t :: ts) left inList bs f =
+    completes : (ts : Terms) (left : ℕ) (stand : Stand) (in-list : Bool) (bs : List ℕ) → FitAll (lang .table) true (termTrees ts) left in-list → SplicedAll lang stand (termTrees ts)
+        → readAll (readStoredTree lang left stand) (number (termTrees ts)) (stores (lang .table) (termTrees ts) bs) ≡ read (termTrees ts) (length (stores (lang .table) (termTrees ts) []))
+    completes nil left stand in-list bs f d = refl
+    completes (t :: ts) left stand in-list bs f d =
+        let table = lang .table in
         rw (
-          complete t left inList (stores table (termTrees ts) bs) (f .0),
-          behind-tree (termTree t) (stores table (termTrees ts) bs),
-          completes ts left inList bs (f .1),
+          complete t left stand in-list (stores table (termTrees ts) bs) (f .0) (d .0),
+          behind-tree table (termTree t) (stores table (termTrees ts) bs),
+          completes ts left stand in-list bs (f .1) (d .1),
           more-length table (termTree t) (termTrees ts),
         )
 
 -- The theorem
 
 -- every accepted record has a stored form that is not too long
-pub stored-short : (table : List ℕ) (t : Term) → TermAccepted table t → length (storedBytes table t []) ≤ longestStored
-stored-short table t a = omega (arith, a .short, store-twice table (termTree t))
+pub stored-short : (lang : Language) (t : Term) → TermAccepted lang t → length (storedBytes (lang .table) t []) ≤ longestStored
+stored-short lang t a = omega (arith, a .short, store-twice (lang .table) (termTree t))
 
-module _ (table s : List ℕ) (t : Term) (bytes : storedBytes table t [] ≡ s) (accepted : TermAccepted table t) where
-  form-complete : readForm table s ≡ read (termTree t) (length s)
+module _ (lang : Language) (s : List ℕ) (t : Term) (bytes : storedBytes (lang .table) t [] ≡ s) (accepted : TermAccepted lang t) where
+  form-complete : readForm lang s ≡ read (termTree t) (length s)
   unfolding readForm unlessSpare
   form-complete =
-      let n : length (storedBytes table t []) ≡ length s = ap length bytes in
-      let d : readStoredTree table nesting s ≡ read (termTree t) (length s) =
-      ap (readStoredTree table nesting) (sym bytes) ∙ complete table t nesting false [] (accepted .fits) ∙ ap (read (termTree t)) n in
-      rw (le-leb (length s) longestStored (omega (arith, stored-short table t accepted)), d, eq-eqb (length s) (length s) refl)
+      let n : length (storedBytes (lang .table) t []) ≡ length s = ap length bytes in
+      let d : readStoredTree lang nesting Elsewhere s ≡ read (termTree t) (length s) =
+      ap (readStoredTree lang nesting Elsewhere) (sym bytes) ∙ complete lang t nesting Elsewhere false [] (accepted .fits) (accepted .spliced) ∙ ap (read (termTree t)) n in
+      rw (le-leb (length s) longestStored (omega (arith, stored-short lang t accepted)), d, eq-eqb (length s) (length s) refl)
 
   -- the stored form of a term within the limits is read as it
-  pub stored-complete : readStored table s ≡ read t (length s)
+  pub stored-complete : readStored lang s ≡ read t (length s)
   unfolding readStored unlessLong mapParsed
-  stored-complete = rw (form-complete, le-leb (length (encode table (termTree t) [])) longestRecord (accepted .short), term-back t)
+  stored-complete = rw (form-complete, le-leb (length (encode (lang .table) (termTree t) [])) longestRecord (accepted .short), term-back t)
 
-module _ (table s : List ℕ) (octets : Octets s) where
+module _ (lang : Language) (s : List ℕ) (octets : Octets s) where
   unfoldable pub Sound : Tree → ℕ → Type 0
-  Sound t n = (store table t [] ≡ s) × (n ≡ length s) × Fits table true t nesting false
+  Sound t n = (store (lang .table) t [] ≡ s) × (n ≡ length s) × Fits (lang .table) true t nesting false × Spliced lang t
 
-  whole-sound : (a : Parsed Tree) → Got (TreeSound table nesting s) a → Got Sound (unlessSpare s a)
+  whole-sound : (a : Parsed Tree) → Got (TreeSound lang nesting Elsewhere s) a → Got Sound (unlessSpare s a)
   unfolding unlessSpare Sound
   whole-sound (refused r) h = tt
   whole-sound (read t n) h =
       cond-all (Got Sound) (eqb n (length s))
       (λ e.
       let z : n ≡ length s = eqb-true n (length s) e in
-      let b : store table t [] ≡ s = sym (h .bytes octets ∙ ap (λ (m : ℕ). store table t (drop m s)) z ∙ ap (store table t) (drop-length s)) in
-      (b, z, h .fits octets false))
+      let b : store (lang .table) t [] ≡ s = sym (h .bytes octets ∙ ap (λ (m : ℕ). store (lang .table) t (drop m s)) z ∙ ap (store (lang .table) t) (drop-length s)) in
+      (b, z, h .fits octets, h .spliced))
       (λ e. tt)
 
   -- what is read before the check of the old form's length
-  pub form-sound : Got Sound (readForm table s)
+  pub form-sound : Got Sound (readForm lang s)
   unfolding readForm
-  form-sound = cond-all (Got Sound) (leb (length s) longestStored) (λ l. whole-sound (readStoredTree table nesting s) (sound table nesting s)) (λ l. tt)
+  form-sound = cond-all (Got Sound) (leb (length s) longestStored) (λ l. whole-sound (readStoredTree lang nesting Elsewhere s) (sound lang nesting Elsewhere s)) (λ l. tt)
 
   unfoldable pub Accepts : Tree → ℕ → Type 0
-  Accepts t n = Sound t n × (length (encode table t []) ≤ longestRecord)
+  Accepts t n = Sound t n × (length (encode (lang .table) t []) ≤ longestRecord)
 
-  unless-long : (a : Parsed Tree) → Got Sound a → Got Accepts (unlessLong table a)
+  unless-long : (a : Parsed Tree) → Got Sound a → Got Accepts (unlessLong (lang .table) a)
   unfolding unlessLong Accepts
   unless-long (refused r) h = tt
-  unless-long (read t n) h = cond-all (Got Accepts) (leb (length (encode table t [])) longestRecord) (λ l. (h, leb-true (length (encode table t [])) longestRecord l)) (λ l. tt)
+  unless-long (read t n) h = cond-all (Got Accepts) (leb (length (encode (lang .table) t [])) longestRecord) (λ l. (h, leb-true (length (encode (lang .table) t [])) longestRecord l)) (λ l. tt)
 
-  pub read-sound : (t : Term) (n : ℕ) → readStored table s ≡ read t n → (storedBytes table t [] ≡ s) × TermAccepted table t × (n ≡ length s)
+  pub read-sound : (t : Term) (n : ℕ) → readStored lang s ≡ read t n → (storedBytes (lang .table) t [] ≡ s) × TermAccepted lang t × (n ≡ length s)
   unfolding readStored Sound Accepts
   read-sound t n e =
-      let m = map-read termOf (unlessLong table (readForm table s)) t n e in
-      let h = subst (Got Accepts) (m .1) (unless-long (readForm table s) form-sound) in
-      let u : m .0 ≡ termTree t = sym (term-tree table (m .0) nesting false (h .0 .2)) ∙ ap termTree (m .2) in
-      (rw (← u) (h .0 .0), record { short = rw (← u) (h .1); fits = rw (← u) (h .0 .2) }, h .0 .1)
+      let m = map-read termOf (unlessLong (lang .table) (readForm lang s)) t n e in
+      let h = subst (Got Accepts) (m .1) (unless-long (readForm lang s) form-sound) in
+      let u : m .0 ≡ termTree t = sym (term-tree (lang .table) (m .0) nesting false (h .0 .2)) ∙ ap termTree (m .2) in
+      (rw (← u) (h .0 .0), record { short = rw (← u) (h .1); fits = rw (← u) (h .0 .2); spliced = rw (← u) (h .0 .3) }, h .0 .1)
 
   -- bytes are read as a term exactly if they are its stored form and the term is within the limits
-  pub stored-iff : (t : Term) → (readStored table s ≡ read t (length s)) ↔ ((storedBytes table t [] ≡ s) × TermAccepted table t)
-  stored-iff t = (λ e. let h = read-sound t (length s) e in (h .0, h .1), λ h. stored-complete table s t (h .0) (h .1))
+  pub stored-iff : (t : Term) → (readStored lang s ≡ read t (length s)) ↔ ((storedBytes (lang .table) t [] ≡ s) × TermAccepted lang t)
+  stored-iff t = (λ e. let h = read-sound t (length s) e in (h .0, h .1), λ h. stored-complete lang s t (h .0) (h .1))

@@ -6,6 +6,7 @@ use mathlib.Core.Logic.{_↔_}
 use mathlib.Core.Bool.{true}
 use lib.ListN.{length}
 use Rattle.term.specs.Limits.{TermAccepted}
+use Rattle.reader.specs.Brought.{Brought, languageOf, broughtAccepted}
 use Rattle.reader.specs.Reading.{Parsed, read}
 use Rattle.term.specs.Table.{tableAccepted}
 use Rattle.term.specs.Term.{Term, termBytes}
@@ -14,16 +15,18 @@ use Rattle.stored.specs.Form.{storedBytes, longestStored}
 use Rattle.stored.specs.Move.{storing, restoring}
 
 -- an accepted record of a term
-pub record RecordOf (table : List ℕ) (t : Term) (s : List ℕ) : Type 0 where
-  pub table-accepted : tableAccepted table ≡ true
-  pub bytes : termBytes table t [] ≡ s
-  pub accepted : TermAccepted table t
+pub record RecordOf (brought : Brought) (t : Term) (s : List ℕ) : Type 0 where
+  pub table-accepted : tableAccepted (brought .table) ≡ true
+  pub list-accepted : broughtAccepted brought ≡ true
+  pub bytes : termBytes (brought .table) t [] ≡ s
+  pub accepted : TermAccepted (languageOf brought) t
 
 -- an accepted stored record of a term: "A stored record has at most 8,192 bytes", and its old form is accepted
-pub record StoredOf (table : List ℕ) (t : Term) (s : List ℕ) : Type 0 where
-  pub table-accepted : tableAccepted table ≡ true
-  pub bytes : storedBytes table t [] ≡ s
-  pub accepted : TermAccepted table t
+pub record StoredOf (brought : Brought) (t : Term) (s : List ℕ) : Type 0 where
+  pub table-accepted : tableAccepted (brought .table) ≡ true
+  pub list-accepted : broughtAccepted brought ≡ true
+  pub bytes : storedBytes (brought .table) t [] ≡ s
+  pub accepted : TermAccepted (languageOf brought) t
   pub short : length s ≤ longestStored
 
 -- of a move of s that shows this number and length and leaves `after` in the output, where `before` was
@@ -39,8 +42,8 @@ pub record Demanded (Of To : Term → List ℕ → Type 0) (back : List ℕ → 
   pub untouched : 0 < number → (size ≡ 0) × (after ≡ before)
 
 -- of the move of a record to its stored form, and back
-abbrev pub StoreDemanded : List ℕ → List ℕ → List ℕ → ℕ → ℕ → List ℕ → Type 0
-StoreDemanded table s before number size after = Demanded (RecordOf table) (StoredOf table) (restoring table) s before number size after
+abbrev pub StoreDemanded : Brought → List ℕ → List ℕ → ℕ → ℕ → List ℕ → Type 0
+StoreDemanded brought s before number size after = Demanded (RecordOf brought) (StoredOf brought) (restoring brought) s before number size after
 
-abbrev pub RestoreDemanded : List ℕ → List ℕ → List ℕ → ℕ → ℕ → List ℕ → Type 0
-RestoreDemanded table s before number size after = Demanded (StoredOf table) (RecordOf table) (storing table) s before number size after
+abbrev pub RestoreDemanded : Brought → List ℕ → List ℕ → ℕ → ℕ → List ℕ → Type 0
+RestoreDemanded brought s before number size after = Demanded (StoredOf brought) (RecordOf brought) (storing brought) s before number size after

@@ -6,10 +6,13 @@ use mathlib.Core.Bool.{Bool, true, false, cond, _||_}
 use lib.ListN.{length, getD}
 use lib.Dec.{eqb}
 use lib.Seq.{sets}
+use Rattle.term.specs.Language.{Language}
 use Rattle.term.specs.Limits.{nesting}
 use Rattle.term.specs.Table.{isList}
 use Rattle.term.specs.Same.{countNext}
 use Rattle.term.specs.Tree.{Trees, empty}
+use Rattle.term.specs.declared.Stand.{Stand}
+use Rattle.term.specs.declared.Stand.the-variants.{Elsewhere}
 use Rattle.reader.specs.Reading.{Parsed, refused, read, readAll, readTree}
 use Rattle.sheet.specs.Word.{word, wordBytes, wordAt}
 use Rattle.stored.specs.Form.{stores, longestStored}
@@ -34,9 +37,9 @@ unfoldable pub stripped : List ℕ → List ℕ → ℕ → List ℕ
 stripped table [] k = []
 stripped table (b ∷ s) k = cond (isKept k) (b ∷ stripped table s (behind table k b)) (stripped table s (behind table k b))
 
--- so many trees of a record, with so much nesting left
-unfoldable pub recordTrees : List ℕ → ℕ → ℕ → List ℕ → Parsed Trees
-recordTrees table left count s = readAll (readTree table true left false) count s
+-- so many trees of a record, with so much nesting left, where they stand so
+unfoldable pub recordTrees : Language → ℕ → Stand → ℕ → List ℕ → Parsed Trees
+recordTrees l left stand count s = readAll (readTree l true left stand) count s
 
 -- the stored bytes of trees that were read
 abbrev pub treesOf : Parsed Trees → Trees
@@ -47,12 +50,12 @@ unfoldable pub storedTrees : List ℕ → Parsed Trees → List ℕ
 storedTrees table a = stores table (treesOf a) []
 
 -- a record that can be put: it is read, and the output has the room
-pub record Putting (table s : List ℕ) (room : ℕ) : Type 0 where
+pub record Putting (l : Language) (s : List ℕ) (room : ℕ) : Type 0 where
   pub trees : Trees
   pub bytes : ℕ
-  pub are-read : recordTrees table nesting 1 s ≡ read trees bytes
-  pub has-room : length (stores table trees []) ≤ room
-  pub short : length (stores table trees []) ≤ longestStored
+  pub are-read : recordTrees l nesting Elsewhere 1 s ≡ read trees bytes
+  pub has-room : length (stores (l .table) trees []) ≤ room
+  pub short : length (stores (l .table) trees []) ≤ longestStored
 
 -- the bytes of a node's own: its symbol and, for a list, its number of children
 abbrev pub ownOf : Bool → List ℕ → List ℕ

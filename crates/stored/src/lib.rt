@@ -5,7 +5,9 @@ use byte_answers::Read;
 use reader::FRAMES;
 use reader::Frame;
 use reader::Node;
+use term::Edition;
 use term::NESTING;
+use term::Stand;
 ghost use mathlib.Core.Path.{_≡_};
 ghost use mathlib.Core.Bool.{false};
 ghost use Prim.Native.Nat.{_+_, _≤_};
@@ -13,7 +15,9 @@ ghost use lib.ListN.{length, set};
 ghost use lib.Seq.{sets};
 ghost use Rattle.byte_answers.specs.Answers.{moveNumber, moveLength};
 ghost use Rattle.term.specs.Moment.{old, new};
+ghost use Rattle.term.specs.Language.{language, simple};
 ghost use Rattle.term.specs.Limits.{nesting, longestRecord};
+ghost use Rattle.reader.specs.Brought.{simply, bringing, broughtBy};
 ghost use Rattle.reader.specs.Frame.{frame};
 ghost use Rattle.reader.specs.Reading.{shown};
 ghost use Rattle.stored.specs.Form.{longestStored};
@@ -35,20 +39,27 @@ const BEFORE: usize = 2;
 const OPEN: usize = FRAMES + 1;
 
 // The checks of a node of the stored form.
-fn stored_node(table: &[u8], s: &[u8], left: u8) -> Node
-    ensures { λ r. ⌜ r ≡ storedNode (old table) left (old s) ⌝ }
+fn stored_node(
+    edition: Edition,
+    table: &[u8],
+    classes: &[u8],
+    s: &[u8],
+    stand: Stand,
+    left: u8,
+) -> Node
+    ensures { λ r. ⌜ r ≡ storedNode (language edition (old table) (old classes)) stand left (old s) ⌝ }
 {
-    let node = reader::node_at(table, s, true, false, left);
+    let node = reader::node_at(edition, table, classes, s, true, stand, left);
     let Node::Open {
         size,
         kids,
-        list,
+        inside,
         low,
     } = node
     else {
         return node;
     };
-    if !list {
+    if !reader::in_list(inside) {
         return node;
     }
     if s.len() < size + WORD {
@@ -57,7 +68,7 @@ fn stored_node(table: &[u8], s: &[u8], left: u8) -> Node
     Node::Open {
         size: size + WORD,
         kids: kids,
-        list: list,
+        inside: inside,
         low: low,
     }
 }
@@ -77,15 +88,15 @@ fn agrees(s: &[u8], list: bool, start: usize, end: usize) -> bool
 
 // A whole record: one tree, with all the nesting left.
 fn root() -> Frame
-    ensures { λ r. ⌜ r ≡ frame 1 nesting false ⌝ }
+    ensures { λ r. ⌜ r ≡ frame 1 nesting Stand.Elsewhere ⌝ }
 {
-    Frame::of(1, NESTING, false)
+    Frame::of(1, NESTING, Stand::Elsewhere)
 }
 
 // The tree of the stored form at the start of s. Still to be read are the trees of `top`, and then those of the frames around it, the innermost
 // first; beside each frame stands where its first tree starts. A leaf takes no frame.
-fn read_tree(table: &[u8], s: &[u8]) -> Read
-    ensures { λ r. ⌜ r ≡ shown (readStoredTree (old table) nesting (old s)) ⌝ }
+fn read_tree(edition: Edition, table: &[u8], classes: &[u8], s: &[u8]) -> Read
+    ensures { λ r. ⌜ r ≡ shown (readStoredTree (language edition (old table) (old classes)) nesting Stand.Elsewhere (old s)) ⌝ }
 {
     let mut around = [Frame::EMPTY; FRAMES];
     let mut starts = [0usize; OPEN];
@@ -93,8 +104,9 @@ fn read_tree(table: &[u8], s: &[u8]) -> Read
     let mut top = root();
     let mut at: usize = 0;
     loop {
+        let stand = top.stand;
         if top.count == 0 {
-            if !agrees(s, top.list, starts[depth], at) {
+            if !agrees(s, reader::in_list(stand), starts[depth], at) {
                 return Read::Refused(Refusal::Length);
             }
             if depth == 0 {
@@ -104,21 +116,22 @@ fn read_tree(table: &[u8], s: &[u8]) -> Read
             top = around[depth];
             continue;
         }
-        let node = stored_node(table, &s[at..], top.left);
+        let node = stored_node(edition, table, classes, &s[at..], stand, top.left);
         let Node::Open {
             size,
             kids,
-            list,
+            inside,
             low,
         } = node
         else {
             return reader::node_refusal(node);
         };
+        let list = reader::in_list(inside);
         at = at + size;
         top.count = top.count - 1;
         if list | (0 < kids) {
             around[depth] = top;
-            top = Frame::of(kids, low, list);
+            top = Frame::of(kids, low, inside);
             depth = depth + 1;
             starts[depth] = at;
         }
@@ -126,13 +139,13 @@ fn read_tree(table: &[u8], s: &[u8]) -> Read
 }
 
 // The whole of s as one tree of the stored form.
-fn read_form(table: &[u8], s: &[u8]) -> Read
-    ensures { λ r. ⌜ r ≡ shown (readForm (old table) (old s)) ⌝ }
+fn read_form(edition: Edition, table: &[u8], classes: &[u8], s: &[u8]) -> Read
+    ensures { λ r. ⌜ r ≡ shown (readForm (language edition (old table) (old classes)) (old s)) ⌝ }
 {
     if LONGEST_STORED < s.len() {
         return Read::Refused(Refusal::Long);
     }
-    let read = read_tree(table, s);
+    let read = read_tree(edition, table, classes, s);
     let Read::Ends(n) = read else {
         return read;
     };
@@ -186,16 +199,31 @@ fn old_length(table: &[u8], s: &[u8]) -> usize
     strip(table, s, &mut nowhere)
 }
 
-// Writes the old form of a stored record to the front of the output, or leaves the output as it is.
-pub fn restore(table: &[u8], stored: &[u8], output: &mut [u8]) -> Move
-    ensures answer { λ r. ⌜ r ≡ moved (restoring (old table) (old stored)) (length (old output)) ⌝ }
-    ensures contents { λ _. ⌜ new output ≡ outputAfter (restoring (old table) (old stored)) (old output) ⌝ }
-    ensures demand { λ r. ⌜ RestoreDemanded (old table) (old stored) (old output) (moveNumber r) (moveLength r) (new output) ⌝ }
+// Writes the old form of a stored record to the front of the output, or leaves the output as it is; `classes` counts if the call brings a class list.
+fn restore_brought(
+    edition: Edition,
+    table: &[u8],
+    brings: bool,
+    classes: &[u8],
+    stored: &[u8],
+    output: &mut [u8],
+) -> Move
+    ensures answer { λ r. ⌜ r ≡ moved (restoring (broughtBy edition (old table) brings (old classes)) (old stored)) (length (old output)) ⌝ }
+    ensures contents { λ _. ⌜ new output ≡ outputAfter (restoring (broughtBy edition (old table) brings (old classes)) (old stored)) (old output) ⌝ }
+    ensures demand { λ r. ⌜ RestoreDemanded (broughtBy edition (old table) brings (old classes)) (old stored) (old output) (moveNumber r) (moveLength r) (new output) ⌝ }
 {
     if !term::check_table(table) {
         return Move::Refused(Refusal::Table);
     }
-    let read = read_form(table, stored);
+    if !reader::accepts_list(table, brings, classes) {
+        return Move::Refused(Refusal::Class);
+    }
+    let read = read_form(
+        edition,
+        table,
+        reader::brought_list(brings, classes),
+        stored,
+    );
     if let Read::Refused(r) = read {
         return Move::Refused(r);
     }
@@ -208,6 +236,30 @@ pub fn restore(table: &[u8], stored: &[u8], output: &mut [u8]) -> Move
     }
     strip(table, stored, output);
     Move::Written(size)
+}
+
+// In edition 1, without a class list.
+pub fn restore(table: &[u8], stored: &[u8], output: &mut [u8]) -> Move
+    ensures answer { λ r. ⌜ r ≡ moved (restoring (simply (old table)) (old stored)) (length (old output)) ⌝ }
+    ensures contents { λ _. ⌜ new output ≡ outputAfter (restoring (simply (old table)) (old stored)) (old output) ⌝ }
+    ensures demand { λ r. ⌜ RestoreDemanded (simply (old table)) (old stored) (old output) (moveNumber r) (moveLength r) (new output) ⌝ }
+{
+    restore_brought(Edition::One, table, false, &table[..0], stored, output)
+}
+
+// In an edition, with a class list.
+pub fn restore_in(
+    edition: Edition,
+    table: &[u8],
+    classes: &[u8],
+    stored: &[u8],
+    output: &mut [u8],
+) -> Move
+    ensures answer { λ r. ⌜ r ≡ moved (restoring (bringing edition (old table) (old classes)) (old stored)) (length (old output)) ⌝ }
+    ensures contents { λ _. ⌜ new output ≡ outputAfter (restoring (bringing edition (old table) (old classes)) (old stored)) (old output) ⌝ }
+    ensures demand { λ r. ⌜ RestoreDemanded (bringing edition (old table) (old classes)) (old stored) (old output) (moveNumber r) (moveLength r) (new output) ⌝ }
+{
+    restore_brought(edition, table, true, classes, stored, output)
 }
 
 // The length of the stored form of a record.
@@ -256,10 +308,11 @@ fn put_length(list: bool, output: &mut [u8], start: usize, end: usize)
     }
 }
 
-// Puts a record in the stored form: a node's own bytes, its children, and then, for a list, their length. The frames are those of the reader.
+// Puts a record in the stored form: a node's own bytes, its children, and then, for a list, their length. The frames are those of the reader. What
+// is accepted in edition 2 is so in edition 1, which compares no lists.
 fn put_tree(table: &[u8], s: &[u8], output: &mut [u8])
-    requires { ⌜ Putting (now table) (now s) (length (now output)) ⌝ }
-    ensures { λ _. ⌜ new output ≡ sets (old output) 0 (storedTrees (old table) (recordTrees (old table) nesting 1 (old s))) ⌝ }
+    requires { ⌜ Putting (simple (now table)) (now s) (length (now output)) ⌝ }
+    ensures { λ _. ⌜ new output ≡ sets (old output) 0 (storedTrees (old table) (recordTrees (simple (old table)) nesting Stand.Elsewhere 1 (old s))) ⌝ }
 {
     let mut around = [Frame::EMPTY; FRAMES];
     let mut starts = [0usize; OPEN];
@@ -268,8 +321,9 @@ fn put_tree(table: &[u8], s: &[u8], output: &mut [u8])
     let mut at: usize = 0;
     let mut end: usize = 0;
     loop {
+        let stand = top.stand;
         if top.count == 0 {
-            put_length(top.list, output, starts[depth], end);
+            put_length(reader::in_list(stand), output, starts[depth], end);
             if depth == 0 {
                 return;
             }
@@ -277,38 +331,51 @@ fn put_tree(table: &[u8], s: &[u8], output: &mut [u8])
             top = around[depth];
             continue;
         }
-        let node = reader::node_at(table, &s[at..], true, false, top.left);
+        let none = &table[..0];
+        let node = reader::node_at(Edition::One, table, none, &s[at..], true, stand, top.left);
         let Node::Open {
             size,
             kids,
-            list,
+            inside,
             low,
         } = node
         else {
             return;
         };
+        let list = reader::in_list(inside);
         end = put_own(&s[at..], list, output, end);
         at = at + size;
         top.count = top.count - 1;
         if list | (0 < kids) {
             around[depth] = top;
-            top = Frame::of(kids, low, list);
+            top = Frame::of(kids, low, inside);
             depth = depth + 1;
             starts[depth] = end;
         }
     }
 }
 
-// Writes the stored form of a record to the front of the output, or leaves the output as it is.
-pub fn store(table: &[u8], record: &[u8], output: &mut [u8]) -> Move
-    ensures answer { λ r. ⌜ r ≡ moved (storing (old table) (old «record»)) (length (old output)) ⌝ }
-    ensures contents { λ _. ⌜ new output ≡ outputAfter (storing (old table) (old «record»)) (old output) ⌝ }
-    ensures demand { λ r. ⌜ StoreDemanded (old table) (old «record») (old output) (moveNumber r) (moveLength r) (new output) ⌝ }
+// Writes the stored form of a record to the front of the output, or leaves the output as it is; `classes` counts if the call brings a class list.
+fn store_brought(
+    edition: Edition,
+    table: &[u8],
+    brings: bool,
+    classes: &[u8],
+    record: &[u8],
+    output: &mut [u8],
+) -> Move
+    ensures answer { λ r. ⌜ r ≡ moved (storing (broughtBy edition (old table) brings (old classes)) (old «record»)) (length (old output)) ⌝ }
+    ensures contents { λ _. ⌜ new output ≡ outputAfter (storing (broughtBy edition (old table) brings (old classes)) (old «record»)) (old output) ⌝ }
+    ensures demand { λ r. ⌜ StoreDemanded (broughtBy edition (old table) brings (old classes)) (old «record») (old output) (moveNumber r) (moveLength r) (new output) ⌝ }
 {
     if !term::check_table(table) {
         return Move::Refused(Refusal::Table);
     }
-    let read = reader::read_record(table, record);
+    if !reader::accepts_list(table, brings, classes) {
+        return Move::Refused(Refusal::Class);
+    }
+    let list = reader::brought_list(brings, classes);
+    let read = reader::read_record_in(edition, table, list, record);
     if let Read::Refused(r) = read {
         return Move::Refused(r);
     }
@@ -318,4 +385,28 @@ pub fn store(table: &[u8], record: &[u8], output: &mut [u8]) -> Move
     }
     put_tree(table, record, output);
     Move::Written(size)
+}
+
+// In edition 1, without a class list.
+pub fn store(table: &[u8], record: &[u8], output: &mut [u8]) -> Move
+    ensures answer { λ r. ⌜ r ≡ moved (storing (simply (old table)) (old «record»)) (length (old output)) ⌝ }
+    ensures contents { λ _. ⌜ new output ≡ outputAfter (storing (simply (old table)) (old «record»)) (old output) ⌝ }
+    ensures demand { λ r. ⌜ StoreDemanded (simply (old table)) (old «record») (old output) (moveNumber r) (moveLength r) (new output) ⌝ }
+{
+    store_brought(Edition::One, table, false, &table[..0], record, output)
+}
+
+// In an edition, with a class list.
+pub fn store_in(
+    edition: Edition,
+    table: &[u8],
+    classes: &[u8],
+    record: &[u8],
+    output: &mut [u8],
+) -> Move
+    ensures answer { λ r. ⌜ r ≡ moved (storing (bringing edition (old table) (old classes)) (old «record»)) (length (old output)) ⌝ }
+    ensures contents { λ _. ⌜ new output ≡ outputAfter (storing (bringing edition (old table) (old classes)) (old «record»)) (old output) ⌝ }
+    ensures demand { λ r. ⌜ StoreDemanded (bringing edition (old table) (old classes)) (old «record») (old output) (moveNumber r) (moveLength r) (new output) ⌝ }
+{
+    store_brought(edition, table, true, classes, record, output)
 }

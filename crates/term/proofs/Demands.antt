@@ -6,6 +6,7 @@ use mathlib.Core.List.{List, []}
 use mathlib.Core.Bool.{Bool, true, false}
 use Rattle.term.specs.Tree.{listCode, encode}
 use Rattle.term.specs.Term.{Term, Terms, node, _⧺_, single, termBytes, termsBytes}
+use Rattle.term.specs.Language.{Language}
 use Rattle.term.specs.Limits.{nesting, belowOf, Fits, TermAccepted}
 use Rattle.term.specs.declared.Code.the-variants.{Symbol}
 use Rattle.term.specs.Class.{classesAccepted, Alike}
@@ -14,12 +15,12 @@ use Rattle.term.proofs.SameParts.{same-run, run-of-bytes}
 use Rattle.term.proofs.Classes.{accepted-alike, none-alike}
 use Rattle.term.proofs.Joins.{fit-split}
 
-module _ (table : List ℕ) where
-  -- an accepted record is a run; a node's children are one; and so is each part of a run
-  pub record-run : (t : Term) → TermAccepted table t → RunOf table (termBytes table t []) (single t)
-  unfolding Fits encode
-  record-run t a = record { deepest = nesting; inList = false; over-table = (a .fits, tt); bytes = refl }
+-- an accepted record is a run; a node's children are one; and so is each part of a run
+pub record-run : (l : Language) (t : Term) → TermAccepted l t → RunOf (l .table) (termBytes (l .table) t []) (single t)
+unfolding Fits encode
+record-run l t a = record { deepest = nesting; inList = false; over-table = (a .fits, tt); bytes = refl }
 
+module _ (table : List ℕ) where
   pub children-run : (x : List ℕ) (s : ℕ) (ts : Terms) → RunOf table x (single (node s ts)) → RunOf table (termsBytes table ts []) ts
   unfolding Fits
   children-run x s ts g =

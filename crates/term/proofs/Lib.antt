@@ -9,5 +9,6 @@ pub mod Sizes
 pub mod Spans
 pub mod SameParts
 pub mod Classes
+pub mod Splicing
 pub mod Joins
 pub mod Demands

@@ -158,7 +158,7 @@ module _ (table : List ℕ) where
 -- trees
 
 -- what the entry of a code says of its number of children
-abbrev Says : Bool → ℕ → ℕ → Type 0
+abbrev pub Says : Bool → ℕ → ℕ → Type 0
 Says true entry n = entry ≡ list
 Says false entry n = (entry ≡ n) × (entry ≡ list → ⊥)
 
@@ -171,7 +171,7 @@ module _ (table : List ℕ) (small : length table ≤ largestTable) where
   says-symbol s n true e h k = entry-symbol table s h ∙ eqb-true (getD table s 0) list e
   says-symbol s n false e h k = (entry-symbol table s h ∙ sym k, λ z. eqb-false (getD table s 0) list e (sym (entry-symbol table s h) ∙ z))
 
-  entry-says : (records inList : Bool) (c : Code) (n : ℕ) → Written records c → Shape table inList c n → Says (listCode table c) (entryOf table (byteOf c)) n
+  pub entry-says : (records inList : Bool) (c : Code) (n : ℕ) → Written records c → Shape table inList c n → Says (listCode table c) (entryOf table (byteOf c)) n
   unfolding Written Shape listCode byteOf
   entry-says records inList (Symbol s) n w h = says-symbol s n (isList table s) refl (h .0) (h .1)
   entry-says true inList (Name v) n w h = absurd w

@@ -4,9 +4,11 @@ pub mod Code
 pub mod Tree
 pub mod Term
 pub mod Pattern
+pub mod Class
+pub mod Language
+pub mod Splicing
 pub mod Limits
 pub mod Extent
-pub mod Class
 pub mod Same
 pub mod Part
 pub mod Moment

@@ -6,6 +6,8 @@ use mathlib.Core.Bool.{Bool, true, false}
 use lib.ListN.{length, getD}
 use Rattle.term.specs.Table.{isList}
 use Rattle.term.specs.Code.{names, variables}
+use Rattle.term.specs.Language.{Language}
+use Rattle.term.specs.Splicing.{Spliced}
 use Rattle.term.specs.Tree.{Tree, Trees, branch, empty, more, number, listCode, encode}
 use Rattle.term.specs.Term.{Term, termTree}
 use Rattle.term.specs.Pattern.{Pattern, patternTree}
@@ -71,16 +73,17 @@ longest false = longestPattern
 abbrev pub nesting : ℕ
 nesting = 32
 
-pub record Accepted (table : List ℕ) (records : Bool) (t : Tree) : Type 0 where
-  pub short : length (encode table t []) ≤ longest records
-  pub fits : Fits table records t nesting false
+pub record Accepted (l : Language) (records : Bool) (t : Tree) : Type 0 where
+  pub short : length (encode (l .table) t []) ≤ longest records
+  pub fits : Fits (l .table) records t nesting false
+  pub spliced : Spliced l t
 
 -- bytes
 abbrev pub Octets : List ℕ → Type 0
 Octets s = (i : ℕ) → getD s i 0 ≤ 255
 
-abbrev pub TermAccepted : List ℕ → Term → Type 0
-TermAccepted table t = Accepted table true (termTree t)
+abbrev pub TermAccepted : Language → Term → Type 0
+TermAccepted l t = Accepted l true (termTree t)
 
-abbrev pub PatternAccepted : List ℕ → Pattern → Type 0
-PatternAccepted table q = Accepted table false (patternTree q)
+abbrev pub PatternAccepted : Language → Pattern → Type 0
+PatternAccepted l q = Accepted l false (patternTree q)

@@ -46,6 +46,18 @@ pub enum Code {
     Refused,
 }
 
+// The editions of the rule language (document 02, L6).
+pub enum Edition {
+    One,
+    Two,
+}
+
+// Where a node stands: directly in a list, of this symbol, or elsewhere.
+pub enum Stand {
+    Elsewhere,
+    InList(u8),
+}
+
 pub fn decode(b: u8) -> Code
     ensures { λ r. ⌜ r ≡ decodeOf b ⌝ }
 {

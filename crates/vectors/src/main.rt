@@ -1,10 +1,11 @@
 // Runs the files of vectors that its arguments name; data/format.txt says what a line holds. For each file it prints the lines that differ
 // from what is answered or can't be read, and how many agree and differ.
 mod calls;
-mod shown;
-mod text;
+mod matches;
 
 use libc::STDOUT_FILENO;
+use vector_lines::shown;
+use vector_lines::text;
 
 // The most bytes of a file.
 const FILE: usize = 262144;

@@ -11,7 +11,9 @@ use borrow.Author.Tests.{lt-ltb, eq-eqb, ne-eqb, ltb-true, eqb-true, eqb-false}
 use Rattle.term.proofs.Lists.{next-at}
 use Rattle.term.specs.Limits.{Octets}
 use Rattle.sheet.specs.Word.{word}
-use Rattle.sheet.specs.Sheet.{pastPairs, directory, sheetBytes, NoneEmpty}
+use Rattle.term.specs.declared.Edition.{Edition}
+use Rattle.term.specs.declared.Edition.the-variants.{One, Two}
+use Rattle.sheet.specs.Sheet.{pastPairs, editionMark, marked, directory, sheetBytes, NoneEmpty}
 use Rattle.sheet.specs.Check.{longestSheet}
 use Rattle.sheet.proofs.Words.{largestWord, word-octets, joined-octets}
 use Rattle.sheet.proofs.Readings.{written-length}
@@ -89,12 +91,13 @@ split-none-empty bs (n ∷ ns) h z =
     let p : 0 < n = ltb-true 0 n (a .0) in
     (omega (arith, length-take-le n bs (omega arith)), split-none-empty (drop n bs) ns (omega (arith, length-drop n bs)) (a .1))
 
-pub split-sheet : (bs ns : List ℕ) → length bs ≡ sum ns → sheetBytes (split bs ns) ≡ word (length ns) ++ directory (pastPairs (length ns)) ns ++ bs
+pub split-sheet : (edition : Edition) (bs ns : List ℕ) → length bs ≡ sum ns
+    → sheetBytes edition (split bs ns) ≡ word (marked edition (length ns)) ++ directory (pastPairs (length ns)) ns ++ bs
 unfolding sheetBytes
-split-sheet bs ns h = rw (split-length bs ns, split-lengths bs ns (omega arith), split-flatten bs ns h)
+split-sheet edition bs ns h = rw (split-length bs ns, split-lengths bs ns (omega arith), split-flatten bs ns h)
 
-pub split-size : (bs ns : List ℕ) → length bs ≡ sum ns → length (sheetBytes (split bs ns)) ≡ sheetLength (length ns) (length bs)
-split-size bs ns h = written-length (split bs ns) ∙ rw (split-length bs ns, split-flatten bs ns h)
+pub split-size : (edition : Edition) (bs ns : List ℕ) → length bs ≡ sum ns → length (sheetBytes edition (split bs ns)) ≡ sheetLength (length ns) (length bs)
+split-size edition bs ns h = written-length edition (split bs ns) ∙ rw (split-length bs ns, split-flatten bs ns h)
 
 directory-octets : (at : ℕ) (ns : List ℕ) → at + sum ns ≤ largestWord → Octets (directory at ns)
 unfolding directory sum
@@ -103,12 +106,17 @@ directory-octets at (n ∷ ns) h =
     joined-octets (word at ++ word n) (directory (at + n) ns) (joined-octets (word at) (word n) (word-octets at (omega arith)) (word-octets n (omega arith)))
     (directory-octets (at + n) ns (omega arith))
 
-pub split-octets : (bs ns : List ℕ) → length bs ≡ sum ns → sheetLength (length ns) (length bs) ≤ longestSheet → Octets bs → Octets (sheetBytes (split bs ns))
-split-octets bs ns h short o =
+marked-word : (edition : Edition) (n : ℕ) → n < editionMark → marked edition n ≤ largestWord
+marked-word One n h = omega arith
+marked-word Two n h = omega arith
+
+pub split-octets : (edition : Edition) (bs ns : List ℕ) → length bs ≡ sum ns → sheetLength (length ns) (length bs) ≤ longestSheet → Octets bs
+    → Octets (sheetBytes edition (split bs ns))
+split-octets edition bs ns h short o =
     let pairs = directory (pastPairs (length ns)) ns in
-    rw (split-sheet bs ns h)
-    (joined-octets (word (length ns) ++ pairs) bs
-    (joined-octets (word (length ns)) pairs (word-octets (length ns) (omega arith)) (directory-octets (pastPairs (length ns)) ns (omega arith))) o)
+    rw (split-sheet edition bs ns h)
+    (joined-octets (word (marked edition (length ns)) ++ pairs) bs
+    (joined-octets (word (marked edition (length ns))) pairs (word-octets (marked edition (length ns)) (marked-word edition (length ns) (omega arith))) (directory-octets (pastPairs (length ns)) ns (omega arith))) o)
 
 -- and back: entries, joined, are split into themselves
 

@@ -7,7 +7,8 @@ use lib.ListN.{length, getD, drop, drop-of-length-le}
 use lib.Seq.{sets}
 use Rattle.term.proofs.Lists.{next-at}
 use Rattle.sheet.specs.Word.{wordBytes, word}
-use Rattle.sheet.specs.Sheet.{pastPairs, directory, sheetBytes}
+use Rattle.term.specs.declared.Edition.{Edition}
+use Rattle.sheet.specs.Sheet.{pastPairs, directory, sheetBytes, marked}
 use Rattle.sheet.proofs.Readings.{directory-length}
 use Rattle.term.proofs.Stores.{sets-append}
 use Rattle.writing.specs.Writing.{split, sum}
@@ -33,15 +34,15 @@ module _ (l : List ℕ) (i at : ℕ) where
   pairs-end ns h = rw (drop-of-length-le ns h)
 
 -- count, directory and records
-pub sheet-stored : (l bs ns : List ℕ) → length bs ≡ sum ns
-    → sets l 0 (sheetBytes (split bs ns))
-    ≡ sets (sets (sets l 0 (word (length ns))) wordBytes (directory (pastPairs (length ns)) ns)) (pastPairs (length ns)) bs
+pub sheet-stored : (edition : Edition) (l bs ns : List ℕ) → length bs ≡ sum ns
+    → sets l 0 (sheetBytes edition (split bs ns))
+    ≡ sets (sets (sets l 0 (word (marked edition (length ns)))) wordBytes (directory (pastPairs (length ns)) ns)) (pastPairs (length ns)) bs
 unfolding word
-sheet-stored l bs ns h =
+sheet-stored edition l bs ns h =
     let n = length ns in
     let pairs = directory (pastPairs n) ns in
     let e : wordBytes + length pairs ≡ pastPairs n = omega (arith, directory-length (pastPairs n) ns) in
-    ap (sets l 0) (split-sheet bs ns h)
-    ∙ sets-append l 0 (word n) (pairs ++ bs)
-    ∙ sets-append (sets l 0 (word n)) wordBytes pairs bs
-    ∙ ap (λ (k : ℕ). sets (sets (sets l 0 (word n)) wordBytes pairs) k bs) e
+    ap (sets l 0) (split-sheet edition bs ns h)
+    ∙ sets-append l 0 (word (marked edition n)) (pairs ++ bs)
+    ∙ sets-append (sets l 0 (word (marked edition n))) wordBytes pairs bs
+    ∙ ap (λ (k : ℕ). sets (sets (sets l 0 (word (marked edition n))) wordBytes pairs) k bs) e

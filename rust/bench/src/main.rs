@@ -7,6 +7,7 @@
 
 mod before;
 mod date;
+mod editions;
 mod measure;
 mod peer;
 mod plot;

@@ -1,6 +1,9 @@
 //! The named workloads.
 
-use interface::{sheet_of, Answers, Library, Word, ANSWER, LIST, RECORD_LIMIT, STORED_LIMIT};
+use crate::editions;
+use interface::{
+    sheet_of, Answers, Edition, Language, Library, Word, ANSWER, LIST, RECORD_LIMIT, STORED_LIMIT,
+};
 use notation::Symbols;
 use reference::Reference;
 use std::{cell::RefCell, iter};
@@ -46,6 +49,7 @@ pub fn all() -> Vec<Workload> {
     all.extend(with_classes());
     all.extend(stored());
     all.extend(plains());
+    all.extend(editions::all());
     all
 }
 
@@ -103,7 +107,7 @@ pub fn starts() -> Vec<Workload> {
     matches.into_iter().flatten().map(Match::start).collect()
 }
 
-fn symbols() -> Symbols {
+pub fn symbols() -> Symbols {
     let leaves: Vec<String> = (0..16).map(|i| format!("g{i}")).collect();
     let text = format!("{} open shut held gate/1 row/2 gates/*", leaves.join(" "));
     Symbols::parse(&text).expect("the table is right")
@@ -143,11 +147,7 @@ impl Match {
 
     /// Every check and the search, measured by counted steps.
     fn search(self) -> Workload {
-        let Match { table, classes, pattern, record, .. } = &self;
-        let (outcome, _) = match classes {
-            None => Reference.find(table, pattern, record, u32::MAX),
-            Some(classes) => Reference.find_with_classes(table, classes, pattern, record, u32::MAX),
-        };
+        let (outcome, _) = Reference.find(self.language(), &self.pattern, &self.record, u32::MAX);
         self.call(u32::MAX, ("step", outcome.count))
     }
 
@@ -157,7 +157,8 @@ impl Match {
         let (n, answer) = (*n, RefCell::new([0; ANSWER]));
         let (table, pattern, record) = (table.clone(), pattern.clone(), record.clone());
         let run = Box::new(move |library: &dyn Library| {
-            library.match_plain(&table, &pattern, &record, &mut *answer.borrow_mut());
+            let language = Language::simple(&table);
+            library.match_plain(language, &pattern, &record, &mut *answer.borrow_mut());
         });
         let call = "qonveshir_match_plain";
         let tier = Workload { name: plain, n, call, unit: "call", units: 1, run };
@@ -170,20 +171,21 @@ impl Match {
     }
 
     fn call(self, allowance: u32, (unit, units): (&'static str, u64)) -> Workload {
-        let Match { name, n, table, classes, pattern, record } = self;
-        let answer = RefCell::new([0; ANSWER]);
-        let Some(classes) = classes else {
-            let run = Box::new(move |library: &dyn Library| {
-                let answer = &mut *answer.borrow_mut();
-                library.match_one(&table, &pattern, &record, allowance, answer);
-            });
-            return Workload { name, n, call: "qonveshir_match", unit, units, run };
+        let Match { name, n, .. } = self;
+        let call = match self.classes {
+            None => "qonveshir_match",
+            Some(_) => "qonveshir_match_in",
         };
+        let answer = RefCell::new([0; ANSWER]);
         let run = Box::new(move |library: &dyn Library| {
             let answer = &mut *answer.borrow_mut();
-            library.match_one_with_classes(&table, &classes, &pattern, &record, allowance, answer);
+            library.match_one(self.language(), &self.pattern, &self.record, allowance, answer);
         });
-        Workload { name, n, call: "qonveshir_match_with_classes", unit, units, run }
+        Workload { name, n, call, unit, units, run }
+    }
+
+    fn language(&self) -> Language<'_> {
+        Language { classes: self.classes.as_deref(), ..Language::simple(&self.table) }
     }
 }
 
@@ -287,9 +289,10 @@ fn every_answer(n: usize) -> Workload {
     let answer = RefCell::new([0; ANSWER]);
     let run = Box::new(move |library: &dyn Library| {
         let answer = &mut *answer.borrow_mut();
-        let first = library.match_one(&table, &pattern, &record, u32::MAX, answer);
+        let language = Language::simple(&table);
+        let first = library.match_one(language, &pattern, &record, u32::MAX, answer);
         let next =
-            |given: &Vec<u16>| library.next(&table, &pattern, &record, given, u32::MAX, answer);
+            |given: &Vec<u16>| library.next(language, &pattern, &record, given, u32::MAX, answer);
         let found = iter::once(first).chain(lengths.iter().map(next));
         let listed = found.fold((0, 0), |(answers, steps), outcome| {
             (answers + usize::from(outcome.word() == Some(Word::Bound)), steps + outcome.count)
@@ -301,7 +304,8 @@ fn every_answer(n: usize) -> Workload {
 
 /// The run lengths of every answer, and the steps of all calls.
 fn run_lengths(table: &[u8], pattern: &[u8], record: &[u8]) -> (Vec<Vec<u16>>, u64) {
-    let mut answers = Answers::new(&Reference, table, None, pattern, record, u32::MAX);
+    let language = Language::simple(table);
+    let mut answers = Answers::new(&Reference, language, pattern, record, u32::MAX);
     let mut lengths = Vec::new();
     while answers.next().is_some() {
         lengths.extend(answers.lengths().map(<[u16]>::to_vec));
@@ -310,7 +314,7 @@ fn run_lengths(table: &[u8], pattern: &[u8], record: &[u8]) -> (Vec<Vec<u16>>, u
 }
 
 /// A record of n bytes: lists of leaves and pairs within a list.
-fn full(n: usize) -> Vec<u8> {
+pub fn full(n: usize) -> Vec<u8> {
     let symbols = symbols();
     let code = |name| symbols.code(name).expect("the table has the symbol");
     let (open, row, gates) = (code("open"), code("row"), code("gates"));
@@ -345,17 +349,14 @@ fn rule_sheet(name: &'static str, n: usize, twice: bool) -> Workload {
     let (rules, (doubled, classes)) = (rules(&symbols, n), spelled_twice(table));
     let (table, call) = match twice {
         false => (table.to_vec(), "qonveshir_match_rules"),
-        true => (doubled, "qonveshir_match_rules_with_classes"),
+        true => (doubled, "qonveshir_match_rules_in"),
     };
     let answer = RefCell::new([0; ANSWER]);
     let steps = move |library: &dyn Library| {
         let answer = &mut *answer.borrow_mut();
-        let one = |state: &Vec<u8>| match twice {
-            false => library.match_rules(&table, &rules, state, 100_000, answer),
-            true => {
-                library.match_rules_with_classes(&table, &classes, &rules, state, 100_000, answer)
-            }
-        };
+        let classes = twice.then_some(&classes[..]);
+        let language = Language { classes, ..Language::simple(&table) };
+        let one = |state: &Vec<u8>| library.match_rules(language, &rules, state, 100_000, answer);
         states.iter().map(one).map(|outcome| outcome.count).sum::<u64>()
     };
     let units = steps(&Reference);
@@ -371,7 +372,7 @@ fn rules(symbols: &Symbols, n: usize) -> Vec<u8> {
         let text = kinds[i % 4].replace("gA", &format!("g{}", i / 4));
         symbols.pattern(&text.replace("gB", &format!("g{}", 15 - i / 4))).expect("a rule")
     };
-    sheet_of(&(0..n).map(rule).collect::<Vec<_>>())
+    sheet_of(Edition::ONE, &(0..n).map(rule).collect::<Vec<_>>())
 }
 
 /// One of many small states, most of which few rules hold of.
@@ -393,23 +394,27 @@ fn records(n: usize) -> Vec<Vec<u8>> {
 }
 
 fn read_states(n: usize) -> Workload {
-    let (table, sheet) = (symbols().table().to_vec(), sheet_of(&records(n)));
+    let (table, sheet) = (symbols().table().to_vec(), sheet_of(Edition::ONE, &records(n)));
     assert_eq!(sheet.len(), n);
     let run = Box::new(move |library: &dyn Library| {
-        assert_eq!(library.check_states(&table, &sheet).number, 0);
+        assert_eq!(library.check_states(Language::simple(&table), &sheet).number, 0);
     });
     let call = "qonveshir_check_states";
     Workload { name: "state sheet reader", n, call, unit: "byte", units: n as u64, run }
 }
 
-fn read_rules(n: usize) -> Workload {
-    let symbols = symbols();
+/// The rule of which rule sheets are full; lists stand in lists below complements alone.
+pub fn read_rule() -> Vec<u8> {
     let rule = format!("gates({}@1)", "@0, row(!?0, ?1), !gates(g1, @2), ".repeat(15));
-    let rule = symbols.pattern(&rule).expect("a rule");
-    let (table, sheet) = (symbols.table().to_vec(), sheet_of(&vec![rule; n]));
+    symbols().pattern(&rule).expect("a rule")
+}
+
+fn read_rules(n: usize) -> Workload {
+    let table = symbols().table().to_vec();
+    let sheet = sheet_of(Edition::ONE, &vec![read_rule(); n]);
     let units = sheet.len() as u64;
     let run = Box::new(move |library: &dyn Library| {
-        assert_eq!(library.check_rules(&table, &sheet).number, 0);
+        assert_eq!(library.check_rules(Language::simple(&table), &sheet).number, 0);
     });
     let call = "qonveshir_check_rules";
     Workload { name: "rule sheet reader", n, call, unit: "byte", units, run }
@@ -423,7 +428,7 @@ fn cost(n: usize) -> Workload {
     assert_eq!(pattern.len(), n);
     let (table, nodes) = (symbols.table().to_vec(), n as u64 - 1);
     let run = Box::new(move |library: &dyn Library| {
-        assert_eq!(library.cost(&table, &pattern).count, nodes);
+        assert_eq!(library.cost(Language::simple(&table), &pattern).count, nodes);
     });
     let call = "qonveshir_cost";
     Workload { name: "cost of a pattern", n, call, unit: "byte", units: n as u64, run }
@@ -432,7 +437,7 @@ fn cost(n: usize) -> Workload {
 /// The place of the last entry, for which the whole directory is checked.
 fn read_entry(n: usize) -> Workload {
     let records = records(n);
-    let (last, sheet) = (records.len() as u32 - 1, sheet_of(&records));
+    let (last, sheet) = (records.len() as u32 - 1, sheet_of(Edition::ONE, &records));
     let run = Box::new(move |library: &dyn Library| {
         assert_eq!(library.entry(&sheet, last).number, 0);
     });
@@ -447,7 +452,8 @@ fn write_sheet(n: usize) -> Workload {
     let output = RefCell::new(vec![0; n]);
     let run = Box::new(move |library: &dyn Library| {
         let output = &mut output.borrow_mut();
-        assert_eq!(library.write_sheet(&table, &records, &lengths, output).number, 0);
+        let language = Language::simple(&table);
+        assert_eq!(library.write_sheet(language, &records, &lengths, output).number, 0);
     });
     let call = "qonveshir_write_sheet";
     Workload { name: "writer", n, call, unit: "byte", units: n as u64, run }
@@ -456,6 +462,9 @@ fn write_sheet(n: usize) -> Workload {
 /// Moves to the stored form and back, of lists within a list and of lists nested 32 deep.
 fn stored() -> Vec<Workload> {
     let bytes = [256, 1_024, 4_096];
+    let table = || symbols().table().to_vec();
+    let store = |name, record| store_in(Edition::ONE, table(), name, record);
+    let restore = |name, record| restore_in(Edition::ONE, table(), name, record);
     let mut all = Vec::new();
     all.extend(bytes.map(|n| store("store, lists within a list", full(n))));
     all.extend(bytes.map(|n| store("store, nesting 2", lists(n, false))));
@@ -468,7 +477,7 @@ fn stored() -> Vec<Workload> {
 
 /// A record of n bytes, of 31 lists with as many leaves in each: each within the one before, or
 /// all others within the first.
-fn lists(n: usize, nested: bool) -> Vec<u8> {
+pub fn lists(n: usize, nested: bool) -> Vec<u8> {
     let table = symbols().table().to_vec();
     let list = table.iter().position(|&children| children == LIST).expect("there is a list") as u8;
     let (lists, leaves) = (31, n - 2 * 31);
@@ -486,25 +495,34 @@ fn lists(n: usize, nested: bool) -> Vec<u8> {
     record
 }
 
-fn store(name: &'static str, record: Vec<u8>) -> Workload {
-    let (table, n) = (symbols().table().to_vec(), record.len());
-    let output = RefCell::new(vec![0; STORED_LIMIT]);
+/// A move to the stored form over a table, in an edition.
+pub fn store_in(edition: Edition, table: Vec<u8>, name: &'static str, record: Vec<u8>) -> Workload {
+    let (n, output) = (record.len(), RefCell::new(vec![0; STORED_LIMIT]));
+    let call = if edition == Edition::ONE { "qonveshir_store" } else { "qonveshir_store_in" };
     let run = Box::new(move |library: &dyn Library| {
-        let outcome = library.store(&table, &record, &mut output.borrow_mut());
+        let language = Language::simple(&table).in_edition(edition);
+        let outcome = library.store(language, &record, &mut output.borrow_mut());
         debug_assert_eq!(outcome.number, 0);
     });
-    Workload { name, n, call: "qonveshir_store", unit: "byte", units: n as u64, run }
+    Workload { name, n, call, unit: "byte", units: n as u64, run }
 }
 
-fn restore(name: &'static str, record: Vec<u8>) -> Workload {
-    let (table, n) = (symbols().table().to_vec(), record.len());
+/// The move back.
+pub fn restore_in(
+    edition: Edition,
+    table: Vec<u8>,
+    name: &'static str,
+    record: Vec<u8>,
+) -> Workload {
+    let (n, output) = (record.len(), RefCell::new(vec![0; RECORD_LIMIT]));
     let mut stored = vec![0; STORED_LIMIT];
-    let length = Reference.store(&table, &record, &mut stored).count as usize;
+    let length = Reference.store(Language::simple(&table), &record, &mut stored).count as usize;
     stored.truncate(length);
-    let output = RefCell::new(vec![0; RECORD_LIMIT]);
+    let call = if edition == Edition::ONE { "qonveshir_restore" } else { "qonveshir_restore_in" };
     let run = Box::new(move |library: &dyn Library| {
-        let outcome = library.restore(&table, &stored, &mut output.borrow_mut());
+        let language = Language::simple(&table).in_edition(edition);
+        let outcome = library.restore(language, &stored, &mut output.borrow_mut());
         debug_assert_eq!(outcome.number, 0);
     });
-    Workload { name, n, call: "qonveshir_restore", unit: "byte", units: n as u64, run }
+    Workload { name, n, call, unit: "byte", units: n as u64, run }
 }

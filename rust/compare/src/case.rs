@@ -1,55 +1,95 @@
 //! One call with its inputs, run between margins of random bytes.
 
 use crate::rng::Rng;
-use interface::{Library, Outcome, Part, Word, ENTRY, NAMES, RUNS};
+use interface::{Edition, Language, Library, Outcome, Part, Word, ENTRY, NAMES, RUNS};
 use std::fmt;
 
 /// The calls.
 #[derive(Clone, Copy, Debug, PartialEq, Eq)]
 pub enum Call {
     Match,
-    MatchWithClasses,
+    MatchIn,
     Next,
-    NextWithClasses,
+    NextIn,
     Plain,
-    PlainWithClasses,
+    PlainIn,
     Rules,
-    RulesWithClasses,
+    RulesIn,
     Write,
+    WriteIn,
     Entry,
     CheckRules,
+    CheckRulesIn,
     CheckStates,
+    CheckStatesIn,
     Cost,
+    CostIn,
     Store,
+    StoreIn,
     Restore,
+    RestoreIn,
+    SpliceRecord,
+    SpliceRecordIn,
+    SplicePattern,
+    SplicePatternIn,
 }
 
 /// The calls in their order, with their names.
-pub const CALLS: [(Call, &str); 15] = [
+pub const CALLS: [(Call, &str); 25] = [
     (Call::Match, "match"),
-    (Call::MatchWithClasses, "match_with_classes"),
+    (Call::MatchIn, "match_in"),
     (Call::Next, "next"),
-    (Call::NextWithClasses, "next_with_classes"),
+    (Call::NextIn, "next_in"),
     (Call::Plain, "match_plain"),
-    (Call::PlainWithClasses, "match_plain_with_classes"),
+    (Call::PlainIn, "match_plain_in"),
     (Call::Rules, "match_rules"),
-    (Call::RulesWithClasses, "match_rules_with_classes"),
+    (Call::RulesIn, "match_rules_in"),
     (Call::Write, "write_sheet"),
+    (Call::WriteIn, "write_sheet_in"),
     (Call::Entry, "entry"),
     (Call::CheckRules, "check_rules"),
+    (Call::CheckRulesIn, "check_rules_in"),
     (Call::CheckStates, "check_states"),
+    (Call::CheckStatesIn, "check_states_in"),
     (Call::Cost, "cost"),
+    (Call::CostIn, "cost_in"),
     (Call::Store, "store"),
+    (Call::StoreIn, "store_in"),
     (Call::Restore, "restore"),
+    (Call::RestoreIn, "restore_in"),
+    (Call::SpliceRecord, "splice_record"),
+    (Call::SpliceRecordIn, "splice_record_in"),
+    (Call::SplicePattern, "splice_pattern"),
+    (Call::SplicePatternIn, "splice_pattern_in"),
 ];
 
 impl Call {
     pub fn name(self) -> &'static str {
         CALLS[self as usize].1
     }
+
+    /// Whether the call is told its language.
+    pub fn brings(self) -> bool {
+        self.name().ends_with("_in")
+    }
+
+    /// Whether the call is told the edition.
+    pub fn is_told(self) -> bool {
+        use Call::*;
+        matches!(self, MatchIn | NextIn | PlainIn | WriteIn | CostIn | StoreIn | RestoreIn)
+    }
+
+    /// Whether the call writes bytes.
+    fn writes(self) -> bool {
+        use Call::*;
+        let moves = matches!(self, Store | StoreIn | Restore | RestoreIn);
+        let splices =
+            matches!(self, SpliceRecord | SpliceRecordIn | SplicePattern | SplicePatternIn);
+        matches!(self, Write | WriteIn) || moves || splices
+    }
 }
 
-/// What is special about a case of a search.
+/// What is special about a case.
 #[derive(Clone, Copy, Debug, PartialEq, Eq)]
 pub enum Kind {
     LongRecord,
@@ -97,12 +137,28 @@ pub enum Kind {
     SameAsFull,
     TwiceOrTwo,
     Complements,
+    EditionTwo,
+    Mended,
+    InAnotherList,
+    BelowAComplement,
+    UnsplicedByClass,
+    UnsplicedLast,
+    UnsplicedDeep,
+    AnotherEdition,
+    ByClass,
+    EmptyInnerList,
+    MostElements,
+    OneElementOver,
+    JustEnough,
+    OneByteShort,
 }
 
 /// A call and its inputs.
 #[derive(Debug)]
 pub struct Case {
     pub call: Call,
+    /// The edition, where the call is told it.
+    pub edition: Edition,
     /// Table, class list, pattern, record, sheet or records, as many as the call has, in its order.
     pub inputs: Vec<Vec<u8>>,
     /// The writer's lengths, or those of a given answer.
@@ -135,14 +191,14 @@ struct Memory {
 impl Case {
     /// A case of a call that takes inputs alone.
     pub fn new(call: Call, inputs: Vec<Vec<u8>>) -> Self {
-        Case { call, inputs, lengths: Vec::new(), number: 0, kinds: Vec::new(), room: 0 }
+        let (lengths, kinds) = (Vec::new(), Vec::new());
+        Case { call, edition: Edition::ONE, inputs, lengths, number: 0, kinds, room: 0 }
     }
 
     /// Runs the call; the same `fill` gives the same margins and buffers.
     pub fn run(&self, library: &dyn Library, margin: usize, fill: u64) -> Shown {
         let rng = &mut Rng::new(fill, 0);
-        let writes = matches!(self.call, Call::Write | Call::Store | Call::Restore);
-        let (output, answer) = if writes { (self.room, 0) } else { (0, self.room) };
+        let (output, answer) = if self.call.writes() { (self.room, 0) } else { (0, self.room) };
         let mut memory = Memory {
             margin,
             inputs: self.inputs.iter().map(|input| lent(rng, margin, input, Rng::byte)).collect(),
@@ -157,46 +213,50 @@ impl Case {
     /// What the call can count at most, where it is a match of a pattern that has such a bound.
     pub fn bound(&self, library: &dyn Library) -> Option<u64> {
         use Call::*;
-        let cost = match (self.call, &self.inputs[..]) {
-            (Match | MatchWithClasses | Next | NextWithClasses, [table, .., pattern, _]) => {
-                library.cost(table, pattern)
+        let inputs: Vec<&[u8]> = self.inputs.iter().map(Vec::as_slice).collect();
+        let cost = match (self.call, self.language(&inputs)) {
+            (Match | MatchIn | Next | NextIn, (language, [pattern, _])) => {
+                library.cost(language, pattern)
             }
             _ => return None,
         };
         (cost.word() == Some(Word::Bound)).then_some(cost.count)
     }
 
+    /// The language that the first inputs are, and the others.
+    fn language<'a, 'b>(&self, inputs: &'b [&'a [u8]]) -> (Language<'a>, &'b [&'a [u8]]) {
+        let simple = Language::simple(inputs[0]).in_edition(self.edition);
+        match self.call.brings() {
+            false => (simple, &inputs[1..]),
+            true => (simple.with_classes(inputs[1]), &inputs[2..]),
+        }
+    }
+
     fn call(&self, library: &dyn Library, memory: &mut Memory) -> [u64; 3] {
+        use Call::*;
         let Memory { margin, inputs, lengths, output, answer } = memory;
         let margin = *margin;
         let (output, answer) = (within_mut(output, margin), within_mut(answer, margin));
         let inputs: Vec<&[u8]> = inputs.iter().map(|input| within(input, margin)).collect();
         let (lengths, n) = (within(lengths, margin), self.number);
-        // t: table, c: class list, p: pattern, r: record, s: sheet.
-        outcome(match (self.call, &inputs[..]) {
-            (Call::Match, [t, p, r]) => library.match_one(t, p, r, n, answer),
-            (Call::MatchWithClasses, [t, c, p, r]) => {
-                library.match_one_with_classes(t, c, p, r, n, answer)
-            }
-            (Call::Next, [t, p, r]) => library.next(t, p, r, lengths, n, answer),
-            (Call::NextWithClasses, [t, c, p, r]) => {
-                library.next_with_classes(t, c, p, r, lengths, n, answer)
-            }
-            (Call::Plain, [t, p, r]) => library.match_plain(t, p, r, answer),
-            (Call::PlainWithClasses, [t, c, p, r]) => {
-                library.match_plain_with_classes(t, c, p, r, answer)
-            }
-            (Call::Rules, [t, s, r]) => library.match_rules(t, s, r, n, answer),
-            (Call::RulesWithClasses, [t, c, s, r]) => {
-                library.match_rules_with_classes(t, c, s, r, n, answer)
-            }
-            (Call::Write, [t, records]) => library.write_sheet(t, records, lengths, output),
-            (Call::Entry, [s]) => return part(library.entry(s, n)),
-            (Call::CheckRules, [t, s]) => library.check_rules(t, s),
-            (Call::CheckStates, [t, s]) => library.check_states(t, s),
-            (Call::Cost, [t, p]) => library.cost(t, p),
-            (Call::Store, [t, r]) => library.store(t, r, output),
-            (Call::Restore, [t, r]) => library.restore(t, r, output),
+        let (l, inputs) = match (self.call, &inputs[..]) {
+            (Entry, [sheet]) => return part(library.entry(sheet, n)),
+            (_, inputs) => self.language(inputs),
+        };
+        // p: pattern, r: record, s: sheet.
+        outcome(match (self.call, inputs) {
+            (Match | MatchIn, [p, r]) => library.match_one(l, p, r, n, answer),
+            (Next | NextIn, [p, r]) => library.next(l, p, r, lengths, n, answer),
+            (Plain | PlainIn, [p, r]) => library.match_plain(l, p, r, answer),
+            (Rules | RulesIn, [s, r]) => library.match_rules(l, s, r, n, answer),
+            (Write | WriteIn, [records]) => library.write_sheet(l, records, lengths, output),
+            (CheckRules | CheckRulesIn, [s]) => library.check_rules(l, s),
+            (CheckStates | CheckStatesIn, [s]) => library.check_states(l, s),
+            (Cost | CostIn, [p]) => library.cost(l, p),
+            (Store | StoreIn, [r]) => library.store(l, r, output),
+            (Restore | RestoreIn, [r]) => library.restore(l, r, output),
+            (SpliceRecord | SpliceRecordIn, [r]) => library.splice_record(l, r, output),
+            (SplicePattern | SplicePatternIn, [p]) => library.splice_pattern(l, p, output),
             _ => panic!("{self}: a wrong number of inputs"),
         })
     }
@@ -263,6 +323,9 @@ fn place<T: PartialEq + fmt::Debug>(name: &str, margin: usize, one: &[T], two: &
 impl fmt::Display for Case {
     fn fmt(&self, f: &mut fmt::Formatter) -> fmt::Result {
         write!(f, "{}", self.call.name())?;
+        if self.call.is_told() {
+            write!(f, " {}", self.edition.0)?;
+        }
         for input in &self.inputs {
             f.write_str(if input.is_empty() { " -" } else { " " })?;
             input.iter().try_for_each(|byte| write!(f, "{byte:02X}"))?;

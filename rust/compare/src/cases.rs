@@ -1,153 +1,164 @@
 //! The random cases of each call.
 
 use crate::case::{Call, Case, Kind};
-use crate::classes::Classes;
 use crate::make::{damaged_sheet, table, Maker};
 use crate::nexts::Search;
-use crate::plains;
 use crate::rng::Rng;
 use crate::skips::skip_case;
-use crate::stored;
-use interface::{sheet_of, Library, Outcome, Word, ANSWER, SHEET_LIMIT};
+use crate::told::{Forms, Told};
+use crate::{plains, splices, stored};
+use interface::{
+    sheet_of, Answer, Edition, Language, Library, Outcome, Word, ANSWER, FIRST_NAME, FIRST_RUN,
+    SHEET_LIMIT, STORED_LIMIT,
+};
+
+/// Makes a case over a table; the library gives the count that allowances are taken around.
+type Make = fn(&mut Rng, Vec<u8>, &dyn Library) -> Case;
+
+/// How often a case of each kind is made.
+const MAKERS: [(usize, Make); 14] = [
+    (40, match_case),
+    (26, next_case),
+    (24, rules_case),
+    (14, write_case),
+    (4, entry_case),
+    (13, check_rules_case),
+    (14, check_states_case),
+    (14, cost_case),
+    (16, skips),
+    (12, stored::store_case),
+    (20, stored::restore_case),
+    (20, plain_case),
+    (14, splices::record_case),
+    (12, splices::pattern_case),
+];
 
 /// A case; `library` gives the count that allowances are taken around.
 pub fn case(rng: &mut Rng, library: &dyn Library) -> Case {
     let table = table(rng);
-    match rng.below(147) {
-        0..=22 => match_case(rng, table, library),
-        23..=38 => match_with_classes_case(rng, table, library),
-        39..=49 => next_case(rng, table, library),
-        50..=63 => next_with_classes_case(rng, table, library),
-        64..=74 => rules_case(rng, table, library),
-        75..=85 => rules_with_classes_case(rng, table, library),
-        86..=91 => write_case(rng, table),
-        92..=95 => entry_case(rng, table),
-        96..=99 => {
-            let rules = rules(rng, &table, &[0]);
-            let sheet = perhaps_damaged(rng, sheet_of(&rules));
-            Case::new(Call::CheckRules, vec![table, sheet])
+    let mut place = rng.below(MAKERS.iter().map(|(weight, _)| weight).sum());
+    let mut makers = MAKERS.iter().copied();
+    loop {
+        let (weight, make) = makers.next().expect("the place is within the sum");
+        if place < weight {
+            return make(rng, table, library);
         }
-        100..=102 => {
-            let records = records(rng, &table);
-            let sheet = perhaps_damaged(rng, sheet_of(&records));
-            Case::new(Call::CheckStates, vec![table, sheet])
-        }
-        103..=106 => {
-            let (pattern, _) = pair(rng, &table, library);
-            Case::new(Call::Cost, vec![table, pattern])
-        }
-        107..=122 => match skip_case(rng, table.clone()) {
-            Some(case) => case,
-            None => match_case(rng, table, library),
-        },
-        123..=130 => stored::moved(rng, table, library),
-        131..=138 => plain_case(rng, table, library),
-        _ => plain_with_classes_case(rng, table, library),
+        place -= weight;
     }
 }
 
 fn match_case(rng: &mut Rng, table: Vec<u8>, library: &dyn Library) -> Case {
-    let (pattern, record) = pair(rng, &table, library);
-    let (number, kinds) = allowance(rng, library.find(&table, &pattern, &record, MOST).0);
-    let case = Case::new(Call::Match, vec![table, pattern, record]);
-    Case { number, kinds, room: room(rng), ..case }
+    let made = made(rng, table, library, [Call::Match, Call::MatchIn], pair);
+    let (number, kinds) = allowance(rng, made.found.0);
+    Case { number, room: room(rng), ..made.case(rng, kinds) }
 }
 
-fn match_with_classes_case(rng: &mut Rng, table: Vec<u8>, library: &dyn Library) -> Case {
-    let made = up_to_class(rng, table, library, pair);
-    let (number, kinds) = allowance(rng, made.found);
-    let UpToClass { classes, pattern, record, kinds, .. } = made.damaged(rng, kinds);
-    let inputs = vec![classes.table, classes.list, pattern, record];
-    Case { number, kinds, room: room(rng), ..Case::new(Call::MatchWithClasses, inputs) }
+fn skips(rng: &mut Rng, table: Vec<u8>, library: &dyn Library) -> Case {
+    match skip_case(rng, table.clone()) {
+        Some(case) => case,
+        None => match_case(rng, table, library),
+    }
 }
 
 fn plain_case(rng: &mut Rng, table: Vec<u8>, library: &dyn Library) -> Case {
-    let (pattern, record) = plains::pair(rng, &table, library);
-    let full = library.find(&table, &pattern, &record, MOST);
-    let kinds = plains::kinds(&table, &pattern, &record, full);
-    let case = Case::new(Call::Plain, vec![table, pattern, record]);
-    Case { kinds, room: room(rng), ..case }
-}
-
-fn plain_with_classes_case(rng: &mut Rng, table: Vec<u8>, library: &dyn Library) -> Case {
-    let made = up_to_class(rng, table, library, plains::pair);
-    let Classes { table, list } = &made.classes;
-    let full = library.find_with_classes(table, list, &made.pattern, &made.record, MOST);
-    let kinds = plains::kinds(table, &made.pattern, &made.record, full);
-    let UpToClass { classes, pattern, record, kinds, .. } = made.damaged(rng, kinds);
-    let inputs = vec![classes.table, classes.list, pattern, record];
-    Case { kinds, room: room(rng), ..Case::new(Call::PlainWithClasses, inputs) }
+    let made = made(rng, table, library, [Call::Plain, Call::PlainIn], plains::pair);
+    let kinds = plains::kinds(made.told.table(), &made.pattern, &made.record, made.found);
+    Case { room: room(rng), ..made.case(rng, kinds) }
 }
 
 fn next_case(rng: &mut Rng, table: Vec<u8>, library: &dyn Library) -> Case {
-    let (pattern, record) = pair_with_runs(rng, &table, library);
-    let pair = Search { library, table: &table, classes: None, pattern: &pattern, record: &record };
+    let made = made(rng, table, library, [Call::Next, Call::NextIn], pair_with_runs);
+    let language = made.told.language();
+    let pair = Search { library, language, pattern: &made.pattern, record: &made.record };
     let (lengths, found, kind) = pair.given(rng);
     let (number, mut kinds) = allowance(rng, found);
     kinds.extend(kind);
-    let case = Case::new(Call::Next, vec![table, pattern, record]);
-    Case { lengths, number, kinds, room: room(rng), ..case }
+    Case { lengths, number, room: room(rng), ..made.case(rng, kinds) }
 }
 
-fn next_with_classes_case(rng: &mut Rng, table: Vec<u8>, library: &dyn Library) -> Case {
-    let made = up_to_class(rng, table, library, pair_with_runs);
-    let UpToClass { classes: Classes { table, list }, pattern, record, .. } = &made;
-    let pair = Search { library, table, classes: Some(list), pattern, record };
-    let (lengths, found, kind) = pair.given(rng);
-    let (number, mut kinds) = allowance(rng, found);
+fn cost_case(rng: &mut Rng, table: Vec<u8>, library: &dyn Library) -> Case {
+    let told = Told::new(rng, table, [Call::Cost, Call::CostIn], false);
+    let ((pattern, _), kind) = mended(rng, &told, library, pair);
+    let mut kinds = told.kinds(&[&pattern]);
     kinds.extend(kind);
-    let UpToClass { classes, pattern, record, kinds, .. } = made.damaged(rng, kinds);
-    let inputs = vec![classes.table, classes.list, pattern, record];
-    Case { lengths, number, kinds, room: room(rng), ..Case::new(Call::NextWithClasses, inputs) }
+    told.case(rng, vec![pattern], kinds)
 }
 
-/// What a match up to class is made of.
-struct UpToClass {
-    classes: Classes,
+/// What a match is made of.
+struct Made {
+    told: Told,
     pattern: Vec<u8>,
     record: Vec<u8>,
-    /// The outcome with the allowance [`MOST`].
-    found: Outcome,
+    /// What it comes to with the allowance [`MOST`].
+    found: (Outcome, Answer),
     kinds: Vec<Kind>,
 }
 
-impl UpToClass {
-    /// The same with further kinds and, now and then, a damaged class list.
-    fn damaged(mut self, rng: &mut Rng, kinds: Vec<Kind>) -> Self {
-        self.kinds.extend(kinds);
-        if rng.chance(12) {
-            self.kinds.extend(self.classes.damage(rng));
-        }
-        self
+impl Made {
+    /// The case, with further kinds.
+    fn case(self, rng: &mut Rng, kinds: Vec<Kind>) -> Case {
+        let Made { told, pattern, record, .. } = self;
+        told.case(rng, vec![pattern, record], [self.kinds, kinds].concat())
     }
+}
+
+/// A match of a pair that is made so.
+fn made(
+    rng: &mut Rng,
+    table: Vec<u8>,
+    library: &dyn Library,
+    forms: Forms,
+    pair: MakePair,
+) -> Made {
+    let by_sheet = forms[0] == Call::Rules;
+    let told = Told::new(rng, table, forms, by_sheet);
+    let compared = told.brings() && told.edition == Edition::ONE && rng.chance(30);
+    let twins = if compared { told.classes.twins(rng) } else { None };
+    let (pattern, record, kind) = match twins {
+        Some((pattern, record, kind)) => (pattern, record, Some(kind)),
+        None => {
+            let ((pattern, record), kind) = mended(rng, &told, library, pair);
+            (pattern, told.classes.exchanged(rng, record), kind)
+        }
+    };
+    let find = |language: Language| library.find(language, &pattern, &record, MOST);
+    let language = told.language();
+    let found = find(language);
+    let decide = told.brings() && find(Language { classes: None, ..language }) != found;
+    let mut kinds = told.kinds(&[&pattern, &record]);
+    kinds.extend(kind);
+    kinds.extend(decide.then_some(Kind::ClassesDecide));
+    Made { told, pattern, record, found, kinds }
 }
 
 /// A pattern and a record over a table.
 pub type Pair = (Vec<u8>, Vec<u8>);
 
-/// A match up to class, of a pair that is made so.
-fn up_to_class(
+type MakePair = fn(&mut Rng, &[u8], &dyn Library) -> Pair;
+
+/// A pair that is made so, as the language asks for it, now and then with a stray run name; and the
+/// kind that this gives it.
+fn mended(
     rng: &mut Rng,
-    table: Vec<u8>,
+    told: &Told,
     library: &dyn Library,
-    pair: fn(&mut Rng, &[u8], &dyn Library) -> Pair,
-) -> UpToClass {
-    let classes = Classes::new(rng, table);
-    let twins = if rng.chance(20) { classes.twins(rng) } else { None };
-    let (pattern, record, kind) = match twins {
-        Some((pattern, record, kind)) => (pattern, record, Some(kind)),
-        None => {
-            let (pattern, record) = pair(rng, &classes.table, library);
-            (pattern, classes.exchanged(rng, record), None)
-        }
-    };
-    let Classes { table, list } = &classes;
-    let found = library.find_with_classes(table, list, &pattern, &record, MOST);
-    let decide = library.find(table, &pattern, &record, MOST) != found;
-    let mut kinds = vec![classes.kind()];
-    kinds.extend(kind);
-    kinds.extend(decide.then_some(Kind::ClassesDecide));
-    UpToClass { classes, pattern, record, found: found.0, kinds }
+    pair: MakePair,
+) -> (Pair, Option<Kind>) {
+    let (mut pattern, record) = pair(rng, told.table(), library);
+    if rng.chance(3) {
+        pattern = with_another_run(rng, pattern);
+    }
+    told.mended_pair(rng, library, (pattern, record))
+}
+
+/// A pattern with a run name in place of a name, which may be a stray one.
+pub fn with_another_run(rng: &mut Rng, mut pattern: Vec<u8>) -> Vec<u8> {
+    let is_name = |at: &usize| (FIRST_NAME..FIRST_RUN).contains(&pattern[*at]);
+    let names: Vec<usize> = (0..pattern.len()).filter(is_name).collect();
+    if !names.is_empty() {
+        pattern[rng.pick(&names)] = FIRST_RUN;
+    }
+    pattern
 }
 
 /// A pattern and a record, any.
@@ -175,7 +186,7 @@ fn pair_with_runs(rng: &mut Rng, table: &[u8], library: &dyn Library) -> Pair {
         }
     };
     tried(pair, |(pattern, record)| {
-        Search { library, table, classes: None, pattern, record }.has_run_lengths()
+        Search { library, language: Language::simple(table), pattern, record }.has_run_lengths()
     })
 }
 
@@ -183,7 +194,9 @@ fn pair_with_runs(rng: &mut Rng, table: &[u8], library: &dyn Library) -> Pair {
 fn long_search(rng: &mut Rng, table: &[u8], library: &dyn Library) -> Pair {
     let mut maker = Maker::new(rng, table);
     let pair = || (maker.search(), maker.row(80));
-    tried(pair, |(pattern, record)| library.find(table, pattern, record, MOST).0.count > 1_000)
+    tried(pair, |(pattern, record)| {
+        library.find(Language::simple(table), pattern, record, MOST).0.count > 1_000
+    })
 }
 
 /// The first of some tries that is as wanted, or else any.
@@ -193,30 +206,62 @@ fn tried(mut pair: impl FnMut() -> Pair, wanted: impl Fn(&Pair) -> bool) -> Pair
 }
 
 fn rules_case(rng: &mut Rng, table: Vec<u8>, library: &dyn Library) -> Case {
-    let record = Maker::new(rng, &table).record();
-    let rules = rules(rng, &table, &record);
-    let one = rng.below(rules.len().max(1));
-    let none = Vec::new();
-    let pattern = rules.get(one).unwrap_or(&none);
-    let (number, kinds) = allowance(rng, library.find(&table, pattern, &record, MOST).0);
-    let rules = perhaps_damaged(rng, sheet_of(&rules));
-    let case = Case::new(Call::Rules, vec![table, rules, record]);
-    Case { number, kinds, room: room(rng), ..case }
+    let made = made(rng, table, library, [Call::Rules, Call::RulesIn], pair);
+    let (number, kinds) = allowance(rng, made.found.0);
+    let Made { told, pattern, record, .. } = made;
+    let mut rules = rules(rng, told.table(), &record);
+    rules = told.mended_entries(rng, library, rules);
+    if rng.chance(95) {
+        rules.insert(rng.below(rules.len() + 1), pattern);
+    }
+    let last = told.perhaps_last(rng, &mut rules);
+    let sheet = perhaps_damaged(rng, sheet_of(told.edition, &rules));
+    let mut kinds = [made.kinds, kinds].concat();
+    kinds.extend(last);
+    let case = told.case(rng, vec![sheet, record], kinds);
+    Case { number, room: room(rng), ..case }
 }
 
-fn rules_with_classes_case(rng: &mut Rng, table: Vec<u8>, library: &dyn Library) -> Case {
-    let made = up_to_class(rng, table, library, pair);
-    let (number, kinds) = allowance(rng, made.found);
-    let UpToClass { classes, pattern, record, kinds, .. } = made.damaged(rng, kinds);
-    let mut rules = rules(rng, &classes.table, &record);
-    rules.insert(rng.below(rules.len() + 1), pattern);
-    let rules = perhaps_damaged(rng, sheet_of(&rules));
-    let inputs = vec![classes.table, classes.list, rules, record];
-    Case { number, kinds, room: room(rng), ..Case::new(Call::RulesWithClasses, inputs) }
+fn check_rules_case(rng: &mut Rng, table: Vec<u8>, library: &dyn Library) -> Case {
+    let told = Told::new(rng, table, [Call::CheckRules, Call::CheckRulesIn], true);
+    let record = Maker::new(rng, told.table()).record();
+    let rules = rules(rng, told.table(), &record);
+    checked(rng, told, library, rules)
 }
 
-fn write_case(rng: &mut Rng, table: Vec<u8>) -> Case {
-    let records = records(rng, &table);
+fn check_states_case(rng: &mut Rng, table: Vec<u8>, library: &dyn Library) -> Case {
+    let told = Told::new(rng, table, [Call::CheckStates, Call::CheckStatesIn], true);
+    let records = records(rng, told.table());
+    checked(rng, told, library, records)
+}
+
+/// The check of a sheet of these entries.
+fn checked(rng: &mut Rng, told: Told, library: &dyn Library, entries: Vec<Vec<u8>>) -> Case {
+    let (entries, kinds) = in_a_sheet(rng, &told, library, entries);
+    let sheet = perhaps_damaged(rng, sheet_of(told.edition, &entries));
+    told.case(rng, vec![sheet], kinds)
+}
+
+/// Entries as a sheet of a language has them, and their kinds.
+fn in_a_sheet(
+    rng: &mut Rng,
+    told: &Told,
+    library: &dyn Library,
+    entries: Vec<Vec<u8>>,
+) -> (Vec<Vec<u8>>, Vec<Kind>) {
+    let entries = told.mended_entries(rng, library, entries);
+    let mut entries: Vec<_> =
+        entries.into_iter().map(|entry| told.classes.exchanged(rng, entry)).collect();
+    let last = told.perhaps_last(rng, &mut entries);
+    let mut kinds = told.kinds(&entries.iter().map(Vec::as_slice).collect::<Vec<_>>());
+    kinds.extend(last);
+    (entries, kinds)
+}
+
+fn write_case(rng: &mut Rng, table: Vec<u8>, library: &dyn Library) -> Case {
+    let told = Told::new(rng, table, [Call::Write, Call::WriteIn], false);
+    let records = records(rng, told.table());
+    let (records, kinds) = in_a_sheet(rng, &told, library, records);
     let mut lengths: Vec<u16> = records.iter().map(|record| record.len() as u16).collect();
     let mut records = records.concat();
     match rng.below(400) {
@@ -237,18 +282,36 @@ fn write_case(rng: &mut Rng, table: Vec<u8>) -> Case {
         2..=5 => size,
         _ => size + rng.below(40),
     };
-    Case { lengths, room, ..Case::new(Call::Write, vec![table, records]) }
+    Case { lengths, room, ..told.case(rng, vec![records], kinds) }
 }
 
-fn entry_case(rng: &mut Rng, table: Vec<u8>) -> Case {
+fn entry_case(rng: &mut Rng, table: Vec<u8>, _: &dyn Library) -> Case {
     let entries = records(rng, &table);
     let number = match rng.below(10) {
         0 => entries.len(),
         1 => rng.pick(&[u32::MAX as usize, 65_535, 65_536, 1 << 24]),
         _ => rng.below(entries.len().max(1)),
     };
-    let sheet = perhaps_damaged(rng, sheet_of(&entries));
+    let edition = rng.pick(&[Edition::ONE, Edition::TWO]);
+    let sheet = perhaps_damaged(rng, sheet_of(edition, &entries));
     Case { number: number as u32, ..Case::new(Call::Entry, vec![sheet]) }
+}
+
+/// A case that writes, with a room around what is written: that, one byte less or more, none, or
+/// plenty.
+pub fn with_room(rng: &mut Rng, case: Case, library: &dyn Library) -> Case {
+    let mut case = Case { room: STORED_LIMIT, ..case };
+    let [_, _, length] = case.run(library, 0, 0).result;
+    let length = length as usize;
+    let (room, kind) = match rng.below(8) {
+        0 => (length.saturating_sub(1), Some(Kind::OneByteShort)),
+        1 => (0, None),
+        2 => (length + 1, None),
+        3 => (STORED_LIMIT, None),
+        _ => (length, Some(Kind::JustEnough)),
+    };
+    case.kinds.extend(kind);
+    Case { room, ..case }
 }
 
 /// Patterns of a rule sheet, most of them for a record.
@@ -279,7 +342,7 @@ fn records(rng: &mut Rng, table: &[u8]) -> Vec<Vec<u8>> {
         _ => {
             let number = maker.rng.below(5);
             let mut records: Vec<_> = (0..number).map(|_| maker.term(20)).collect();
-            records.extend((maker.rng.chance(40)).then(|| maker.record()));
+            records.extend((maker.rng.chance(60)).then(|| maker.record()));
             records
         }
     }

@@ -12,7 +12,7 @@ pub struct Histogram {
 }
 
 /// The kinds in their order, the words with which they count, and the calls that must have them.
-const KINDS: [(&str, &[Word], &[Call]); 45] = [
+const KINDS: [(&str, &[Word], &[Call]); 59] = [
     ("record over 1,000 bytes, not spent", &ENDED, &RECORDS),
     ("pattern over 100 bytes, not spent", &ENDED, &PATTERNS),
     ("count over 1,000, not spent", &ENDED, &SEARCHES),
@@ -21,19 +21,19 @@ const KINDS: [(&str, &[Word], &[Call]); 45] = [
     ("allowance one below the count", &SEARCHED, &SEARCHES),
     ("allowance at the count", &SEARCHED, &SEARCHES),
     ("allowance far above the count", &SEARCHED, &SEARCHES),
-    ("each symbol its own class", &ACCEPTED, &BRINGING),
-    ("symbols that share a class", &ACCEPTED, &BRINGING),
-    ("another answer than without classes", &ACCEPTED, &BRINGING),
+    ("each symbol its own class", &ACCEPTED, &SEARCHED_IN),
+    ("symbols that share a class", &ACCEPTED, &SEARCHED_IN),
+    ("another answer than without classes", &ACCEPTED, &SEARCHED_IN),
     ("a name's parts the same up to class, of unlike bytes", &ACCEPTED, &WITH_CLASSES),
     ("a run name's parts the same up to class, of unlike bytes", &ACCEPTED, &WITH_CLASSES),
     ("a name's parts with unlike numbers of children of one class", &ACCEPTED, &WITH_CLASSES),
     ("a run name's parts with unlike numbers of children of one class", &ACCEPTED, &WITH_CLASSES),
-    ("class list that is empty", &[Word::Class], &BRINGING),
-    ("class list one short", &[Word::Class], &BRINGING),
-    ("class list one long", &[Word::Class], &BRINGING),
-    ("class above its own index", &[Word::Class], &BRINGING),
-    ("class that is not its own", &[Word::Class], &BRINGING),
-    ("class with unlike table bytes", &[Word::Class], &BRINGING),
+    ("class list that is empty", &[Word::Class], &SEARCHED_IN),
+    ("class list one short", &[Word::Class], &SEARCHED_IN),
+    ("class list one long", &[Word::Class], &SEARCHED_IN),
+    ("class above its own index", &[Word::Class], &SEARCHED_IN),
+    ("class that is not its own", &[Word::Class], &SEARCHED_IN),
+    ("class with unlike table bytes", &[Word::Class], &SEARCHED_IN),
     ("after the only answer, which has no run names, not spent", &ENDED, &NEXTS),
     ("after the first answer by its run lengths, not spent", &ENDED, &NEXTS),
     ("after a later answer by its run lengths, not spent", &ENDED, &NEXTS),
@@ -94,53 +94,122 @@ const KINDS: [(&str, &[Word], &[Call]); 45] = [
     ("plain, where the full search is not spent", &ENDED, &PLAINS),
     ("a name or run name twice, or two run names in a list", &[Word::NotPlain], &PLAINS),
     ("a complement, for the plain tier", &[Word::NotPlain], &PLAINS),
+    ("edition 2", &ACCEPTED, &READERS),
+    ("edition 2, a list in a list of its class mended", &ACCEPTED, &MENDED),
+    ("edition 2, a list in a list of another class", &ACCEPTED, &MENDED),
+    ("edition 2, a list below a complement in a list of its class", &ACCEPTED, &BELOW),
+    ("edition 2, a list in a list of its class by unlike symbols", &[Word::Unspliced], &BY_CLASS),
+    ("edition 2, unspliced, and its number of children missing", &[Word::Unspliced], &READERS),
+    ("edition 2, unspliced at nesting 33", &[Word::Deep], &READERS),
+    ("another edition than 1 and 2", &[Word::Directory], &TOLD),
+    ("spliced by class, of unlike symbols", &[Word::Bound], &SPLICES_IN),
+    ("an inner list without elements, spliced", &[Word::Bound], &SPLICES),
+    ("255 elements when spliced", &[Word::Bound], &SPLICED_RECORDS),
+    ("256 elements when spliced", &[Word::Long], &SPLICED_RECORDS),
+    ("an output of just the length", &[Word::Bound], &MOVES),
+    ("an output of one byte less", &[Word::Full], &MOVES),
 ];
 const SPENT: [Word; 1] = [Word::Spent];
 const ENDED: [Word; 2] = [Word::Bound, Word::None];
 const ACCEPTED: [Word; 3] = [Word::Bound, Word::None, Word::Spent];
 const SEARCHED: [Word; 4] = [Word::Bound, Word::None, Word::Spent, Word::Unknown];
-const PATTERNS: [Call; 5] =
-    [Call::Match, Call::MatchWithClasses, Call::Plain, Call::PlainWithClasses, Call::Cost];
-const RECORDS: [Call; 6] = [
-    Call::Match,
-    Call::MatchWithClasses,
-    Call::Next,
-    Call::NextWithClasses,
-    Call::Plain,
-    Call::PlainWithClasses,
-];
-const WITH_A_PATTERN: [Call; 5] =
-    [Call::Match, Call::MatchWithClasses, Call::Next, Call::NextWithClasses, Call::Cost];
-const PLAINS: [Call; 2] = [Call::Plain, Call::PlainWithClasses];
-const MOVES: [Call; 2] = [Call::Store, Call::Restore];
-const NEXTS: [Call; 2] = [Call::Next, Call::NextWithClasses];
-const SEARCHES: [Call; 4] =
-    [Call::Match, Call::MatchWithClasses, Call::Next, Call::NextWithClasses];
-const WITH_AN_ALLOWANCE: [Call; 6] = [
-    Call::Match,
-    Call::MatchWithClasses,
-    Call::Next,
-    Call::NextWithClasses,
-    Call::Rules,
-    Call::RulesWithClasses,
-];
+const PATTERNS: [Call; 6] =
+    [Call::Match, Call::MatchIn, Call::Plain, Call::PlainIn, Call::Cost, Call::CostIn];
+const RECORDS: [Call; 6] =
+    [Call::Match, Call::MatchIn, Call::Next, Call::NextIn, Call::Plain, Call::PlainIn];
+const WITH_A_PATTERN: [Call; 6] =
+    [Call::Match, Call::MatchIn, Call::Next, Call::NextIn, Call::Cost, Call::CostIn];
+const PLAINS: [Call; 2] = [Call::Plain, Call::PlainIn];
+const NEXTS: [Call; 2] = [Call::Next, Call::NextIn];
+const SEARCHES: [Call; 4] = [Call::Match, Call::MatchIn, Call::Next, Call::NextIn];
+const WITH_AN_ALLOWANCE: [Call; 6] =
+    [Call::Match, Call::MatchIn, Call::Next, Call::NextIn, Call::Rules, Call::RulesIn];
 const WITH_AN_ANSWER: [Call; 8] = [
     Call::Match,
-    Call::MatchWithClasses,
+    Call::MatchIn,
     Call::Next,
-    Call::NextWithClasses,
+    Call::NextIn,
     Call::Plain,
-    Call::PlainWithClasses,
+    Call::PlainIn,
     Call::Rules,
-    Call::RulesWithClasses,
+    Call::RulesIn,
 ];
-const MATCHES: [Call; 4] =
-    [Call::Match, Call::MatchWithClasses, Call::Rules, Call::RulesWithClasses];
-const WITH_CLASSES: [Call; 3] =
-    [Call::MatchWithClasses, Call::NextWithClasses, Call::RulesWithClasses];
-
-const BRINGING: [Call; 4] =
-    [Call::MatchWithClasses, Call::NextWithClasses, Call::PlainWithClasses, Call::RulesWithClasses];
+const MATCHES: [Call; 4] = [Call::Match, Call::MatchIn, Call::Rules, Call::RulesIn];
+const WITH_CLASSES: [Call; 3] = [Call::MatchIn, Call::NextIn, Call::RulesIn];
+const SEARCHED_IN: [Call; 4] = [Call::MatchIn, Call::NextIn, Call::PlainIn, Call::RulesIn];
+const WRITERS: [Call; 2] = [Call::Write, Call::WriteIn];
+const RULES: [Call; 2] = [Call::CheckRules, Call::CheckRulesIn];
+const SPLICES: [Call; 4] =
+    [Call::SpliceRecord, Call::SpliceRecordIn, Call::SplicePattern, Call::SplicePatternIn];
+const SPLICES_IN: [Call; 2] = [Call::SpliceRecordIn, Call::SplicePatternIn];
+const SPLICED_RECORDS: [Call; 2] = [Call::SpliceRecord, Call::SpliceRecordIn];
+const RESTORES: [Call; 2] = [Call::Restore, Call::RestoreIn];
+const MOVES: [Call; 8] = [
+    Call::Store,
+    Call::StoreIn,
+    Call::Restore,
+    Call::RestoreIn,
+    Call::SpliceRecord,
+    Call::SpliceRecordIn,
+    Call::SplicePattern,
+    Call::SplicePatternIn,
+];
+const TOLD: [Call; 7] = [
+    Call::MatchIn,
+    Call::NextIn,
+    Call::PlainIn,
+    Call::WriteIn,
+    Call::CostIn,
+    Call::StoreIn,
+    Call::RestoreIn,
+];
+/// The calls whose sheet tells the edition.
+const WITH_A_SHEET: [Call; 6] = [
+    Call::Rules,
+    Call::RulesIn,
+    Call::CheckRules,
+    Call::CheckRulesIn,
+    Call::CheckStates,
+    Call::CheckStatesIn,
+];
+/// The calls that read records or patterns in edition 2.
+const READERS: [Call; 13] = [
+    Call::MatchIn,
+    Call::NextIn,
+    Call::PlainIn,
+    Call::Rules,
+    Call::RulesIn,
+    Call::WriteIn,
+    Call::CheckRules,
+    Call::CheckRulesIn,
+    Call::CheckStates,
+    Call::CheckStatesIn,
+    Call::CostIn,
+    Call::StoreIn,
+    Call::RestoreIn,
+];
+const MENDED: [Call; 7] = [
+    Call::MatchIn,
+    Call::NextIn,
+    Call::PlainIn,
+    Call::Rules,
+    Call::RulesIn,
+    Call::StoreIn,
+    Call::RestoreIn,
+];
+const BELOW: [Call; 5] = [Call::MatchIn, Call::NextIn, Call::Rules, Call::RulesIn, Call::CostIn];
+const BY_CLASS: [Call; 10] = [
+    Call::MatchIn,
+    Call::NextIn,
+    Call::PlainIn,
+    Call::RulesIn,
+    Call::WriteIn,
+    Call::CheckRulesIn,
+    Call::CheckStatesIn,
+    Call::CostIn,
+    Call::StoreIn,
+    Call::RestoreIn,
+];
 
 impl Histogram {
     pub(crate) fn new() -> Self {
@@ -186,7 +255,7 @@ impl Histogram {
 /// The kinds that a case of a search or of a cost has by its sizes and its count.
 fn sizes(case: &Case, count: u64) -> impl Iterator<Item = Kind> {
     let (pattern, record): (&[u8], &[u8]) = match (case.call, &case.inputs[..]) {
-        (Call::Cost, [_, pattern]) => (pattern, &[]),
+        (Call::Cost | Call::CostIn, [.., pattern]) => (pattern, &[]),
         (call, [.., pattern, record]) if RECORDS.contains(&call) => (pattern, record),
         _ => (&[], &[]),
     };
@@ -199,25 +268,27 @@ fn sizes(case: &Case, count: u64) -> impl Iterator<Item = Kind> {
 
 /// Whether a call can give a word.
 fn can_give(call: Call, word: Word) -> bool {
-    use Call::*;
+    let reads_patterns = [&WITH_AN_ANSWER[..], &WITH_A_PATTERN, &RULES].concat().contains(&call)
+        || [Call::SplicePattern, Call::SplicePatternIn].contains(&call);
+    let is_told = TOLD.contains(&call);
     match word {
         Word::Bound | Word::Long => true,
-        Word::Table | Word::Short | Word::Spare | Word::Code | Word::Deep => call != Entry,
-        Word::Stray => !matches!(call, Write | Entry | CheckStates | Store | Restore),
-        Word::None => !matches!(call, Write | Entry | CheckRules | CheckStates | Store | Restore),
-        Word::Narrow => {
-            !matches!(call, Write | Entry | CheckRules | CheckStates | Cost | Store | Restore)
+        Word::Table | Word::Short | Word::Spare | Word::Code | Word::Deep => call != Call::Entry,
+        Word::Stray => reads_patterns,
+        Word::None => [&WITH_AN_ANSWER[..], &WITH_A_PATTERN].concat().contains(&call),
+        Word::Narrow => WITH_AN_ANSWER.contains(&call),
+        Word::Spent => WITH_AN_ALLOWANCE.contains(&call),
+        Word::Directory => {
+            is_told || call == Call::Entry || [&WITH_A_SHEET[..], &WRITERS].concat().contains(&call)
         }
-        Word::Spent => can_give(call, Word::Narrow) && !PLAINS.contains(&call),
-        Word::Directory => ![&WITH_A_PATTERN[..], &MOVES, &PLAINS].concat().contains(&call),
-        Word::Full => call == Write || MOVES.contains(&call),
-        Word::Unread => false,
-        Word::Unspliced | Word::Loose | Word::Outgrown | Word::NoName => false,
-        Word::Shelf | Word::NoExample | Word::Turns => false,
-        Word::Class => BRINGING.contains(&call),
+        Word::Full => [&MOVES[..], &WRITERS].concat().contains(&call),
+        Word::Class => call.brings(),
         Word::Unknown => NEXTS.contains(&call),
-        Word::Length => call == Restore,
+        Word::Unspliced => READERS.contains(&call),
+        Word::Length => RESTORES.contains(&call),
         Word::NotPlain => PLAINS.contains(&call),
+        Word::Unread | Word::Loose | Word::Outgrown | Word::NoName => false,
+        Word::Shelf | Word::NoExample | Word::Turns => false,
     }
 }
 

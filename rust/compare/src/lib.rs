@@ -10,7 +10,9 @@ mod nexts;
 mod plains;
 mod rng;
 mod skips;
+mod splices;
 mod stored;
+mod told;
 
 pub use histogram::Histogram;
 

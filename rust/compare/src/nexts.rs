@@ -3,32 +3,25 @@
 use crate::case::Kind;
 use crate::cases::MOST;
 use crate::rng::Rng;
-use interface::{Answers, Library, Outcome, Word, ANSWER};
+use interface::{Answers, Language, Library, Outcome, Word, ANSWER};
 
-/// A pattern on a record, up to class if there is a class list.
+/// A pattern on a record.
 pub struct Search<'a> {
     pub library: &'a dyn Library,
-    pub table: &'a [u8],
-    pub classes: Option<&'a [u8]>,
+    pub language: Language<'a>,
     pub pattern: &'a [u8],
     pub record: &'a [u8],
 }
 
 impl Search<'_> {
     fn answers(&self) -> Answers<'_> {
-        let Search { library, table, classes, pattern, record } = *self;
-        Answers::new(library, table, classes, pattern, record, MOST)
+        let Search { library, language, pattern, record } = *self;
+        Answers::new(library, language, pattern, record, MOST)
     }
 
     fn next(&self, given: &[u16], allowance: u32) -> Outcome {
-        let Search { library, table, classes, pattern, record } = *self;
-        let answer = &mut [0; ANSWER];
-        match classes {
-            None => library.next(table, pattern, record, given, allowance, answer),
-            Some(classes) => {
-                library.next_with_classes(table, classes, pattern, record, given, allowance, answer)
-            }
-        }
+        let Search { library, language, pattern, record } = *self;
+        library.next(language, pattern, record, given, allowance, &mut [0; ANSWER])
     }
 
     /// Whether there is an answer, with run names.

@@ -6,7 +6,7 @@ use crate::cases::room;
 use crate::classes::{list_of, Classes};
 use crate::make::Maker;
 use crate::rng::Rng;
-use interface::{sheet_of, COMPLEMENT, FIRST_NAME, FIRST_RUN, LIST};
+use interface::{sheet_of, Edition, COMPLEMENT, FIRST_NAME, FIRST_RUN, LIST};
 
 /// What decides that a length cannot hold.
 #[derive(Clone, Copy, PartialEq, Eq)]
@@ -62,11 +62,11 @@ struct Skip {
 /// A case of a call, if the table has a list and terms that start in two ways.
 pub fn skip_case(rng: &mut Rng, table: Vec<u8>) -> Option<Case> {
     use Call::*;
-    let call = rng.pick(&[Match, MatchWithClasses, Next, NextWithClasses, Rules, RulesWithClasses]);
-    let brought = matches!(call, MatchWithClasses | NextWithClasses | RulesWithClasses);
+    let call = rng.pick(&[Match, MatchIn, Next, NextIn, Rules, RulesIn]);
+    let brought = matches!(call, MatchIn | NextIn | RulesIn);
     let classes = if brought { Classes::new(rng, table) } else { Classes::own(table) };
     let elements = elements(rng, &classes)?;
-    let after_an_answer = matches!(call, Next | NextWithClasses);
+    let after_an_answer = matches!(call, Next | NextIn);
     let all = [Decides::Symbol, Decides::Name, Decides::Run, Decides::Last];
     // After an answer a last run name has no length left.
     let decides = rng.pick(if after_an_answer { &all[..3] } else { &all });
@@ -77,7 +77,7 @@ pub fn skip_case(rng: &mut Rng, table: Vec<u8>) -> Option<Case> {
     let (number, kind) = allowance(rng, &elements, &skip, decides.each());
     let record = classes.exchanged(rng, skip.record);
     let rule = match call {
-        Rules | RulesWithClasses => sheet_of(&vec![skip.pattern; rng.between(1, 3)]),
+        Rules | RulesIn => sheet_of(Edition::ONE, &vec![skip.pattern; rng.between(1, 3)]),
         _ => skip.pattern,
     };
     let Classes { table, list } = classes;

@@ -1,24 +1,55 @@
 //! The random cases of the stored form.
 
-use crate::case::{Call, Case};
+use crate::case::{Call, Case, Kind};
+use crate::cases::with_room;
 use crate::make::{damaged, Maker};
 use crate::rng::Rng;
-use interface::{Library, LIST, RECORD_LIMIT, STORED_LIMIT};
+use crate::told::{Forms, Told};
+use interface::{Edition, Language, Library, LIST, RECORD_LIMIT, STORED_LIMIT};
 
-/// A move to the stored form or back, whose output has a room around what is written.
-pub fn moved(rng: &mut Rng, table: Vec<u8>, library: &dyn Library) -> Case {
-    let record = Maker::new(rng, &table).record();
-    let (call, bytes) = match rng.chance(35) {
-        true => (Call::Store, record),
-        false => (Call::Restore, stored(rng, &table, record, library)),
-    };
-    let case = Case::new(call, vec![table, bytes]);
-    let room = room(rng, &case, library);
-    Case { room, ..case }
+/// What becomes of a record before it is moved, and a further kind of it.
+type Turn = fn(&mut Rng, &Told, Vec<u8>, &dyn Library) -> (Vec<u8>, Option<Kind>);
+
+/// A move to the stored form.
+pub fn store_case(rng: &mut Rng, table: Vec<u8>, library: &dyn Library) -> Case {
+    moved(rng, table, library, [Call::Store, Call::StoreIn], |_, _, record, _| (record, None))
+}
+
+/// A move back.
+pub fn restore_case(rng: &mut Rng, table: Vec<u8>, library: &dyn Library) -> Case {
+    moved(rng, table, library, [Call::Restore, Call::RestoreIn], stored)
+}
+
+/// A move of what a record is turned into, whose output has a room around what is written.
+fn moved(rng: &mut Rng, table: Vec<u8>, library: &dyn Library, forms: Forms, turned: Turn) -> Case {
+    let told = Told::new(rng, table, forms, false);
+    let record = Maker::new(rng, told.table()).record();
+    let ((_, record), kind) = told.mended_pair(rng, library, (Vec::new(), record));
+    let record = told.classes.exchanged(rng, record);
+    let mut kinds = told.kinds(&[&record]);
+    kinds.extend(kind);
+    let (bytes, kind) = turned(rng, &told, record, library);
+    kinds.extend(kind);
+    let case = told.case(rng, vec![bytes], kinds);
+    with_room(rng, case, library)
+}
+
+/// A stored record, now and then unspliced at its end.
+fn stored(
+    rng: &mut Rng,
+    told: &Told,
+    record: Vec<u8>,
+    library: &dyn Library,
+) -> (Vec<u8>, Option<Kind>) {
+    let wanted = told.edition == Edition::TWO && rng.chance(5);
+    match told.unspliced(rng, true).filter(|_| wanted) {
+        Some((bytes, kind)) => (bytes, Some(kind)),
+        None => (with_fault(rng, told.table(), record, library), None),
+    }
 }
 
 /// A stored record, mostly with a fault.
-fn stored(rng: &mut Rng, table: &[u8], record: Vec<u8>, library: &dyn Library) -> Vec<u8> {
+fn with_fault(rng: &mut Rng, table: &[u8], record: Vec<u8>, library: &dyn Library) -> Vec<u8> {
     if rng.chance(2) {
         let length = STORED_LIMIT + rng.between(0, 2);
         return Maker::new(rng, table).full(length);
@@ -27,14 +58,14 @@ fn stored(rng: &mut Rng, table: &[u8], record: Vec<u8>, library: &dyn Library) -
         return long(table, rng.pick(&[0, 1, 2]));
     }
     let mut bytes = vec![0; STORED_LIMIT];
-    let written = library.store(table, &record, &mut bytes);
+    let written = library.store(Language::simple(table), &record, &mut bytes);
     if written.number != 0 {
         return record;
     }
     bytes.truncate(written.count as usize);
     match rng.below(100) {
-        0..=34 => bytes,
-        35..=74 => wrong_length(rng, table, bytes),
+        0..=44 => bytes,
+        45..=74 => wrong_length(rng, table, bytes),
         75..=79 => {
             let wrong = wrong_length(rng, table, bytes);
             damaged(rng, wrong)
@@ -81,22 +112,4 @@ fn lengths(table: &[u8], bytes: &[u8]) -> Vec<usize> {
         at += if list { 4 } else { 1 };
     }
     places
-}
-
-/// The room of an output: what is written, one byte less or more, none, or plenty.
-fn room(rng: &mut Rng, case: &Case, library: &dyn Library) -> usize {
-    let [table, bytes] = &case.inputs[..] else { return 0 };
-    let mut output = vec![0; STORED_LIMIT];
-    let count = match case.call {
-        Call::Store => library.store(table, bytes, &mut output),
-        _ => library.restore(table, bytes, &mut output),
-    }
-    .count as usize;
-    match rng.below(8) {
-        0 => count.saturating_sub(1),
-        1 => 0,
-        2 => count + 1,
-        3 => STORED_LIMIT,
-        _ => count,
-    }
 }

@@ -3,7 +3,7 @@
 #![cfg(feature = "link")]
 
 use compare::Cases;
-use interface::{Answer, Answers, Library, Outcome};
+use interface::{Answer, Answers, Edition, Language, Library, Outcome, ABSENT, ANSWER};
 use proved::Proved;
 use reference::{Reference, Shortcuts};
 
@@ -21,7 +21,8 @@ fn listed(
     allowance: u32,
 ) -> Vec<Result<(Answer, u64), Outcome>> {
     let record = [vec![1, elements], vec![0; elements.into()]].concat();
-    Answers::new(library, &[0, 255], None, &[1, 3, 232, 233, 234], &record, allowance).collect()
+    let language = Language::simple(&[0, 255]);
+    Answers::new(library, language, &[1, 3, 232, 233, 234], &record, allowance).collect()
 }
 
 #[test]
@@ -35,4 +36,51 @@ fn every_answer() {
     let spent = listed(&Proved, 12, 17);
     assert!(spent.last().is_some_and(Result::is_err));
     assert_eq!(spent, listed(&Reference, 12, 17));
+}
+
+/// Each call takes the form that the language asks for: with and without a class list, in both
+/// editions and in one that there is not.
+#[test]
+fn every_language() {
+    let table = [0, 255, 255];
+    // open, a list, a list in a list of its symbol, and of the other.
+    let all: [&[u8]; 4] = [&[0], &[1, 1, 0], &[1, 2, 0, 1, 0], &[1, 2, 2, 0, 0]];
+    let simple = Language::simple(&table);
+    for language in [simple, simple.with_classes(&[0, 1, 1]), simple.with_classes(&[0])] {
+        for edition in [Edition::ONE, Edition::TWO, Edition(3)] {
+            for bytes in all {
+                let language = language.in_edition(edition);
+                let [one, two] = [&Proved as &dyn Library, &Reference]
+                    .map(|library| shown_by(library, language, bytes));
+                assert_eq!(one, two, "{language:?}, {bytes:?}");
+            }
+        }
+    }
+}
+
+/// A call with an answer and an output.
+type Called<'a> = dyn Fn(&mut [u16], &mut [u8]) -> Outcome + 'a;
+
+/// What each call with a language shows and writes.
+fn shown_by(library: &dyn Library, l: Language, bytes: &[u8]) -> Vec<(Outcome, Vec<u16>, Vec<u8>)> {
+    let sheet = interface::sheet_of(l.edition, &[bytes.to_vec()]);
+    let calls: [&Called; 12] = [
+        &|a, _| library.match_one(l, bytes, bytes, 99, a),
+        &|a, _| library.next(l, bytes, bytes, &[], 99, a),
+        &|a, _| library.match_plain(l, bytes, bytes, a),
+        &|a, _| library.match_rules(l, &sheet, bytes, 99, a),
+        &|_, o| library.write_sheet(l, bytes, &[bytes.len() as u16], o),
+        &|_, _| library.check_rules(l, &sheet),
+        &|_, _| library.check_states(l, &sheet),
+        &|_, _| library.cost(l, bytes),
+        &|_, o| library.store(l, bytes, o),
+        &|_, o| library.restore(l, bytes, o),
+        &|_, o| library.splice_record(l, bytes, o),
+        &|_, o| library.splice_pattern(l, bytes, o),
+    ];
+    let shown = calls.map(|call| {
+        let (mut answer, mut output) = (vec![ABSENT; ANSWER], vec![7; 20]);
+        (call(&mut answer, &mut output), answer, output)
+    });
+    shown.to_vec()
 }

@@ -1,6 +1,9 @@
 //! The comparison finds no difference where there is none, and finds small faults.
 
-use interface::{Library, Outcome, Part, ABSENT, ANSWER, ENTRY, NAMES};
+use interface::{
+    Edition, Language, Library, Outcome, Part, Word, ABSENT, ANSWER, EDITION_MARK, ENTRY,
+    FIRST_NAME, LIST, NAMES,
+};
 use reference::Reference;
 use std::slice::ChunksExactMut;
 
@@ -13,7 +16,9 @@ type Given = fn(&[u16]) -> Vec<u16>;
 /// The independent implementation with what it is brought, shows and writes spoiled.
 struct Faulty {
     classes: Brought,
+    edition: fn(Edition) -> Edition,
     given: Given,
+    sheet: fn(&[u8]) -> Vec<u8>,
     outcome: fn(&mut Outcome),
     answer: fn(&Outcome, &mut [u16]),
     output: fn(&Outcome, &mut [u8]),
@@ -21,11 +26,18 @@ struct Faulty {
     cost: fn(&mut Outcome),
     stored: fn(&[u8]) -> Vec<u8>,
     plain: fn(&mut Outcome),
+    /// What becomes of what is spliced.
+    unspliced: fn(Language, &[u8]) -> Vec<u8>,
+    splice: fn(&mut Outcome),
+    /// Whether 16 is by the symbol instead of its class.
+    by_symbol: bool,
 }
 
 const SOUND: Faulty = Faulty {
     classes: |_, classes| classes.to_vec(),
+    edition: |edition| edition,
     given: |given| given.to_vec(),
+    sheet: |sheet| sheet.to_vec(),
     outcome: |_| (),
     answer: |_, _| (),
     output: |_, _| (),
@@ -33,127 +45,98 @@ const SOUND: Faulty = Faulty {
     cost: |_| (),
     stored: |stored| stored.to_vec(),
     plain: |_| (),
+    unspliced: |_, bytes| bytes.to_vec(),
+    splice: |_| (),
+    by_symbol: false,
 };
 
 impl Faulty {
-    fn spoil(&self, mut outcome: Outcome) -> Outcome {
+    /// A call in the language that becomes of the one that it is told.
+    fn told(&self, language: Language, mut call: impl FnMut(Language) -> Outcome) -> Outcome {
+        let classes = language.classes.map(|classes| (self.classes)(language.table, classes));
+        let edition = (self.edition)(language.edition);
+        let language = Language { classes: classes.as_deref(), edition, ..language };
+        let mut outcome = call(language);
+        if self.by_symbol && outcome.word() == Some(Word::Unspliced) {
+            outcome = call(Language { classes: None, ..language });
+        }
         (self.outcome)(&mut outcome);
+        outcome
+    }
+
+    /// A call with an answer.
+    fn search(
+        &self,
+        language: Language,
+        a: &mut [u16],
+        call: impl Fn(Language, &mut [u16]) -> Outcome,
+    ) -> Outcome {
+        let outcome = self.told(language, |language| call(language, a));
+        (self.answer)(&outcome, a);
+        outcome
+    }
+
+    /// A call with an output.
+    fn write(
+        &self,
+        language: Language,
+        output: &mut [u8],
+        call: impl Fn(Language, &mut [u8]) -> Outcome,
+    ) -> Outcome {
+        let outcome = self.told(language, |language| call(language, output));
+        (self.output)(&outcome, output);
         outcome
     }
 }
 
 impl Library for Faulty {
-    fn match_one(&self, t: &[u8], p: &[u8], r: &[u8], allowance: u32, a: &mut [u16]) -> Outcome {
-        let outcome = Reference.match_one(t, p, r, allowance, a);
-        (self.answer)(&outcome, a);
-        self.spoil(outcome)
+    fn match_one(&self, l: Language, p: &[u8], r: &[u8], n: u32, a: &mut [u16]) -> Outcome {
+        self.search(l, a, |l, a| Reference.match_one(l, p, r, n, a))
     }
 
-    fn match_one_with_classes(
-        &self,
-        t: &[u8],
-        classes: &[u8],
-        p: &[u8],
-        r: &[u8],
-        allowance: u32,
-        a: &mut [u16],
-    ) -> Outcome {
-        let classes = (self.classes)(t, classes);
-        let outcome = Reference.match_one_with_classes(t, &classes, p, r, allowance, a);
-        (self.answer)(&outcome, a);
-        self.spoil(outcome)
+    fn next(&self, l: Language, p: &[u8], r: &[u8], g: &[u16], n: u32, a: &mut [u16]) -> Outcome {
+        let given = (self.given)(g);
+        self.search(l, a, |l, a| Reference.next(l, p, r, &given, n, a))
     }
 
-    fn next(
-        &self,
-        t: &[u8],
-        p: &[u8],
-        r: &[u8],
-        given: &[u16],
-        allowance: u32,
-        a: &mut [u16],
-    ) -> Outcome {
-        let given = (self.given)(given);
-        let outcome = Reference.next(t, p, r, &given, allowance, a);
-        (self.answer)(&outcome, a);
-        self.spoil(outcome)
-    }
-
-    fn next_with_classes(
-        &self,
-        t: &[u8],
-        classes: &[u8],
-        p: &[u8],
-        r: &[u8],
-        given: &[u16],
-        allowance: u32,
-        a: &mut [u16],
-    ) -> Outcome {
-        let (classes, given) = ((self.classes)(t, classes), (self.given)(given));
-        let outcome = Reference.next_with_classes(t, &classes, p, r, &given, allowance, a);
-        (self.answer)(&outcome, a);
-        self.spoil(outcome)
-    }
-
-    fn match_plain(&self, t: &[u8], p: &[u8], r: &[u8], a: &mut [u16]) -> Outcome {
-        let mut outcome = Reference.match_plain(t, p, r, a);
-        (self.answer)(&outcome, a);
+    fn match_plain(&self, l: Language, p: &[u8], r: &[u8], a: &mut [u16]) -> Outcome {
+        let mut outcome = self.search(l, a, |l, a| Reference.match_plain(l, p, r, a));
         (self.plain)(&mut outcome);
-        self.spoil(outcome)
+        outcome
     }
 
-    fn match_plain_with_classes(
-        &self,
-        t: &[u8],
-        classes: &[u8],
-        p: &[u8],
-        r: &[u8],
-        a: &mut [u16],
-    ) -> Outcome {
-        let classes = (self.classes)(t, classes);
-        let mut outcome = Reference.match_plain_with_classes(t, &classes, p, r, a);
-        (self.answer)(&outcome, a);
-        (self.plain)(&mut outcome);
-        self.spoil(outcome)
+    fn match_rules(&self, l: Language, s: &[u8], r: &[u8], n: u32, a: &mut [u16]) -> Outcome {
+        let sheet = (self.sheet)(s);
+        self.search(l, a, |l, a| Reference.match_rules(l, &sheet, r, n, a))
     }
 
-    fn match_rules(&self, t: &[u8], s: &[u8], r: &[u8], allowance: u32, a: &mut [u16]) -> Outcome {
-        let outcome = Reference.match_rules(t, s, r, allowance, a);
-        (self.answer)(&outcome, a);
-        self.spoil(outcome)
+    fn store(&self, l: Language, r: &[u8], output: &mut [u8]) -> Outcome {
+        self.write(l, output, |l, output| Reference.store(l, r, output))
     }
 
-    fn match_rules_with_classes(
-        &self,
-        t: &[u8],
-        classes: &[u8],
-        s: &[u8],
-        r: &[u8],
-        allowance: u32,
-        a: &mut [u16],
-    ) -> Outcome {
-        let classes = (self.classes)(t, classes);
-        let outcome = Reference.match_rules_with_classes(t, &classes, s, r, allowance, a);
-        (self.answer)(&outcome, a);
-        self.spoil(outcome)
+    fn restore(&self, l: Language, s: &[u8], output: &mut [u8]) -> Outcome {
+        let stored = (self.stored)(s);
+        self.write(l, output, |l, output| Reference.restore(l, &stored, output))
     }
 
-    fn store(&self, t: &[u8], r: &[u8], output: &mut [u8]) -> Outcome {
-        let outcome = Reference.store(t, r, output);
-        (self.output)(&outcome, output);
-        self.spoil(outcome)
+    fn splice_record(&self, l: Language, r: &[u8], output: &mut [u8]) -> Outcome {
+        let record = (self.unspliced)(l, r);
+        let mut outcome =
+            self.write(l, output, |l, output| Reference.splice_record(l, &record, output));
+        (self.splice)(&mut outcome);
+        outcome
     }
 
-    fn restore(&self, t: &[u8], s: &[u8], output: &mut [u8]) -> Outcome {
-        let outcome = Reference.restore(t, &(self.stored)(s), output);
-        (self.output)(&outcome, output);
-        self.spoil(outcome)
+    fn splice_pattern(&self, l: Language, p: &[u8], output: &mut [u8]) -> Outcome {
+        let pattern = (self.unspliced)(l, p);
+        let mut outcome =
+            self.write(l, output, |l, output| Reference.splice_pattern(l, &pattern, output));
+        (self.splice)(&mut outcome);
+        outcome
     }
 
-    fn write_sheet(&self, t: &[u8], r: &[u8], lengths: &[u16], output: &mut [u8]) -> Outcome {
-        let outcome = Reference.write_sheet(t, r, lengths, output);
-        (self.output)(&outcome, output);
-        self.spoil(outcome)
+    fn write_sheet(&self, l: Language, r: &[u8], lengths: &[u16], output: &mut [u8]) -> Outcome {
+        self.write(l, output, |l, output| Reference.write_sheet(l, r, lengths, output))
     }
 
     fn entry(&self, sheet: &[u8], index: u32) -> Part {
@@ -162,18 +145,20 @@ impl Library for Faulty {
         part
     }
 
-    fn check_rules(&self, table: &[u8], sheet: &[u8]) -> Outcome {
-        self.spoil(Reference.check_rules(table, sheet))
+    fn check_rules(&self, l: Language, sheet: &[u8]) -> Outcome {
+        let sheet = (self.sheet)(sheet);
+        self.told(l, |l| Reference.check_rules(l, &sheet))
     }
 
-    fn check_states(&self, table: &[u8], sheet: &[u8]) -> Outcome {
-        self.spoil(Reference.check_states(table, sheet))
+    fn check_states(&self, l: Language, sheet: &[u8]) -> Outcome {
+        let sheet = (self.sheet)(sheet);
+        self.told(l, |l| Reference.check_states(l, &sheet))
     }
 
-    fn cost(&self, table: &[u8], pattern: &[u8]) -> Outcome {
-        let mut outcome = Reference.cost(table, pattern);
+    fn cost(&self, l: Language, pattern: &[u8]) -> Outcome {
+        let mut outcome = self.told(l, |l| Reference.cost(l, pattern));
         (self.cost)(&mut outcome);
-        self.spoil(outcome)
+        outcome
     }
 }
 
@@ -318,4 +303,56 @@ fn faults_of_stored_records_are_found() {
     assert!(differs(Faulty { stored: spare, ..SOUND }));
     let length = |outcome: &mut Outcome| outcome.number -= 14 * u32::from(outcome.number == 17);
     assert!(differs(Faulty { outcome: length, ..SOUND }));
+}
+
+/// A sheet with its count as it becomes of the one that it has.
+fn with_count(sheet: &[u8], count: fn(u16) -> u16) -> Vec<u8> {
+    let mut sheet = sheet.to_vec();
+    if let Some(first) = sheet.first_chunk_mut() {
+        *first = count(u16::from_le_bytes(*first)).to_le_bytes();
+    }
+    sheet
+}
+
+#[test]
+fn faults_of_editions_are_found() {
+    let one: fn(Edition) -> Edition = |_| Edition::ONE;
+    let any: fn(Edition) -> Edition = |edition| match edition {
+        Edition::TWO => Edition::TWO,
+        _ => Edition::ONE,
+    };
+    let low: fn(Edition) -> Edition = |edition| Edition(edition.0 % 256);
+    for (i, edition) in [one, any, low].into_iter().enumerate() {
+        assert!(differs(Faulty { edition, ..SOUND }), "fault {i}");
+    }
+    let unmarked = |sheet: &[u8]| with_count(sheet, |count| count % EDITION_MARK);
+    let marked = |sheet: &[u8]| with_count(sheet, |count| count | EDITION_MARK);
+    for (i, sheet) in [unmarked, marked].into_iter().enumerate() {
+        assert!(differs(Faulty { sheet, ..SOUND }), "sheet {i}");
+    }
+    assert!(differs(Faulty { by_symbol: true, ..SOUND }));
+}
+
+/// A record or pattern with the class of each symbol in its place.
+fn merged(language: Language, bytes: &[u8]) -> Vec<u8> {
+    let (mut bytes, mut at) = (bytes.to_vec(), 0);
+    while at < bytes.len() {
+        let symbol = usize::from(bytes[at]);
+        if let Some(&class) = language.class_list().get(symbol).filter(|_| bytes[at] < FIRST_NAME) {
+            bytes[at] = class;
+        }
+        at += if language.table.get(symbol) == Some(&LIST) { 2 } else { 1 };
+    }
+    bytes
+}
+
+#[test]
+fn faults_of_the_converter_are_found() {
+    assert!(differs(Faulty { unspliced: merged, ..SOUND }));
+    assert!(differs(Faulty { unspliced: |_, bytes| [bytes, &[0]].concat(), ..SOUND }));
+    let full = |outcome: &mut Outcome| outcome.number *= 1 + u32::from(outcome.number == 6);
+    let longer = |outcome: &mut Outcome| outcome.count += u64::from(outcome.number == 0);
+    for (i, splice) in [full, longer].into_iter().enumerate() {
+        assert!(differs(Faulty { splice, ..SOUND }), "fault {i}");
+    }
 }

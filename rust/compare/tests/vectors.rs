@@ -2,11 +2,13 @@
 //! compares what is answered with the outcome that the line states. `QONVESHIR_VECTORS` names
 //! another folder.
 
-use interface::{Library, Outcome, Word, ABSENT, ANSWER, ENTRY, NAMES, RUNS};
+use interface::{
+    Edition, Language, Library, Outcome, Word, ABSENT, ANSWER, EDITION_MARK, ENTRY, NAMES, RUNS,
+};
 use reference::{Reference, Shortcuts};
 use std::{collections::BTreeMap, env, fs, path::PathBuf};
 
-const FILES: [&str; 9] = [
+const FILES: [&str; 11] = [
     "matches.txt",
     "classes.txt",
     "complements.txt",
@@ -16,6 +18,8 @@ const FILES: [&str; 9] = [
     "rules.txt",
     "sheets.txt",
     "stored.txt",
+    "editions.txt",
+    "splices.txt",
 ];
 
 #[test]
@@ -48,106 +52,139 @@ fn every_vector_by(library: &dyn Library) {
             let words: Vec<&str> = call.split(' ').collect();
             if let Some(answered) = outcome(library, words[1], &words[2..], stated) {
                 assert_eq!(answered, stated, "{line}");
-                let fields = match words[1] {
-                    "next" => 6,
-                    "match_plain" => 4,
-                    _ => 5,
-                };
-                let classes = if words.len() > 2 + fields { " with classes" } else { "" };
-                *run.entry(format!("{}{classes}", words[1])).or_insert(0) += 1;
+                *run.entry(words[1].to_string()).or_insert(0) += 1;
             }
         }
     }
     let calls = [
         "check_rules",
+        "check_rules_in",
         "check_states",
+        "check_states_in",
+        "cost_in",
         "cost_of",
+        "match_in",
         "match_one",
-        "match_one with classes",
         "match_plain",
-        "match_plain with classes",
+        "match_plain_in",
         "match_rules",
-        "match_rules with classes",
+        "match_rules_in",
         "next",
-        "next with classes",
+        "next_in",
         "place_of",
         "restore",
+        "restore_in",
+        "splice_pattern",
+        "splice_pattern_in",
+        "splice_record",
+        "splice_record_in",
         "store",
+        "store_in",
         "write_sheet",
+        "write_sheet_in",
     ];
     assert!(run.keys().eq(calls), "calls that were run: {run:?}");
     assert!(run["match_one"] >= 1_000, "only {} matches", run["match_one"]);
 }
 
+/// A line's call without `_in`, its language, and the fields after it.
+struct Told<'a> {
+    call: &'a str,
+    edition: Edition,
+    table: Vec<u8>,
+    classes: Option<Vec<u8>>,
+    fields: &'a [&'a str],
+}
+
+/// The calls with a class list that are not told the edition.
+const UNTOLD: [&str; 5] =
+    ["match_rules", "check_rules", "check_states", "splice_record", "splice_pattern"];
+
+impl<'a> Told<'a> {
+    /// Nothing where there are too few fields.
+    fn new(call: &'a str, fields: &'a [&'a str]) -> Option<Self> {
+        let Some(call) = call.strip_suffix("_in") else {
+            let (table, fields) = fields.split_first()?;
+            let (edition, table) = (Edition::ONE, bytes(table));
+            return Some(Told { call, edition, table, classes: None, fields });
+        };
+        let (edition, fields) = match fields {
+            fields if UNTOLD.contains(&call) => (Edition::ONE, fields),
+            [edition, fields @ ..] => (Edition(number(edition)), fields),
+            [] => return None,
+        };
+        let [table, classes, fields @ ..] = fields else { return None };
+        let (table, classes) = (bytes(table), Some(bytes(classes)));
+        Some(Told { call, edition, table, classes, fields })
+    }
+
+    fn language(&self) -> Language<'_> {
+        let classes = self.classes.as_deref();
+        Language { table: &self.table, classes, edition: self.edition }
+    }
+}
+
 /// What is answered, as a line states it, or nothing where it is none of the calls.
 fn outcome(library: &dyn Library, call: &str, fields: &[&str], stated: &str) -> Option<String> {
-    Some(match (call, fields) {
-        ("match_one" | "match_rules", [inputs @ .., allowance, width]) => {
-            found(library, call, inputs, &[], number(allowance), number(width))
+    if let ("place_of", [sheet, index]) = (call, fields) {
+        return Some(place(library, &bytes(sheet), number(index)));
+    }
+    let told = Told::new(call, fields)?;
+    let language = told.language();
+    Some(match (told.call, told.fields) {
+        ("cost_of" | "cost", [pattern]) => cost(library.cost(language, &bytes(pattern))),
+        ("check_rules", [sheet]) => {
+            checked(&bytes(sheet), |sheet| library.check_rules(language, sheet))
         }
-        ("match_plain", [inputs @ .., width]) => {
-            found(library, call, inputs, &[], 0, number(width))
+        ("check_states", [sheet]) => {
+            checked(&bytes(sheet), |sheet| library.check_states(language, sheet))
         }
-        ("next", [inputs @ .., given, allowance, width]) => {
-            found(library, call, inputs, &list(given), number(allowance), number(width))
-        }
-        ("cost_of", [table, pattern]) => cost(library.cost(&bytes(table), &bytes(pattern))),
-        ("check_rules", [table, sheet]) => {
-            checked(&bytes(sheet), |sheet| library.check_rules(&bytes(table), sheet))
-        }
-        ("check_states", [table, sheet]) => {
-            checked(&bytes(sheet), |sheet| library.check_states(&bytes(table), sheet))
-        }
-        ("place_of", [sheet, index]) => {
-            let part = library.entry(&bytes(sheet), number(index));
-            match part.number {
-                0 => format!("at {} {}", part.offset, part.length),
-                number => format!("refused {number}"),
-            }
-        }
-        ("write_sheet", [table, records, lengths, room]) => {
-            let (table, records, lengths) = (bytes(table), bytes(records), list(lengths));
-            let write = |output: &mut [u8]| library.write_sheet(&table, &records, &lengths, output);
+        ("write_sheet", [records, lengths, room]) => {
+            let (records, lengths) = (bytes(records), list(lengths));
+            let write = |out: &mut [u8]| library.write_sheet(language, &records, &lengths, out);
             written(number(room), true, stated, write)
         }
-        ("store" | "restore", [table, record, room]) => {
-            let (table, record) = (bytes(table), bytes(record));
-            written(number(room), false, stated, |output| match call {
-                "store" => library.store(&table, &record, output),
-                _ => library.restore(&table, &record, output),
+        ("store" | "restore" | "splice_record" | "splice_pattern", [from, room]) => {
+            let from = bytes(from);
+            written(number(room), false, stated, |output| match told.call {
+                "store" => library.store(language, &from, output),
+                "restore" => library.restore(language, &from, output),
+                "splice_record" => library.splice_record(language, &from, output),
+                _ => library.splice_pattern(language, &from, output),
             })
         }
+        _ => return found(library, &told),
+    })
+}
+
+/// The outcome of a call of the match.
+fn found(library: &dyn Library, told: &Told) -> Option<String> {
+    let [rule, record, numbers @ ..] = told.fields else { return None };
+    let (language, p, r) = (told.language(), bytes(rule), bytes(record));
+    Some(match (told.call, numbers) {
+        ("match_one" | "match", [allowance, width]) => matched(number(width), false, |answer| {
+            library.match_one(language, &p, &r, number(allowance), answer)
+        }),
+        ("next", [given, allowance, width]) => matched(number(width), false, |answer| {
+            library.next(language, &p, &r, &list(given), number(allowance), answer)
+        }),
+        ("match_plain", [width]) => {
+            matched(number(width), false, |answer| library.match_plain(language, &p, &r, answer))
+        }
+        ("match_rules", [allowance, width]) => matched(number(width), true, |answer| {
+            library.match_rules(language, &p, &r, number(allowance), answer)
+        }),
         _ => return None,
     })
 }
 
-/// The outcome of a search of a table, a class list if there is one, a pattern or rules (p), and a
-/// record.
-fn found(
-    library: &dyn Library,
-    call: &str,
-    inputs: &[&str],
-    given: &[u16],
-    allowance: u32,
-    width: u32,
-) -> String {
-    let inputs: Vec<Vec<u8>> = inputs.iter().map(|text| bytes(text)).collect();
-    let find = |answer: &mut [u16]| match (call, &inputs[..]) {
-        ("match_one", [t, p, r]) => library.match_one(t, p, r, allowance, answer),
-        ("match_one", [t, c, p, r]) => {
-            library.match_one_with_classes(t, c, p, r, allowance, answer)
-        }
-        ("match_plain", [t, p, r]) => library.match_plain(t, p, r, answer),
-        ("match_plain", [t, c, p, r]) => library.match_plain_with_classes(t, c, p, r, answer),
-        ("next", [t, p, r]) => library.next(t, p, r, given, allowance, answer),
-        ("next", [t, c, p, r]) => library.next_with_classes(t, c, p, r, given, allowance, answer),
-        ("match_rules", [t, p, r]) => library.match_rules(t, p, r, allowance, answer),
-        ("match_rules", [t, c, p, r]) => {
-            library.match_rules_with_classes(t, c, p, r, allowance, answer)
-        }
-        _ => panic!("{call}: a wrong number of inputs"),
-    };
-    matched(width, call == "match_rules", find)
+/// Where an entry lies.
+fn place(library: &dyn Library, sheet: &[u8], index: u32) -> String {
+    let part = library.entry(sheet, index);
+    match part.number {
+        0 => format!("at {} {}", part.offset, part.length),
+        number => format!("refused {number}"),
+    }
 }
 
 /// The outcome of a match with a buffer of so many numbers; that of a rule sheet shows an index.
@@ -184,7 +221,7 @@ fn parts(answer: &[u16]) -> String {
 fn checked(sheet: &[u8], check: impl Fn(&[u8]) -> Outcome) -> String {
     let outcome = check(sheet);
     match outcome.number {
-        0 => format!("accepted {}", u16::from_le_bytes([sheet[0], sheet[1]])),
+        0 => format!("accepted {}", u16::from_le_bytes([sheet[0], sheet[1]]) % EDITION_MARK),
         number => format!("refused {number} {}", outcome.index),
     }
 }

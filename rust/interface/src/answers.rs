@@ -7,8 +7,7 @@ use crate::*;
 #[derive(Clone)]
 pub struct Answers<'a> {
     library: &'a dyn Library,
-    table: &'a [u8],
-    classes: Option<&'a [u8]>,
+    language: Language<'a>,
     pattern: &'a [u8],
     record: &'a [u8],
     allowance: u32,
@@ -28,25 +27,16 @@ enum After {
 }
 
 impl<'a> Answers<'a> {
-    /// The answers by a library, up to class if a class list is brought.
+    /// The answers by a library.
     pub fn new(
         library: &'a dyn Library,
-        table: &'a [u8],
-        classes: Option<&'a [u8]>,
+        language: Language<'a>,
         pattern: &'a [u8],
         record: &'a [u8],
         allowance: u32,
     ) -> Self {
-        Answers {
-            library,
-            table,
-            classes,
-            pattern,
-            record,
-            allowance,
-            after: After::Nothing,
-            sum: 0,
-        }
+        let after = After::Nothing;
+        Answers { library, language, pattern, record, allowance, after, sum: 0 }
     }
 
     /// The sum of the counts of the calls so far.
@@ -64,21 +54,15 @@ impl<'a> Answers<'a> {
 
     /// The next call, in a buffer of its own.
     fn call(&self) -> Option<(Outcome, Answer)> {
-        let Answers { library, table, pattern, record, allowance, .. } = *self;
+        let Answers { library, language, pattern, record, allowance, .. } = *self;
         let mut answer = Answer([ABSENT; ANSWER]);
         let room = &mut answer.0;
-        let outcome = match (&self.after, self.classes) {
-            (After::Nothing, None) => library.match_one(table, pattern, record, allowance, room),
-            (After::Nothing, Some(classes)) => {
-                library.match_one_with_classes(table, classes, pattern, record, allowance, room)
+        let outcome = match &self.after {
+            After::Nothing => library.match_one(language, pattern, record, allowance, room),
+            After::Lengths(given) => {
+                library.next(language, pattern, record, given, allowance, room)
             }
-            (After::Lengths(given), None) => {
-                library.next(table, pattern, record, given, allowance, room)
-            }
-            (After::Lengths(given), Some(classes)) => {
-                library.next_with_classes(table, classes, pattern, record, given, allowance, room)
-            }
-            (After::Last, _) => return None,
+            After::Last => return None,
         };
         Some((outcome, answer))
     }
@@ -93,7 +77,7 @@ impl Iterator for Answers<'_> {
         self.after = After::Last;
         match outcome.word() {
             Some(Word::Bound) => {
-                self.after = After::Lengths(lengths(self.table, self.pattern, &answer));
+                self.after = After::Lengths(lengths(self.language.table, self.pattern, &answer));
                 Some(Ok((answer, outcome.count)))
             }
             Some(Word::None) => None,

@@ -2,8 +2,10 @@
 //! independent implementation can stand in each other's place.
 
 mod answers;
+mod language;
 
 pub use answers::Answers;
+pub use language::{edition_of, Edition, Language};
 
 use std::ops::Range;
 
@@ -20,6 +22,8 @@ pub const RECORD_LIMIT: usize = 4_096;
 pub const STORED_LIMIT: usize = 8_192;
 /// Most bytes of a sheet.
 pub const SHEET_LIMIT: usize = 32_768;
+/// What the count of an edition 2 sheet has added.
+pub const EDITION_MARK: u16 = 32_768;
 /// Most patterns of a rule sheet.
 pub const RULES_LIMIT: usize = 64;
 /// Most nodes from the root to a node, both counted.
@@ -141,11 +145,13 @@ impl Word {
             Word::Deep => "nesting over 32",
             Word::Long => {
                 "pattern, record, stored record or sheet over its limit, over 64 rules; an old form \
-                 over a record's limit"
+                 over a record's limit; a spliced list over 255 elements"
             },
             Word::Stray => "run name elsewhere than as a list's child",
             Word::Narrow => "answer buffer under 144 numbers",
-            Word::Directory => "a sheet breaks its rules, or no such entry",
+            Word::Directory => {
+                "a sheet breaks its rules, no such entry, or an edition neither 1 nor 2"
+            }
             Word::None => {
                 "no assignment satisfies the pattern, or none after the given answer; of a cost, no \
                  bound"
@@ -259,8 +265,8 @@ impl Answer {
 }
 
 /// A sheet of entries, whose directory is right if the sheet is within its limit.
-pub fn sheet_of(entries: &[Vec<u8>]) -> Vec<u8> {
-    let mut sheet = (entries.len() as u16).to_le_bytes().to_vec();
+pub fn sheet_of(edition: Edition, entries: &[Vec<u8>]) -> Vec<u8> {
+    let mut sheet = (entries.len() as u16 | edition.mark()).to_le_bytes().to_vec();
     let mut offset = 2 + 4 * entries.len();
     for entry in entries {
         sheet.extend((offset as u16).to_le_bytes());
@@ -271,23 +277,14 @@ pub fn sheet_of(entries: &[Vec<u8>]) -> Vec<u8> {
     sheet
 }
 
-/// The calls; `include/qonveshir.h` says what each checks, shows and writes.
+/// The calls; `include/qonveshir.h` says what each checks, shows and writes. A call with a sheet
+/// takes the edition from the sheet, and the converter reads edition 1: of the language they take
+/// table and class list alone.
 pub trait Library {
     /// Matches one pattern against one record.
     fn match_one(
         &self,
-        table: &[u8],
-        pattern: &[u8],
-        record: &[u8],
-        allowance: u32,
-        answer: &mut [u16],
-    ) -> Outcome;
-
-    /// [`match_one`](Self::match_one) up to class.
-    fn match_one_with_classes(
-        &self,
-        table: &[u8],
-        classes: &[u8],
+        language: Language,
         pattern: &[u8],
         record: &[u8],
         allowance: u32,
@@ -298,7 +295,7 @@ pub trait Library {
     /// them all.
     fn next(
         &self,
-        table: &[u8],
+        language: Language,
         pattern: &[u8],
         record: &[u8],
         given: &[u16],
@@ -306,33 +303,10 @@ pub trait Library {
         answer: &mut [u16],
     ) -> Outcome;
 
-    /// [`next`](Self::next) up to class.
-    #[allow(clippy::too_many_arguments)]
-    fn next_with_classes(
-        &self,
-        table: &[u8],
-        classes: &[u8],
-        pattern: &[u8],
-        record: &[u8],
-        given: &[u16],
-        allowance: u32,
-        answer: &mut [u16],
-    ) -> Outcome;
-
-    /// Matches one plain pattern against one record; never spent.
+    /// Matches one plain pattern against one record, without an allowance.
     fn match_plain(
         &self,
-        table: &[u8],
-        pattern: &[u8],
-        record: &[u8],
-        answer: &mut [u16],
-    ) -> Outcome;
-
-    /// [`match_plain`](Self::match_plain) up to class.
-    fn match_plain_with_classes(
-        &self,
-        table: &[u8],
-        classes: &[u8],
+        language: Language,
         pattern: &[u8],
         record: &[u8],
         answer: &mut [u16],
@@ -341,18 +315,7 @@ pub trait Library {
     /// Tries the rules of a sheet up to the first that is bound or spent.
     fn match_rules(
         &self,
-        table: &[u8],
-        rules: &[u8],
-        record: &[u8],
-        allowance: u32,
-        answer: &mut [u16],
-    ) -> Outcome;
-
-    /// [`match_rules`](Self::match_rules) up to class.
-    fn match_rules_with_classes(
-        &self,
-        table: &[u8],
-        classes: &[u8],
+        language: Language,
         rules: &[u8],
         record: &[u8],
         allowance: u32,
@@ -362,7 +325,7 @@ pub trait Library {
     /// Writes a sheet of joined records.
     fn write_sheet(
         &self,
-        table: &[u8],
+        language: Language,
         records: &[u8],
         lengths: &[u16],
         output: &mut [u8],
@@ -372,68 +335,50 @@ pub trait Library {
     fn entry(&self, sheet: &[u8], index: u32) -> Part;
 
     /// Checks a sheet of patterns.
-    fn check_rules(&self, table: &[u8], sheet: &[u8]) -> Outcome;
+    fn check_rules(&self, language: Language, sheet: &[u8]) -> Outcome;
 
     /// Checks a sheet of records.
-    fn check_states(&self, table: &[u8], sheet: &[u8]) -> Outcome;
+    fn check_states(&self, language: Language, sheet: &[u8]) -> Outcome;
 
     /// Shows how much a pattern can cost at most, or none if it has run names.
-    fn cost(&self, table: &[u8], pattern: &[u8]) -> Outcome;
+    fn cost(&self, language: Language, pattern: &[u8]) -> Outcome;
 
     /// Writes the stored form of a record.
-    fn store(&self, table: &[u8], record: &[u8], output: &mut [u8]) -> Outcome;
+    fn store(&self, language: Language, record: &[u8], output: &mut [u8]) -> Outcome;
 
     /// Writes the old form of a stored record.
-    fn restore(&self, table: &[u8], stored: &[u8], output: &mut [u8]) -> Outcome;
+    fn restore(&self, language: Language, stored: &[u8], output: &mut [u8]) -> Outcome;
+
+    /// Splices an edition 1 record.
+    fn splice_record(&self, language: Language, record: &[u8], output: &mut [u8]) -> Outcome;
+
+    /// Splices an edition 1 pattern.
+    fn splice_pattern(&self, language: Language, pattern: &[u8], output: &mut [u8]) -> Outcome;
 
     /// [`match_one`](Self::match_one) with a buffer of its own, in which every name is absent
     /// unless the outcome is bound.
     fn find(
         &self,
-        table: &[u8],
+        language: Language,
         pattern: &[u8],
         record: &[u8],
         allowance: u32,
     ) -> (Outcome, Answer) {
         let mut answer = Answer([ABSENT; ANSWER]);
-        let outcome = self.match_one(table, pattern, record, allowance, &mut answer.0);
-        (outcome, answer)
-    }
-    /// [`match_one_with_classes`](Self::match_one_with_classes) with a buffer of its own, as
-    /// [`find`](Self::find) has.
-    fn find_with_classes(
-        &self,
-        table: &[u8],
-        classes: &[u8],
-        pattern: &[u8],
-        record: &[u8],
-        allowance: u32,
-    ) -> (Outcome, Answer) {
-        let mut answer = Answer([ABSENT; ANSWER]);
-        let buffer = &mut answer.0;
-        let outcome =
-            self.match_one_with_classes(table, classes, pattern, record, allowance, buffer);
+        let outcome = self.match_one(language, pattern, record, allowance, &mut answer.0);
         (outcome, answer)
     }
 
-    /// [`match_plain_with_classes`](Self::match_plain_with_classes) with a buffer of its own, as
-    /// [`find`](Self::find) has.
-    fn find_plain_with_classes(
-        &self,
-        table: &[u8],
-        classes: &[u8],
-        pattern: &[u8],
-        record: &[u8],
-    ) -> (Outcome, Answer) {
+    /// [`match_plain`](Self::match_plain) with a buffer of its own, as [`find`](Self::find) has.
+    fn find_plain(&self, language: Language, pattern: &[u8], record: &[u8]) -> (Outcome, Answer) {
         let mut answer = Answer([ABSENT; ANSWER]);
-        let outcome = self.match_plain_with_classes(table, classes, pattern, record, &mut answer.0);
+        let outcome = self.match_plain(language, pattern, record, &mut answer.0);
         (outcome, answer)
     }
 
     /// Whether an accepted pattern is plain. The record's checks come after 23, so an empty record
     /// tells it.
-    fn is_plain(&self, table: &[u8], pattern: &[u8]) -> bool {
-        let outcome = self.match_plain(table, pattern, &[], &mut [ABSENT; ANSWER]);
-        outcome.word() != Some(Word::NotPlain)
+    fn is_plain(&self, language: Language, pattern: &[u8]) -> bool {
+        self.find_plain(language, pattern, &[]).0.word() != Some(Word::NotPlain)
     }
 }

@@ -34,6 +34,7 @@ fn rattle() -> String {
         "sheet",
         "writing",
         "stored",
+        "splice",
         "rules",
         "qonveshir",
     ];
@@ -124,6 +125,7 @@ fn limits() {
         ("RECORD_LIMIT", RECORD_LIMIT, "LONGEST_RECORD"),
         ("STORED_LIMIT", STORED_LIMIT, "LONGEST_STORED"),
         ("SHEET_LIMIT", SHEET_LIMIT, "LONGEST_SHEET"),
+        ("EDITION_MARK", EDITION_MARK.into(), "EDITION_MARK"),
         ("RULES_LIMIT", RULES_LIMIT, "MOST_RULES"),
         ("NESTING_LIMIT", NESTING_LIMIT, "NESTING"),
         ("NAMES", NAMES, "NAMES"),
@@ -192,9 +194,13 @@ type Call = (String, Vec<String>, String);
 #[test]
 fn calls() {
     let header = header_calls(&read("include/qonveshir.h"));
-    assert_eq!(header.len(), 15);
+    assert_eq!(header.len(), 25);
     assert_eq!(rattle_calls(&rattle()), header);
-    assert_eq!(rust_calls(&read("rust/proved/src/link.rs")), header);
+    let sorted = |mut calls: Vec<Call>| {
+        calls.sort();
+        calls
+    };
+    assert_eq!(sorted(rust_calls(&read("rust/proved/src/link.rs"))), sorted(header));
 }
 
 /// `qonveshir_outcome NAME(const uint8_t *table, size_t table_length, uint32_t index);`
@@ -242,22 +248,42 @@ fn rattle_calls(code: &str) -> Vec<Call> {
     calls.collect()
 }
 
-/// `safe = NAME(table: u8; index; output: u8) -> Outcome;`
+/// Both forms of each `safe = NAME(edition; pattern: u8; allowance; output: u8);`, and the call
+/// without a table.
 fn rust_calls(text: &str) -> Vec<Call> {
-    let declarations = between(text, " = qonveshir_", ";\n");
-    let calls = declarations.into_iter().map(|declaration| {
-        let (call, shown) = declaration.rsplit_once(") -> ").unwrap();
-        let (name, parameters) = call.split_once('(').unwrap();
+    let declarations = between(text, " = qonveshir_", ");\n");
+    let calls = declarations.into_iter().flat_map(|declaration| {
+        let (name, parameters) = declaration.split_once('(').unwrap();
         let parts: Vec<Vec<&str>> = parameters
             .split(';')
             .map(|part| part.split(',').map(str::trim).filter(|text| !text.is_empty()).collect())
             .collect();
         let slice = |mark: &str, text: &str| text.replace(": ", &format!(": {mark} "));
-        let inputs = parts[0].iter().map(|text| slice("const", text));
-        let numbers = parts[1].iter().map(|text| format!("{text}: u32"));
-        let outputs = parts[2].iter().map(|text| slice("mut", text));
-        let parameters = inputs.chain(numbers).chain(outputs).collect();
-        (format!("qonveshir_{name}"), parameters, shown.to_owned())
+        let number = |text: &&str| format!("{text}: u32");
+        let inputs = parts[1].iter().map(|text| slice("const", text));
+        let numbers = parts[2].iter().map(number);
+        let outputs = parts[3].iter().map(|text| slice("mut", text));
+        let rest: Vec<String> = inputs.chain(numbers).chain(outputs).collect();
+        let [table, classes] = ["table", "classes"].map(|name| vec![format!("{name}: const u8")]);
+        let edition = parts[0].iter().map(number).collect();
+        let call = |form: &str, first: Vec<Vec<String>>| {
+            (format!("qonveshir_{name}{form}"), first.concat(), "Outcome".to_owned())
+        };
+        [
+            call("", vec![table.clone(), rest.clone()]),
+            call("_in", vec![edition, table, classes, rest]),
+        ]
     });
-    calls.collect()
+    let entry =
+        between(text, "\"qonveshir_entry\")]", ") -> Part;").into_iter().map(|declaration| {
+            let parameters =
+                declaration.split_once("fn entry(").unwrap().1.replace("*const", "const");
+            let parameters = parameters.split(", ").filter(|text| *text != "_: usize");
+            (
+                "qonveshir_entry".to_owned(),
+                parameters.map(str::to_owned).collect(),
+                "Part".to_owned(),
+            )
+        });
+    calls.chain(entry).collect()
 }

@@ -25,6 +25,8 @@
 //! assert_eq!(symbols.table(), [0, 0, 1, 0, 1]);
 //! assert_eq!(symbols.classes(), [0, 1, 2, 1, 2]);
 //! ```
+//!
+//! Texts are read alike in both editions; [`Symbols::language`] is what a call is told of them.
 
 mod entries;
 mod parse;
@@ -32,6 +34,7 @@ mod show;
 mod symbols;
 
 pub use entries::{entries, Entry};
+pub use parse::Parsed;
 pub use show::Shown;
 pub use symbols::Symbols;
 

@@ -4,6 +4,24 @@ use crate::symbols::{continues_name, starts_name};
 use crate::{Error, Symbols};
 use interface::*;
 
+/// The bytes of a term or pattern, and where each of its nodes stands in its text.
+#[derive(Clone, Debug, PartialEq, Eq)]
+pub struct Parsed<'a> {
+    pub bytes: Vec<u8>,
+    text: &'a str,
+    /// For each node in order the offset of its first byte, and where its text starts.
+    nodes: Vec<(usize, usize)>,
+}
+
+impl Parsed<'_> {
+    /// An error at the node that the byte at an offset belongs to.
+    pub fn error(&self, at: usize, message: impl Into<String>) -> Error {
+        let later = self.nodes.partition_point(|(start, _)| *start <= at);
+        let (_, start) = self.nodes[..later].last().copied().unwrap_or_default();
+        Error::in_text(self.text, start, message)
+    }
+}
+
 pub(crate) struct Parser<'a> {
     symbols: &'a Symbols,
     text: &'a str,
@@ -11,15 +29,16 @@ pub(crate) struct Parser<'a> {
     /// Whether names, run names and complements are allowed.
     pattern: bool,
     bytes: Vec<u8>,
+    nodes: Vec<(usize, usize)>,
 }
 
 impl<'a> Parser<'a> {
     pub fn new(symbols: &'a Symbols, text: &'a str, pattern: bool) -> Self {
-        Parser { symbols, text, at: 0, pattern, bytes: Vec::new() }
+        Parser { symbols, text, at: 0, pattern, bytes: Vec::new(), nodes: Vec::new() }
     }
 
     /// Reads the whole text as one term or pattern.
-    pub fn whole(mut self) -> Result<Vec<u8>, Error> {
+    pub fn whole(mut self) -> Result<Parsed<'a>, Error> {
         self.node(1, false)?;
         self.blanks();
         if let Some(c) = self.peek() {
@@ -31,7 +50,7 @@ impl<'a> Parser<'a> {
             let size = self.bytes.len();
             return self.error(0, format!("the {kind} takes {size} bytes, its limit is {limit}"));
         }
-        Ok(self.bytes)
+        Ok(Parsed { bytes: self.bytes, text: self.text, nodes: self.nodes })
     }
 
     fn node(&mut self, nesting: usize, mut in_list: bool) -> Result<(), Error> {
@@ -40,11 +59,14 @@ impl<'a> Parser<'a> {
             return self.error(self.at, format!("nesting over {NESTING_LIMIT}"));
         }
         // A complement's child has the complement's own nesting.
-        while self.pattern && self.eat('!') {
+        while self.pattern && self.peek() == Some('!') {
+            self.starts();
+            self.at += 1;
             self.bytes.push(COMPLEMENT);
             in_list = false;
             self.blanks();
         }
+        self.starts();
         match self.peek() {
             Some(c) if starts_name(c) => self.symbol(nesting),
             Some('?') if self.pattern => self.numbered(FIRST_NAME, NAMES),
@@ -54,6 +76,11 @@ impl<'a> Parser<'a> {
             Some('@') if self.pattern => self.numbered(FIRST_RUN, RUNS),
             found => self.unexpected(found),
         }
+    }
+
+    /// A node starts here.
+    fn starts(&mut self) {
+        self.nodes.push((self.bytes.len(), self.at));
     }
 
     fn unexpected(&self, found: Option<char>) -> Result<(), Error> {

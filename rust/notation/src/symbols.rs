@@ -1,7 +1,7 @@
 //! Named symbol tables.
 
-use crate::{parse::Parser, show, Error, Shown};
-use interface::{CHILDREN_LIMIT, LIST, TABLE_LIMIT};
+use crate::{parse::Parser, show, Error, Parsed, Shown};
+use interface::{Edition, Language, CHILDREN_LIMIT, LIST, TABLE_LIMIT};
 use std::fmt;
 
 /// Symbols with their names, their numbers of children and their classes.
@@ -97,6 +97,11 @@ impl Symbols {
         &self.classes
     }
 
+    /// The language of these symbols and their classes in an edition.
+    pub fn language(&self, edition: Edition) -> Language<'_> {
+        Language::simple(&self.table).with_classes(&self.classes).in_edition(edition)
+    }
+
     /// The code of a symbol.
     pub fn code(&self, name: &str) -> Option<u8> {
         self.names.iter().position(|known| known == name).map(|code| code as u8)
@@ -109,11 +114,21 @@ impl Symbols {
 
     /// Reads a term as a record's bytes.
     pub fn term(&self, text: &str) -> Result<Vec<u8>, Error> {
-        Parser::new(self, text, false).whole()
+        Ok(self.parsed_term(text)?.bytes)
     }
 
     /// Reads a pattern as its bytes.
     pub fn pattern(&self, text: &str) -> Result<Vec<u8>, Error> {
+        Ok(self.parsed_pattern(text)?.bytes)
+    }
+
+    /// Reads a term as a record's bytes, and tells where each node stands.
+    pub fn parsed_term<'a>(&'a self, text: &'a str) -> Result<Parsed<'a>, Error> {
+        Parser::new(self, text, false).whole()
+    }
+
+    /// Reads a pattern as its bytes, and tells where each node stands.
+    pub fn parsed_pattern<'a>(&'a self, text: &'a str) -> Result<Parsed<'a>, Error> {
         Parser::new(self, text, true).whole()
     }
 

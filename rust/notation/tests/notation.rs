@@ -1,6 +1,6 @@
 //! Reading and writing of the notation, and the places that errors name.
 
-use interface::{COMPLEMENT, FIRST_NAME};
+use interface::{Edition, COMPLEMENT, FIRST_NAME};
 use notation::{entries, Symbols};
 
 fn symbols() -> Symbols {
@@ -206,6 +206,35 @@ fn nodes_have_their_places_in_the_text() {
     assert_eq!(shown.part(9..12), 19..19);
     let empty = symbols().shown_term(&[5, 0]).unwrap();
     assert_eq!((empty.part(0..2), empty.part(2..2)), (0..7, 6..6));
+}
+
+#[test]
+fn bytes_have_their_places_in_the_text() {
+    let symbols = symbols();
+    let text = " gates(@0,\n  ! !gate( open ), gates())";
+    let parsed = symbols.parsed_pattern(text).unwrap();
+    assert_eq!(parsed.bytes, [5, 3, 232, 248, 248, 3, 0, 5, 0]);
+    for (at, place) in [
+        (0, "column 2"),
+        (1, "column 2"),
+        (2, "column 8"),
+        (3, "line 2, column 3"),
+        (4, "line 2, column 5"),
+        (5, "line 2, column 6"),
+        (6, "line 2, column 12"),
+        (7, "line 2, column 20"),
+        (8, "line 2, column 20"),
+    ] {
+        assert_eq!(parsed.error(at, "here").to_string(), format!("{place}: here"), "byte {at}");
+    }
+}
+
+#[test]
+fn symbols_are_a_language() {
+    let symbols = Symbols::parse("open gates/* doors=gates").unwrap();
+    let language = symbols.language(Edition::TWO);
+    assert_eq!((language.table, language.edition), (&[0, 255, 255][..], Edition::TWO));
+    assert_eq!(language.classes, Some(&[0, 1, 1][..]));
 }
 
 #[test]

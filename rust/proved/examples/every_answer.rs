@@ -2,7 +2,7 @@
 //!
 //! `cargo run --example every_answer`
 
-use interface::Answers;
+use interface::{Answers, Language};
 use notation::Symbols;
 use proved::Proved;
 
@@ -11,7 +11,8 @@ fn main() -> Result<(), notation::Error> {
     let rule = symbols.pattern("gates(@0, !open, @1)")?;
     let state = symbols.term("gates(open, gate(shut), held, shut)")?;
 
-    let mut answers = Answers::new(&Proved, symbols.table(), None, &rule, &state, 100_000);
+    let language = Language::simple(symbols.table());
+    let mut answers = Answers::new(&Proved, language, &rule, &state, 100_000);
     for found in &mut answers {
         // Each answer has the whole allowance. An error comes last: the list is cut there.
         let Ok((answer, count)) = found else {

@@ -2,7 +2,7 @@
 //!
 //! `cargo run --example match_one`
 
-use interface::Library;
+use interface::{Language, Library};
 use notation::Symbols;
 use proved::Proved;
 
@@ -11,7 +11,8 @@ fn main() -> Result<(), notation::Error> {
     let rule = symbols.pattern("gates(@0, !open, @1)")?;
     let state = symbols.term("gates(open, gate(shut), held)")?;
 
-    let (outcome, answer) = Proved.find(symbols.table(), &rule, &state, 100_000);
+    let language = Language::simple(symbols.table());
+    let (outcome, answer) = Proved.find(language, &rule, &state, 100_000);
     println!("{} after {} steps", outcome.word().map_or("?", |word| word.text()), outcome.count);
     for j in 0..2 {
         if let (Some(part), Some(terms)) = (answer.run(j), answer.terms(j)) {

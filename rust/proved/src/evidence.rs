@@ -15,9 +15,9 @@ pub struct Evidence {
 }
 
 /// The crates below the interface.
-const CRATES: [&str; 12] = [
+const CRATES: [&str; 13] = [
     "term", "reader", "skips", "parts", "steps", "search", "matcher", "plain", "cost", "sheet",
-    "stored", "rules",
+    "stored", "splice", "rules",
 ];
 
 /// Finds the proved library in the running program. An error says why it is not there, or that
@@ -72,11 +72,11 @@ impl fmt::Display for Evidence {
 #[cfg(test)]
 mod tests {
     use super::*;
-    use interface::Library;
+    use interface::{Language, Library};
 
     #[test]
     fn a_program_that_calls_the_library_holds_it() {
-        assert_eq!(crate::Proved.find(&[0], &[0], &[0], 1).0.count, 1);
+        assert_eq!(crate::Proved.find(Language::simple(&[0]), &[0], &[0], 1).0.count, 1);
         assert!(evidence().is_ok_and(|found| !found.functions.is_empty()));
     }
 

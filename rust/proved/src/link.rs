@@ -8,55 +8,38 @@ macro_rules! library {
         #[derive(Clone, Copy, Debug, Default)]
         pub struct $name;
 
-        // Inputs; a number; what is written.
+        // The edition, where the form `_in` is told it; inputs; a number; what is written.
         $crate::calls! { $name, $prefix,
-            match_one = qonveshir_match(
-                table: u8, pattern: u8, record: u8; allowance; answer: u16) -> Outcome;
-            match_one_with_classes = qonveshir_match_with_classes(
-                table: u8, classes: u8, pattern: u8, record: u8; allowance; answer: u16) -> Outcome;
+            match_one = qonveshir_match(edition; pattern: u8, record: u8; allowance; answer: u16);
             next = qonveshir_next(
-                table: u8, pattern: u8, record: u8, given: u16; allowance; answer: u16) -> Outcome;
-            next_with_classes = qonveshir_next_with_classes(
-                table: u8, classes: u8, pattern: u8, record: u8,
-                given: u16; allowance; answer: u16) -> Outcome;
-            match_plain = qonveshir_match_plain(
-                table: u8, pattern: u8, record: u8; ; answer: u16) -> Outcome;
-            match_plain_with_classes = qonveshir_match_plain_with_classes(
-                table: u8, classes: u8, pattern: u8, record: u8; ; answer: u16) -> Outcome;
-            match_rules = qonveshir_match_rules(
-                table: u8, rules: u8, record: u8; allowance; answer: u16) -> Outcome;
-            match_rules_with_classes = qonveshir_match_rules_with_classes(
-                table: u8, classes: u8, rules: u8, record: u8; allowance; answer: u16) -> Outcome;
+                edition; pattern: u8, record: u8, given: u16; allowance; answer: u16);
+            match_plain = qonveshir_match_plain(edition; pattern: u8, record: u8; ; answer: u16);
+            match_rules = qonveshir_match_rules(; rules: u8, record: u8; allowance; answer: u16);
             write_sheet = qonveshir_write_sheet(
-                table: u8, records: u8, lengths: u16; ; output: u8) -> Outcome;
-            entry = qonveshir_entry(sheet: u8; index; ) -> Part;
-            check_rules = qonveshir_check_rules(table: u8, sheet: u8; ; ) -> Outcome;
-            check_states = qonveshir_check_states(table: u8, sheet: u8; ; ) -> Outcome;
-            cost = qonveshir_cost(table: u8, pattern: u8; ; ) -> Outcome;
-            store = qonveshir_store(table: u8, record: u8; ; output: u8) -> Outcome;
-            restore = qonveshir_restore(table: u8, stored: u8; ; output: u8) -> Outcome;
+                edition; records: u8, lengths: u16; ; output: u8);
+            check_rules = qonveshir_check_rules(; sheet: u8; ; );
+            check_states = qonveshir_check_states(; sheet: u8; ; );
+            cost = qonveshir_cost(edition; pattern: u8; ; );
+            store = qonveshir_store(edition; record: u8; ; output: u8);
+            restore = qonveshir_restore(edition; stored: u8; ; output: u8);
+            splice_record = qonveshir_splice_record(; record: u8; ; output: u8);
+            splice_pattern = qonveshir_splice_pattern(; pattern: u8; ; output: u8);
         }
     };
 }
 
-/// Declares the calls of a library, a slice as its pointer and its length, and hands slices on.
+/// Declares the calls of a library in both forms, a slice as its pointer and its length, and hands
+/// slices on: to the simple form where no class list is brought and the edition, where the call is
+/// told it, is 1; else to the form `_in`.
 #[doc(hidden)]
 #[macro_export]
 macro_rules! calls {
     ($name:ident, $prefix:literal, $($safe:ident = $call:ident(
-        $($input:ident: $element:ty),*; $($number:ident)?; $($output:ident: $written:ty)?
-    ) -> $shown:ident;)*) => {
+        $($edition:ident)?; $($input:ident: $element:ty),*; $($number:ident)?;
+        $($output:ident: $written:ty)?
+    );)*) => {
         const _: () = {
-            use ::interface::{Library, Outcome, Part};
-
-            extern "C" {
-                $(#[link_name = concat!($prefix, stringify!($call))]
-                fn $call(
-                    $($input: *const $element, _: usize,)*
-                    $($number: u32,)?
-                    $($output: *mut $written, _: usize)?
-                ) -> $shown;)*
-            }
+            use ::interface::{Edition, Language, Library, Outcome, Part};
 
             // SAFETY, for each call: a slice is a valid pointer to as many elements as its length
             // says, a `&mut` slice overlaps no other, and the library reads and writes within the
@@ -64,18 +47,60 @@ macro_rules! calls {
             impl Library for $name {
                 $(fn $safe(
                     &self,
+                    language: Language,
                     $($input: &[$element],)*
                     $($number: u32,)?
                     $($output: &mut [$written])?
-                ) -> $shown {
+                ) -> Outcome {
+                    extern "C" {
+                        #[link_name = concat!($prefix, stringify!($call))]
+                        fn simple(
+                            table: *const u8, _: usize,
+                            $($input: *const $element, _: usize,)*
+                            $($number: u32,)?
+                            $($output: *mut $written, _: usize)?
+                        ) -> Outcome;
+                        #[link_name = concat!($prefix, stringify!($call), "_in")]
+                        fn told(
+                            $($edition: Edition,)?
+                            table: *const u8, _: usize,
+                            classes: *const u8, _: usize,
+                            $($input: *const $element, _: usize,)*
+                            $($number: u32,)?
+                            $($output: *mut $written, _: usize)?
+                        ) -> Outcome;
+                    }
+                    let table = language.table;
+                    if language.classes.is_none() $(&& language.$edition == Edition::ONE)? {
+                        return unsafe {
+                            simple(
+                                table.as_ptr(), table.len(),
+                                $($input.as_ptr(), $input.len(),)*
+                                $($number,)?
+                                $($output.as_mut_ptr(), $output.len())?
+                            )
+                        };
+                    }
+                    let classes = language.class_list();
                     unsafe {
-                        $call(
+                        told(
+                            $(language.$edition,)?
+                            table.as_ptr(), table.len(),
+                            classes.as_ptr(), classes.len(),
                             $($input.as_ptr(), $input.len(),)*
                             $($number,)?
                             $($output.as_mut_ptr(), $output.len())?
                         )
                     }
                 })*
+
+                fn entry(&self, sheet: &[u8], index: u32) -> Part {
+                    extern "C" {
+                        #[link_name = concat!($prefix, "qonveshir_entry")]
+                        fn entry(sheet: *const u8, _: usize, index: u32) -> Part;
+                    }
+                    unsafe { entry(sheet.as_ptr(), sheet.len(), index) }
+                }
             }
         };
     };

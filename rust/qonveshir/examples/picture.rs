@@ -6,7 +6,7 @@
 //! ```
 
 use command_line::ENGINE;
-use interface::{Answer, FIRST_NAME, FIRST_RUN};
+use interface::{Answer, Language, FIRST_NAME, FIRST_RUN};
 use notation::{Shown, Symbols};
 use std::ops::Range;
 
@@ -35,7 +35,8 @@ pub fn svg() -> String {
     let symbols = Symbols::parse(SYMBOLS).expect("symbols");
     let (pattern, record) =
         (symbols.pattern(RULE).expect("a rule"), symbols.term(STATE).expect("a state"));
-    let (outcome, answer) = ENGINE.0.find(symbols.table(), &pattern, &record, 1_000);
+    let language = Language::simple(symbols.table());
+    let (outcome, answer) = ENGINE.0.find(language, &pattern, &record, 1_000);
     let rule = symbols.shown_pattern(&pattern).expect("a pattern");
     let state = symbols.shown_term(&record).expect("a record");
     let mut drawn = format!(

@@ -3,8 +3,9 @@
 use crate::command::{wrong_call, Command};
 use crate::explain;
 use crate::folder::{Folder, FILES};
-use crate::{Console, Reply, Stop, ENGINE};
-use interface::Word;
+use crate::sheets::parts;
+use crate::{editions, Console, Reply, Stop};
+use interface::{edition_of, Language, Word};
 
 pub const CHECK: Command = Command {
     name: "check",
@@ -16,7 +17,8 @@ pub const CHECK: Command = Command {
     help: "\
 The files are table.bin, rules.bin and states.bin. The last line is the refusal
 that the report prints, which is that of the first file at fault. Rules and
-states are checked by the table, so they aren't where it is refused.
+states are checked by the table, so they aren't where it is refused; and both
+sheets must have the same edition.
 ",
     run: |arguments, _: &mut Console| match arguments {
         [folder] => check(&Folder::read(folder)),
@@ -33,8 +35,7 @@ fn check(folder: &Folder) -> Reply {
                 format!("{path}: not checked, since there is no accepted table")
             }
             Err(error) => {
-                let unread = Word::Unread;
-                format!("{path}: refused {} {}\n{error}", unread.number(), unread.text())
+                format!("{path}: {}\n{error}", explain::numbered(Word::Unread))
             }
             Ok(bytes) => one(folder, file, &path, bytes),
         };
@@ -49,16 +50,22 @@ fn check(folder: &Folder) -> Reply {
 /// What is said of a file that can be read, where the table is accepted.
 fn one(folder: &Folder, file: usize, path: &str, bytes: &[u8]) -> String {
     let (_, kind) = FILES[file];
-    let table = folder.file(0).unwrap_or(&[]);
-    if folder.verdict(file).number != 0 {
-        return match explain::check(kind, bytes, table) {
+    let [table, rules] = [0, 1].map(|file| folder.file(file).unwrap_or(&[]));
+    let verdict = folder.verdict(file);
+    if verdict.number != 0 {
+        let checked = match file {
+            2 if folder.verdict(1).number == 0 => {
+                explain::check_states(bytes, table, edition_of(rules))
+            }
+            _ => explain::check(kind, bytes, Language::simple(table)),
+        };
+        return match checked {
             Err(refusal) => explain::refused(kind, path, bytes, table, refusal),
-            Ok(()) => format!("{path}: refused {}", folder.verdict(file).number),
+            Ok(()) => format!("{path}: refused {}", verdict.number),
         };
     }
-    let entries = (0..).take_while(|index| ENGINE.0.entry(bytes, *index).number == 0).count();
     match file {
         0 => format!("{path}: accepted, symbols: {}", bytes.len()),
-        _ => format!("{path}: accepted, {kind}: {entries}"),
+        _ => format!("{path}: accepted, {kind}: {}{}", parts(bytes).count(), editions::said(bytes)),
     }
 }

@@ -1,7 +1,8 @@
 //! The commands, and their help.
 
 use crate::{
-    check, cost, explain, matching, report, sheets, stored, trouble, why, Console, Reply, Stop,
+    check, cost, explain, matching, report, sheets, splice, stored, trouble, why, Console, Reply,
+    Stop,
 };
 
 /// Every command, in the order in which the help has them.
@@ -13,6 +14,7 @@ pub const COMMANDS: &[Command] = &[
     check::CHECK,
     report::REPORT,
     cost::COST,
+    splice::SPLICE,
     stored::STORE,
     stored::RESTORE,
     explain::EXPLAIN,
@@ -68,6 +70,10 @@ meaning count as the same in a match. Rules and states are written as in
 line, which may have a name before it, as in `one-shut: gates(@0, shut, @1)`; #
 starts a comment and empty lines are passed over. TABLE, CLASSES, SHEET and FILE
 are in bytes. docs/GUIDE.md says how to write rules.
+
+E is the edition of the rule language: 1, if not given, or 2, in which rules and
+states have no list directly inside a list of the same symbol or meaning;
+`qonveshir splice` puts its elements in its place. A sheet tells its edition.
 ";
 
 const STATUS: &str = "\

@@ -3,7 +3,7 @@
 use crate::command::{wrong_call, Command};
 use crate::sheets::{accepted, lines};
 use crate::{read, read_symbols, Console, Reply, ENGINE};
-use interface::Word;
+use interface::{edition_of, Word};
 
 pub const COST: Command = Command {
     name: "cost",
@@ -22,11 +22,12 @@ pub const COST: Command = Command {
 /// What each rule of a sheet can cost at most.
 fn cost(symbols: &str, path: &str) -> Reply {
     let (symbols, sheet) = (read_symbols(symbols)?, read(path)?);
-    accepted(path, ENGINE.0.check_rules(symbols.table(), &sheet))?;
+    let language = symbols.language(edition_of(&sheet));
+    accepted(path, ENGINE.0.check_rules(language, &sheet))?;
     lines(path, &sheet, |rule| {
-        let cost = ENGINE.0.cost(symbols.table(), rule);
+        let cost = ENGINE.0.cost(language, rule);
         let text = symbols.show_pattern(rule)?;
-        let plain = if ENGINE.0.is_plain(symbols.table(), rule) { ", plain" } else { "" };
+        let plain = if ENGINE.0.is_plain(language, rule) { ", plain" } else { "" };
         Ok(match cost.word() {
             Some(Word::Bound) => format!("at most {}{plain}: {text}", cost.count),
             _ => format!("no bound{plain}: {text}"),

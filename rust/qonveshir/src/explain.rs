@@ -1,10 +1,11 @@
 //! `explain`: the readers of the independent implementation find the place.
 
 use crate::command::{wrong_call, Command};
-use crate::{read, trouble, Console, Reply, Stop};
+use crate::{editions, read, trouble, Console, Reply, Stop};
 use interface::*;
 use reference::{
-    classes::Classes, pattern::Steps, record::Record, sheet::Sheet, stored, table::Table, Refusal,
+    classes::Classes, fault::Fault, grammar::Grammar, pattern::Steps, record::Record, sheet::Sheet,
+    stored, Refusal,
 };
 
 /// What the proved program `codes` prints: a line for each code from 0 up, the code and its kind.
@@ -14,31 +15,37 @@ pub const EXPLAIN: Command = Command {
     name: "explain",
     usage: &[
         (
-            "explain TABLE [--KIND FILE]...",
+            "explain [--edition E] TABLE [--KIND FILE]...",
             "say why a table is refused, or a file over it; KIND is classes, rules, states, \
              pattern, record or stored",
         ),
         ("explain NUMBER", "say what a number means"),
         ("explain --code CODE", "say what kind a code of a pattern is"),
     ],
-    help: "",
+    help: "\
+A class list counts for the files named after it.
+",
     run: explain,
 };
 
 /// Explains what the arguments name: a number, a code, or a table and inputs over it.
 fn explain(arguments: &[&str], _: &mut Console) -> Reply {
-    match arguments {
-        [] => wrong_call("explain"),
-        ["--code", code] => kind(code),
-        [number] if number.parse::<u32>().is_ok() => meaning(number.parse().unwrap_or(u32::MAX)),
-        [table, inputs @ ..] => explain_inputs(table, inputs),
+    let (edition, arguments) = editions::taken(arguments)?;
+    match (edition, &arguments[..]) {
+        (_, []) => wrong_call("explain"),
+        (None, ["--code", code]) => kind(code),
+        (None, [number]) if number.parse::<u32>().is_ok() => {
+            explain_number(number.parse().unwrap_or(u32::MAX))
+        }
+        (_, [table, inputs @ ..]) => explain_inputs(edition.unwrap_or(Edition::ONE), table, inputs),
     }
 }
 
 /// Checks a table, and inputs over it.
-fn explain_inputs(path: &str, mut rest: &[&str]) -> Reply {
-    let table = read(path)?;
-    let mut text = input("table", path, &table, &table)?;
+fn explain_inputs(edition: Edition, path: &str, mut rest: &[&str]) -> Reply {
+    let (table, mut classes) = (read(path)?, None);
+    let simple = Language::simple(&table).in_edition(edition);
+    let mut text = input("table", path, &table, simple)?;
     while let [option, path, later @ ..] = rest {
         let kind = match *option {
             "--classes" => "classes",
@@ -49,7 +56,11 @@ fn explain_inputs(path: &str, mut rest: &[&str]) -> Reply {
             "--stored" => "stored",
             _ => return trouble(format!("{option}: see qonveshir explain --help")),
         };
-        text += &input(kind, path, &read(path)?, &table)?;
+        let bytes = read(path)?;
+        text += &input(kind, path, &bytes, Language { classes: classes.as_deref(), ..simple })?;
+        if kind == "classes" {
+            classes = Some(bytes);
+        }
         rest = later;
     }
     match rest {
@@ -58,11 +69,33 @@ fn explain_inputs(path: &str, mut rest: &[&str]) -> Reply {
     }
 }
 
-fn meaning(number: u32) -> Reply {
+fn explain_number(number: u32) -> Reply {
     match Word::of(number) {
-        Some(word) => Ok(format!("{number} {}: {}\n", word.text(), word.meaning())),
+        Some(word) => Ok(format!("{number} {}: {}\n", word.text(), meaning(word))),
         None => trouble(format!("{number}: there is no such number")),
     }
+}
+
+/// A refusal's number and word.
+pub fn numbered(word: Word) -> String {
+    format!("refused {} {}", word.number(), word.text())
+}
+
+/// Stops at a refusal of what a path names, at a place in it.
+pub fn stop<T>(path: &str, refused: Outcome, place: &str) -> Result<T, Stop> {
+    Err(Stop::No(match refused.word() {
+        Some(word) => format!("{path}: {}{place}: {}", numbered(word), meaning(word)),
+        None => format!("{path}: refused {}{place}", refused.number),
+    }))
+}
+
+/// When a word is given, and what to do where a command mends it.
+pub fn meaning(word: Word) -> String {
+    let mend = match word {
+        Word::Unspliced => "; qonveshir splice puts its elements in its place",
+        _ => "",
+    };
+    word.meaning().to_string() + mend
 }
 
 /// The line of a code.
@@ -74,33 +107,46 @@ fn kind(code: &str) -> Reply {
 }
 
 /// Checks one input.
-fn input(kind: &str, path: &str, bytes: &[u8], table: &[u8]) -> Reply {
-    match check(kind, bytes, table) {
-        Ok(()) => Ok(format!("{path}: accepted as {kind}\n")),
-        Err(refusal) => Err(Stop::No(refused(kind, path, bytes, table, refusal))),
+fn input(kind: &str, path: &str, bytes: &[u8], language: Language) -> Reply {
+    let said = if kind == "rules" || kind == "states" { editions::said(bytes) } else { "" };
+    match check(kind, bytes, language) {
+        Ok(()) => Ok(format!("{path}: accepted as {kind}{said}\n")),
+        Err(refusal) => Err(Stop::No(refused(kind, path, bytes, language.table, refusal))),
     }
 }
 
-pub fn check(kind: &str, bytes: &[u8], table: &[u8]) -> Result<(), Refusal> {
-    let symbols = Table::read(table)?;
+pub fn check(kind: &str, bytes: &[u8], language: Language) -> Result<(), Refusal> {
+    let grammar = Grammar::read(language)?;
     match kind {
-        "classes" => Classes::read(symbols, bytes).map(|_| ())?,
-        "rules" => reference::check_rules(table, bytes)?,
-        "states" => reference::check_states(table, bytes)?,
-        "pattern" => Steps::new().read(symbols, bytes).map(|_| ())?,
-        "record" => Record::check(symbols, bytes)?,
-        "stored" => stored::check(symbols, bytes).map(|_| ())?,
+        "classes" => Classes::read(grammar.table, bytes).map(|_| ())?,
+        "rules" => reference::check_rules(language, bytes)?,
+        "states" => reference::check_states(language, bytes)?,
+        "pattern" => Steps::new().read(grammar, bytes).map(|_| ())?,
+        "record" => Record::check(grammar, bytes)?,
+        "stored" => stored::check(grammar, bytes).map(|_| ())?,
         _ => {}
     }
     Ok(())
 }
+
+/// Why the states of a report are refused, whose rules have the edition given.
+pub fn check_states(states: &[u8], table: &[u8], rules: Edition) -> Result<(), Refusal> {
+    if Sheet::read(states).is_ok() && edition_of(states) != rules {
+        let fault = Fault { word: Word::Directory, at: EDITION_BYTE as u32 };
+        return Err(fault.into());
+    }
+    check("states", states, Language::simple(table))
+}
+
+/// The byte of a sheet that has the mark of its edition.
+const EDITION_BYTE: usize = 1;
 
 /// Number, word, input, byte and what was expected there.
 pub fn refused(kind: &str, path: &str, bytes: &[u8], table: &[u8], refusal: Refusal) -> String {
     let (word, within) = (refusal.fault.word, refusal.fault.at as usize);
     let start = refusal.entry.and_then(|entry| Sheet::read(bytes).ok()?.range(entry));
     let at = start.map_or(0, |range| range.start) + within;
-    let mut text = format!("{path}: refused {} {}\ninput: {kind}", word.number(), word.text());
+    let mut text = format!("{path}: {}\ninput: {kind}", numbered(word));
     if let Some(entry) = refusal.entry {
         text += &format!(", entry {entry}");
     }
@@ -140,6 +186,7 @@ fn expected(kind: &str, word: Word, in_entry: bool, at: usize) -> &'static str {
         Word::Long => "at most 32,768 bytes",
         Word::Length => "the length in bytes of the list's children, low byte first",
         Word::Stray => "a run name only as a direct child of a list",
+        Word::Unspliced => "this list's elements in its place, as qonveshir splice puts them",
         _ => word.meaning(),
     }
 }
@@ -168,10 +215,12 @@ fn class(list: &[u8], at: usize, table: &[u8]) -> String {
 
 /// What a sheet's directory should have at a place.
 fn directory(bytes: &[u8], at: usize) -> &'static str {
-    let entries = bytes.get(..2).map_or(0, |pair| u16::from_le_bytes([pair[0], pair[1]]).into());
+    let count = bytes.first_chunk().map_or(0, |count| u16::from_le_bytes(*count) % EDITION_MARK);
     match at {
         _ if at >= bytes.len() => "a further number of the directory, in two bytes",
-        _ if at >= 2 + 4 * entries => "the end of the sheet, where its last entry ends",
+        EDITION_BYTE if edition_of(bytes) == Edition::TWO => "edition 1, which the rules have",
+        EDITION_BYTE => "edition 2, which the rules have",
+        _ if at >= 2 + 4 * usize::from(count) => "the end of the sheet, where its last entry ends",
         _ if at % 4 == 2 => "the offset at which the entry before ends, or the directory",
         _ => "a length over 0 that stays within the sheet",
     }

@@ -1,6 +1,7 @@
 //! Files.
 
-use crate::{trouble, Reply, Stop};
+use crate::kind::Kind;
+use crate::{editions, trouble, Reply, Stop};
 use interface::SHEET_LIMIT;
 use notation::{Entry, Symbols};
 use std::collections::HashSet;
@@ -32,8 +33,17 @@ pub fn read_text(path: &str) -> Result<String, Stop> {
 }
 
 pub fn write(path: &str, bytes: &[u8]) -> Reply {
+    put(path, bytes, "")
+}
+
+/// Writes a sheet, and says its edition too.
+pub fn write_sheet(path: &str, sheet: &[u8]) -> Reply {
+    put(path, sheet, editions::said(sheet))
+}
+
+fn put(path: &str, bytes: &[u8], said: &str) -> Reply {
     fs::write(path, bytes).or_else(|error| trouble(format!("{path}: {error}")))?;
-    Ok(format!("{path}: {} bytes\n", bytes.len()))
+    Ok(format!("{path}: {} bytes{said}\n", bytes.len()))
 }
 
 /// Reads symbols from the file of that name. If there is none, a text with a blank in it is taken
@@ -46,26 +56,26 @@ pub fn read_symbols(given: &str) -> Result<Symbols, Stop> {
     Symbols::parse(&text).or_else(|error| trouble(format!("{given}: {error}")))
 }
 
-/// An entry of a text file: its name, if it has one, and its bytes.
+/// An entry of a text file: its line, its name, if it has one, its text and its bytes.
 pub struct Named {
+    pub line: usize,
     pub name: Option<String>,
+    pub body: String,
     pub bytes: Vec<u8>,
 }
 
 /// The entries of a text file. No two have one name.
-pub fn read_entries(
-    path: &str,
-    parse: impl Fn(&str) -> Result<Vec<u8>, notation::Error>,
-) -> Result<Vec<Named>, Stop> {
+pub fn read_entries(path: &str, kind: Kind, symbols: &Symbols) -> Result<Vec<Named>, Stop> {
     let (text, mut names, mut entries) = (read_text(path)?, HashSet::new(), Vec::new());
     for Entry { line, name, body } in notation::entries(&text) {
         if let Some(name) = name.filter(|name| !names.insert(*name)) {
             return trouble(format!("{path}: line {line}: {name} names a line before"));
         }
-        match parse(&body) {
-            Ok(bytes) => entries.push(Named { name: name.map(String::from), bytes }),
+        let bytes = match kind.parse(symbols, &body) {
+            Ok(parsed) => parsed.bytes,
             Err(error) => return trouble(format!("{path}: line {line}, {error}")),
-        }
+        };
+        entries.push(Named { line, name: name.map(String::from), body, bytes });
     }
     Ok(entries)
 }

@@ -1,8 +1,9 @@
 //! The files of a report in their folder.
 
 use crate::files::{front, read_entries, read_symbols, Named};
+use crate::kind::Kind;
 use crate::{trouble, Stop, ENGINE};
-use interface::{Outcome, Word, SHEET_LIMIT};
+use interface::{edition_of, Language, Outcome, Word, SHEET_LIMIT};
 use notation::Symbols;
 use std::path::Path;
 
@@ -46,10 +47,18 @@ impl Folder {
         let (Ok(table), Ok(bytes)) = (self.file(0), self.file(file)) else { return unread };
         match file {
             // No rules: what is refused then is the table.
-            0 => ENGINE.0.check_rules(table, &[0, 0]),
-            1 => ENGINE.0.check_rules(table, bytes),
-            _ => ENGINE.0.check_states(table, bytes),
+            0 => ENGINE.0.check_rules(Language::simple(table), &[0, 0]),
+            1 => ENGINE.0.check_rules(Language::simple(table), bytes),
+            _ if self.unlike(bytes) => Outcome::refused(Word::Directory, 0),
+            _ => ENGINE.0.check_states(Language::simple(table), bytes),
         }
+    }
+
+    /// Whether states within their limit have another edition than accepted rules.
+    fn unlike(&self, states: &[u8]) -> bool {
+        let accepted = self.verdict(1).number == 0 && states.len() <= SHEET_LIMIT;
+        let rules = self.file(1).map(edition_of);
+        accepted && rules.is_ok_and(|edition| edition != edition_of(states))
     }
 
     /// The first refusal, as the report has it.
@@ -65,15 +74,21 @@ impl Folder {
         let [symbols, rules, states] = TEXTS.map(|name| format!("{}/{name}", self.path));
         let symbols = read_symbols(&symbols)?;
         self.agrees(0, symbols.table(), TEXTS[0])?;
-        let read_rules = read_entries(&rules, |line| symbols.pattern(line))?;
-        self.agrees(1, &sheet(&read_rules), TEXTS[1])?;
+        let read_rules = read_entries(&rules, Kind::Rule, &symbols)?;
+        self.agrees(1, &self.sheet(1, &read_rules), TEXTS[1])?;
         let mut read_states = Vec::new();
         if Path::new(&states).exists() {
-            read_states = read_entries(&states, |line| symbols.term(line))?;
-            self.agrees(2, &sheet(&read_states), TEXTS[2])?;
+            read_states = read_entries(&states, Kind::State, &symbols)?;
+            self.agrees(2, &self.sheet(2, &read_states), TEXTS[2])?;
         }
         let names = |entries: Vec<Named>| entries.into_iter().map(|entry| entry.name).collect();
         Ok(Names { symbols, rules: names(read_rules), states: names(read_states) })
+    }
+
+    /// A sheet of entries in the edition of a file.
+    fn sheet(&self, file: usize, entries: &[Named]) -> Vec<u8> {
+        let entries: Vec<_> = entries.iter().map(|entry| entry.bytes.clone()).collect();
+        interface::sheet_of(edition_of(self.file(file).unwrap_or(&[])), &entries)
     }
 
     /// Whether a file is what a text comes to.
@@ -85,10 +100,6 @@ impl Folder {
             }
         }
     }
-}
-
-fn sheet(entries: &[Named]) -> Vec<u8> {
-    interface::sheet_of(&entries.iter().map(|entry| entry.bytes.clone()).collect::<Vec<_>>())
 }
 
 /// What the rules and states of a folder are called.

@@ -1,10 +1,12 @@
 //! `match`.
 
 use crate::command::{wrong_call, Command};
+use crate::explain::numbered;
+use crate::kind::Kind;
 use crate::marks::{coloured, marked, Mark, GREEN, RED};
 use crate::progress::Progress;
-use crate::{read_symbols, trouble, Console, Look, Reply, Stop, ENGINE};
-use interface::{Answer, Answers, Outcome, Word, NAMES, RUNS};
+use crate::{editions, read_symbols, trouble, Console, Look, Reply, Stop, ENGINE};
+use interface::{Answer, Answers, Edition, Language, Outcome, Word, NAMES, RUNS};
 use notation::{Error, Symbols};
 use std::ops::Range;
 
@@ -12,12 +14,13 @@ pub const MATCH: Command = Command {
     name: "match",
     usage: &[
         (
-            "match [--all] [--marks] [--allowance N] SYMBOLS RULE STATE",
-            "match a rule against a state, both given as text, and show the first answer, or all \
-             of them; N, 100,000 if not given, is the allowance of each answer",
+            "match [OPTION]... SYMBOLS RULE STATE",
+            "match a rule against a state, both given as text, and show the first answer; an \
+             OPTION is --all for every answer, --marks, --allowance N for that of each answer, \
+             100,000 if not given, or --edition E",
         ),
         (
-            "match --plain [--marks] SYMBOLS RULE STATE",
+            "match --plain [--marks] [--edition E] SYMBOLS RULE STATE",
             "match a plain rule by the plain tier, which needs no allowance: a rule without \
              complements, with no name or run name twice and at most one run name in a list",
         ),
@@ -40,18 +43,21 @@ pub const ALLOWANCE: u32 = 100_000;
 type Find = fn(&Asked, u32, &mut Console) -> Reply;
 
 /// Runs a match by its arguments: options, then symbols, rule and state.
-fn matched(mut arguments: &[&str], console: &mut Console) -> Reply {
+fn matched(arguments: &[&str], console: &mut Console) -> Reply {
+    let (edition, arguments) = editions::taken(arguments)?;
+    let edition = edition.unwrap_or(Edition::ONE);
     let (mut find, mut allowance): (Find, _) = (find, ALLOWANCE);
+    let mut arguments = &arguments[..];
     loop {
         match arguments {
-            ["--plain", rest @ ..] => return matched_plain(rest, console),
+            ["--plain", rest @ ..] => return matched_plain(edition, rest, console),
             ["--all", rest @ ..] => (find, arguments) = (find_all, rest),
             ["--marks", rest @ ..] => (console.look.marks, arguments) = (true, rest),
             ["--allowance", number, rest @ ..] => {
                 (allowance, arguments) = (read_allowance(number)?, rest)
             }
             [symbols, rule, state] => {
-                return find(&Asked::read(symbols, rule, state)?, allowance, console)
+                return find(&Asked::read(edition, symbols, rule, state)?, allowance, console)
             }
             _ => return wrong_call("match"),
         }
@@ -59,13 +65,15 @@ fn matched(mut arguments: &[&str], console: &mut Console) -> Reply {
 }
 
 /// The same by the plain tier; of the options only `--marks` may follow.
-fn matched_plain(arguments: &[&str], console: &mut Console) -> Reply {
+fn matched_plain(edition: Edition, arguments: &[&str], console: &mut Console) -> Reply {
     match arguments {
         ["--marks", rest @ ..] => {
             console.look.marks = true;
-            matched_plain(rest, console)
+            matched_plain(edition, rest, console)
         }
-        [symbols, rule, state] => find_plain(&Asked::read(symbols, rule, state)?, console.look),
+        [symbols, rule, state] => {
+            find_plain(&Asked::read(edition, symbols, rule, state)?, console.look)
+        }
         _ => wrong_call("match"),
     }
 }
@@ -80,20 +88,18 @@ fn find(asked: &Asked, allowance: u32, console: &mut Console) -> Reply {
     let (look, mut answers) = (console.look, asked.answers(allowance));
     match next_answer(&mut answers, allowance) {
         Some(Ok((answer, count))) => asked.bound(&answer, count, look),
-        Some(Err(outcome)) => Err(Stop::No(stopped(outcome, look))),
+        Some(Err(outcome)) => Err(Stop::No(asked.stopped(outcome, look))),
         None => Err(Stop::No(none(answers.counted(), look))),
     }
 }
 
 /// The same by the plain tier, which takes no allowance.
 fn find_plain(asked: &Asked, look: Look) -> Reply {
-    let (table, classes) = (asked.symbols.table(), asked.symbols.classes());
-    let (outcome, answer) =
-        ENGINE.0.find_plain_with_classes(table, classes, &asked.pattern, &asked.record);
+    let (outcome, answer) = ENGINE.0.find_plain(asked.language(), &asked.pattern, &asked.record);
     match outcome.word() {
         Some(Word::Bound) => asked.bound(&answer, outcome.count, look),
         Some(Word::None) => Err(Stop::No(none(outcome.count, look))),
-        _ => Err(Stop::No(stopped(outcome, look))),
+        _ => Err(Stop::No(asked.stopped(outcome, look))),
     }
 }
 
@@ -102,7 +108,7 @@ fn find_all(asked: &Asked, allowance: u32, console: &mut Console) -> Reply {
     let (look, mut answers) = (console.look, asked.answers(allowance));
     let mut number = 0;
     while let Some(found) = next_answer(&mut answers, allowance) {
-        let (answer, count) = found.map_err(|outcome| Stop::No(stopped(outcome, look)))?;
+        let (answer, count) = found.map_err(|outcome| Stop::No(asked.stopped(outcome, look)))?;
         if !console.print(&asked.bound(&answer, count, look)?).or_else(trouble)? {
             return Ok(String::new());
         }
@@ -123,25 +129,52 @@ pub fn next_answer(
     answers.next()
 }
 
-/// A rule and a state over symbols.
-pub struct Asked {
+/// A rule and a state over symbols, in an edition.
+pub struct Asked<'a> {
     pub symbols: Symbols,
     pub pattern: Vec<u8>,
     pub record: Vec<u8>,
+    edition: Edition,
+    /// The texts of rule and state.
+    texts: [&'a str; 2],
 }
 
-impl Asked {
-    pub fn read(symbols: &str, rule: &str, state: &str) -> Result<Self, Stop> {
+impl<'a> Asked<'a> {
+    pub fn read(
+        edition: Edition,
+        symbols: &str,
+        rule: &'a str,
+        state: &'a str,
+    ) -> Result<Self, Stop> {
         let symbols = read_symbols(symbols)?;
         let pattern = symbols.pattern(rule).or_else(|error| trouble(format!("rule, {error}")))?;
         let record = symbols.term(state).or_else(|error| trouble(format!("state, {error}")))?;
-        Ok(Asked { symbols, pattern, record })
+        Ok(Asked { symbols, pattern, record, edition, texts: [rule, state] })
     }
 
     pub fn answers(&self, allowance: u32) -> Answers<'_> {
-        let Asked { symbols, pattern, record } = self;
-        let (table, classes) = (symbols.table(), Some(symbols.classes()));
-        Answers::new(ENGINE.0, table, classes, pattern, record, allowance)
+        Answers::new(ENGINE.0, self.language(), &self.pattern, &self.record, allowance)
+    }
+
+    fn language(&self) -> Language<'_> {
+        self.symbols.language(self.edition)
+    }
+
+    /// An outcome that is spent or refused; of an unspliced text the place is told.
+    pub fn stopped(&self, outcome: Outcome, look: Look) -> String {
+        match outcome.word() {
+            Some(Word::Spent) => {
+                format!("{} {}", coloured(Word::Spent.text(), RED, look), outcome.count)
+            }
+            Some(Word::Unspliced) => {
+                let mut texts = [Kind::Rule, Kind::State].into_iter().zip(self.texts);
+                let place = texts.find_map(|(kind, text)| {
+                    Some(format!(", {}, {}", kind.name(), kind.unspliced(&self.symbols, text)?))
+                });
+                numbered(Word::Unspliced) + &place.unwrap_or_default()
+            }
+            _ => format!("refused {}", outcome.number),
+        }
     }
 
     /// The count, the state with marks if the look has them, and a line for each free name and run
@@ -190,14 +223,4 @@ impl Asked {
 
 pub fn none(count: u64, look: Look) -> String {
     format!("{} {count}", coloured(Word::None.text(), RED, look))
-}
-
-/// An outcome that is spent or refused.
-pub fn stopped(outcome: Outcome, look: Look) -> String {
-    match outcome.word() {
-        Some(Word::Spent) => {
-            format!("{} {}", coloured(Word::Spent.text(), RED, look), outcome.count)
-        }
-        _ => format!("refused {}", outcome.number),
-    }
 }

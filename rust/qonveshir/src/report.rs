@@ -5,7 +5,7 @@ use crate::folder::{Folder, Names};
 use crate::matching::ALLOWANCE;
 use crate::progress::Progress;
 use crate::{trouble, Console, Reply, Stop, ENGINE};
-use interface::{Word, ABSENT, ANSWER};
+use interface::{Language, Word, ABSENT, ANSWER, EDITION_MARK};
 
 pub const REPORT: Command = Command {
     name: "report",
@@ -61,7 +61,7 @@ fn report(folder: &Folder, with_names: bool, console: &mut Console) -> Reply {
 
 /// The number of entries of an accepted sheet.
 fn entries(sheet: &[u8]) -> usize {
-    u16::from_le_bytes([sheet[0], sheet[1]]).into()
+    (u16::from_le_bytes([sheet[0], sheet[1]]) % EDITION_MARK).into()
 }
 
 /// Bytes of the text that are printed at once.
@@ -70,7 +70,8 @@ const PIECE: usize = 4_096;
 /// The line of one state.
 fn line(table: &[u8], rules: &[u8], states: &[u8], index: usize, names: Option<&Names>) -> Reply {
     let record = &states[ENGINE.0.entry(states, index as u32).range()];
-    let outcome = ENGINE.0.match_rules(table, rules, record, ALLOWANCE, &mut [ABSENT; ANSWER]);
+    let language = Language::simple(table);
+    let outcome = ENGINE.0.match_rules(language, rules, record, ALLOWANCE, &mut [ABSENT; ANSWER]);
     let state = match names {
         Some(names) => names.state(index, record).or_else(trouble)?,
         None => index.to_string(),

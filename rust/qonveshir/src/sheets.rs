@@ -1,21 +1,30 @@
 //! `pack` and `unpack`.
 
 use crate::command::{wrong_call, Command};
-use crate::files::read_entries;
+use crate::editions;
+use crate::explain::{numbered, stop};
+use crate::files::{read_entries, write_sheet, Named};
 use crate::folder::{FILES, TEXTS};
+use crate::kind::Kind;
 use crate::{read, read_symbols, trouble, write, Console, Reply, Stop, ENGINE};
-use interface::{sheet_of, Outcome, Word, SHEET_LIMIT};
-use notation::Error;
+use interface::{edition_of, Edition, Outcome, Part, Word};
+use notation::{Error, Symbols};
 
 pub const PACK: Command = Command {
     name: "pack",
     usage: &[
         ("pack table SYMBOLS OUT", "write a table"),
         ("pack classes SYMBOLS OUT", "write its class list"),
-        ("pack rules SYMBOLS TEXT OUT", "write a rule sheet, a line of text for each rule"),
-        ("pack states SYMBOLS TEXT OUT", "write a state sheet, a line of text for each state"),
         (
-            "pack folder FOLDER",
+            "pack rules [--edition E] SYMBOLS TEXT OUT",
+            "write a rule sheet, a line of text for each rule",
+        ),
+        (
+            "pack states [--edition E] SYMBOLS TEXT OUT",
+            "write a state sheet, a line of text for each state",
+        ),
+        (
+            "pack folder [--edition E] FOLDER",
             "write the three files of a report in a folder from its symbols.txt, rules.txt and \
              states.txt",
         ),
@@ -23,7 +32,8 @@ pub const PACK: Command = Command {
     help: "\
 A report is made of table.bin, rules.bin and states.bin, which `pack folder`
 writes. A table has at most 200 symbols, a rule sheet at most 64 rules of at
-most 256 bytes, a state at most 4,096 bytes and a sheet at most 32,768.
+most 256 bytes, a state at most 4,096 bytes and a sheet at most 32,768. Rules
+and states of a report have the same edition.
 ",
     run: pack,
 };
@@ -40,12 +50,14 @@ pub const UNPACK: Command = Command {
 };
 
 fn pack(arguments: &[&str], _: &mut Console) -> Reply {
-    match arguments {
-        ["table", symbols, out] => pack_table(symbols, out),
-        ["classes", symbols, out] => pack_classes(symbols, out),
-        ["rules", symbols, text, out] => pack_rules(symbols, text, out),
-        ["states", symbols, text, out] => pack_states(symbols, text, out),
-        ["folder", folder] => pack_folder(folder),
+    let (edition, arguments) = editions::taken(arguments)?;
+    let told = edition.unwrap_or(Edition::ONE);
+    match (edition, &arguments[..]) {
+        (None, ["table", symbols, out]) => pack_table(symbols, out),
+        (None, ["classes", symbols, out]) => pack_classes(symbols, out),
+        (_, ["rules", symbols, text, out]) => pack_sheet(Kind::Rule, told, symbols, text, out),
+        (_, ["states", symbols, text, out]) => pack_sheet(Kind::State, told, symbols, text, out),
+        (_, ["folder", folder]) => pack_folder(told, folder),
         _ => wrong_call("pack"),
     }
 }
@@ -53,8 +65,8 @@ fn pack(arguments: &[&str], _: &mut Console) -> Reply {
 fn unpack(arguments: &[&str], _: &mut Console) -> Reply {
     match arguments {
         ["classes", symbols, list] => unpack_classes(symbols, list),
-        ["rules", symbols, sheet] => unpack_rules(symbols, sheet),
-        ["states", symbols, sheet] => unpack_states(symbols, sheet),
+        ["rules", symbols, sheet] => unpack_sheet(Kind::Rule, symbols, sheet),
+        ["states", symbols, sheet] => unpack_sheet(Kind::State, symbols, sheet),
         _ => wrong_call("unpack"),
     }
 }
@@ -67,66 +79,70 @@ fn pack_classes(symbols: &str, out: &str) -> Reply {
     write(out, read_symbols(symbols)?.classes())
 }
 
-fn pack_states(symbols: &str, text: &str, out: &str) -> Reply {
-    let symbols = read_symbols(symbols)?;
-    let states = entries(text, |line| symbols.term(line))?;
-    let lengths: Vec<u16> = states.iter().map(|state| state.len() as u16).collect();
-    let mut sheet = vec![0; SHEET_LIMIT];
-    let outcome = ENGINE.0.write_sheet(symbols.table(), &states.concat(), &lengths, &mut sheet);
-    accepted(text, outcome)?;
-    write(out, &sheet[..outcome.count as usize])
+fn pack_sheet(kind: Kind, edition: Edition, symbols: &str, text: &str, out: &str) -> Reply {
+    write_sheet(out, &sheet(kind, edition, &read_symbols(symbols)?, text)?)
 }
 
-fn pack_rules(symbols: &str, text: &str, out: &str) -> Reply {
-    let symbols = read_symbols(symbols)?;
-    let sheet = sheet_of(&entries(text, |line| symbols.pattern(line))?);
-    accepted(text, ENGINE.0.check_rules(symbols.table(), &sheet))?;
-    write(out, &sheet)
+/// The sheet that a text is packed to.
+fn sheet(kind: Kind, edition: Edition, symbols: &Symbols, text: &str) -> Result<Vec<u8>, Stop> {
+    let named = read_entries(text, kind, symbols)?;
+    let entries: Vec<_> = named.iter().map(|entry| entry.bytes.clone()).collect();
+    let sheet = kind.sheet(symbols.language(edition), &entries);
+    sheet.or_else(|refused| refuse_text(text, refused, kind, symbols, &named))
 }
 
-/// Writes the files of a report from the texts beside them.
-fn pack_folder(folder: &str) -> Reply {
+/// Stops at a refusal of a text's entries; of an unspliced one the place in the text is told.
+fn refuse_text<T>(
+    path: &str,
+    refused: Outcome,
+    kind: Kind,
+    symbols: &Symbols,
+    named: &[Named],
+) -> Result<T, Stop> {
+    let entry =
+        named.get(refused.index as usize).filter(|_| refused.word() == Some(Word::Unspliced));
+    let place = entry.and_then(|entry| Some((entry.line, kind.unspliced(symbols, &entry.body)?)));
+    match place {
+        None => refuse(path, refused),
+        Some((line, error)) => {
+            Err(Stop::No(format!("{path}: {}, line {line}, {error}", numbered(Word::Unspliced))))
+        }
+    }
+}
+
+/// Writes the files of a report from the texts beside them, if all can be packed.
+fn pack_folder(edition: Edition, folder: &str) -> Reply {
     let [symbols, rules, states] = TEXTS.map(|name| format!("{folder}/{name}"));
     let [table, rule_sheet, state_sheet] = FILES.map(|(name, _)| format!("{folder}/{name}"));
-    Ok(pack_table(&symbols, &table)?
-        + &pack_rules(&symbols, &rules, &rule_sheet)?
-        + &pack_states(&symbols, &states, &state_sheet)?)
+    let symbols = read_symbols(&symbols)?;
+    let rules = sheet(Kind::Rule, edition, &symbols, &rules)?;
+    let states = sheet(Kind::State, edition, &symbols, &states)?;
+    Ok(write(&table, symbols.table())?
+        + &write_sheet(&rule_sheet, &rules)?
+        + &write_sheet(&state_sheet, &states)?)
 }
 
 fn unpack_classes(symbols: &str, path: &str) -> Reply {
     match read_symbols(symbols)?.with_classes(&read(path)?) {
         Ok(symbols) => Ok(format!("{symbols}\n")),
-        Err(error) => {
-            let (number, word) = (Word::Class.number(), Word::Class.text());
-            Err(Stop::No(format!("{path}: refused {number} {word}, {error}")))
-        }
+        Err(error) => Err(Stop::No(format!("{path}: {}, {error}", numbered(Word::Class)))),
     }
 }
 
-fn unpack_rules(symbols: &str, path: &str) -> Reply {
+fn unpack_sheet(kind: Kind, symbols: &str, path: &str) -> Reply {
     let (symbols, sheet) = (read_symbols(symbols)?, read(path)?);
-    accepted(path, ENGINE.0.check_rules(symbols.table(), &sheet))?;
-    lines(path, &sheet, |entry| symbols.show_pattern(entry))
+    accepted(path, kind.check(symbols.language(edition_of(&sheet)), &sheet))?;
+    lines(path, &sheet, |entry| kind.show(&symbols, entry))
 }
 
-fn unpack_states(symbols: &str, path: &str) -> Reply {
-    let (symbols, sheet) = (read_symbols(symbols)?, read(path)?);
-    accepted(path, ENGINE.0.check_states(symbols.table(), &sheet))?;
-    lines(path, &sheet, |entry| symbols.show_term(entry))
-}
-
-/// The bytes of the entries of a text file.
-fn entries(
-    path: &str,
-    parse: impl Fn(&str) -> Result<Vec<u8>, Error>,
-) -> Result<Vec<Vec<u8>>, Stop> {
-    Ok(read_entries(path, parse)?.into_iter().map(|entry| entry.bytes).collect())
+/// Where the entries of an accepted sheet lie.
+pub fn parts(sheet: &[u8]) -> impl Iterator<Item = Part> + '_ {
+    (0..).map(|index| ENGINE.0.entry(sheet, index)).take_while(|part| part.number == 0)
 }
 
 /// A line for each entry of an accepted sheet.
 pub fn lines(path: &str, sheet: &[u8], show: impl Fn(&[u8]) -> Result<String, Error>) -> Reply {
-    let parts = (0..).map(|index| ENGINE.0.entry(sheet, index)).take_while(|part| part.number == 0);
-    parts
+    parts(sheet)
         .map(|part| match show(&sheet[part.range()]) {
             Ok(line) => Ok(line + "\n"),
             Err(error) => trouble(format!("{path}: {error}")),
@@ -136,12 +152,13 @@ pub fn lines(path: &str, sheet: &[u8], show: impl Fn(&[u8]) -> Result<String, Er
 
 /// Stops at a refusal.
 pub fn accepted(path: &str, outcome: Outcome) -> Result<(), Stop> {
-    match outcome.word() {
-        _ if outcome.number == 0 => Ok(()),
-        word => {
-            let (number, index) = (outcome.number, outcome.index);
-            let (text, meaning) = word.map_or(("?", "?"), |word| (word.text(), word.meaning()));
-            Err(Stop::No(format!("{path}: refused {number} {text}, entry {index}: {meaning}")))
-        }
+    match outcome.number {
+        0 => Ok(()),
+        _ => refuse(path, outcome),
     }
+}
+
+/// Stops at a refusal of a sheet or of one of its entries.
+pub fn refuse<T>(path: &str, refused: Outcome) -> Result<T, Stop> {
+    stop(path, refused, &format!(", entry {}", refused.index))
 }

@@ -2,18 +2,18 @@
 
 use crate::command::{wrong_call, Command};
 use crate::marks::{marked, Mark};
-use crate::matching::{next_answer, none, read_allowance, stopped, Asked, ALLOWANCE};
+use crate::matching::{next_answer, none, read_allowance, Asked, ALLOWANCE};
 use crate::progress::Progress;
 use crate::trace::{Assigned, Failure, Spent, Trace, Tree, Why, NOTHING};
-use crate::{trouble, Console, Look, Reply, Stop};
-use interface::{COMPLEMENT, NAMES};
+use crate::{editions, trouble, Console, Look, Reply, Stop};
+use interface::{Edition, Word, COMPLEMENT, NAMES};
 use notation::Error;
 use std::ops::Range;
 
 pub const WHY: Command = Command {
     name: "why",
     usage: &[(
-        "why [--marks] [--allowance N] SYMBOLS RULE STATE",
+        "why [--marks] [--allowance N] [--edition E] SYMBOLS RULE STATE",
         "say why a rule finds nothing on a state: where the search came furthest, and what failed \
          there",
     )],
@@ -30,8 +30,9 @@ both nodes are marked.
 };
 
 /// Runs `why` by its arguments: options, then symbols, rule and state.
-fn explained(mut arguments: &[&str], console: &mut Console) -> Reply {
-    let mut allowance = ALLOWANCE;
+fn explained(arguments: &[&str], console: &mut Console) -> Reply {
+    let (edition, arguments) = editions::taken(arguments)?;
+    let (mut arguments, mut allowance) = (&arguments[..], ALLOWANCE);
     loop {
         match arguments {
             ["--marks", rest @ ..] => (console.look.marks, arguments) = (true, rest),
@@ -39,7 +40,8 @@ fn explained(mut arguments: &[&str], console: &mut Console) -> Reply {
                 (allowance, arguments) = (read_allowance(number)?, rest)
             }
             [symbols, rule, state] => {
-                let asked = Asked::read(symbols, rule, state)?;
+                let edition = edition.unwrap_or(Edition::ONE);
+                let asked = Asked::read(edition, symbols, rule, state)?;
                 return why(&asked, allowance, console.look);
             }
             _ => return wrong_call("why"),
@@ -52,10 +54,11 @@ fn why(asked: &Asked, allowance: u32, look: Look) -> Reply {
     let mut answers = asked.answers(allowance);
     match next_answer(&mut answers, allowance) {
         Some(Ok((_, count))) => Ok(format!("bound {count}: nothing fails; see qonveshir match\n")),
-        Some(Err(outcome)) => Err(Stop::No(format!(
-            "{}: the allowance ends the search; see --allowance",
-            stopped(outcome, look)
-        ))),
+        Some(Err(outcome)) => {
+            let spent = outcome.word() == Some(Word::Spent);
+            let ends = if spent { ": the allowance ends the search; see --allowance" } else { "" };
+            Err(Stop::No(asked.stopped(outcome, look) + ends))
+        }
         None => {
             let (count, _progress) = (answers.counted(), Progress::of_match(allowance));
             let place = Explainer::new(asked, allowance, look).explain(count).or_else(trouble)?;
@@ -65,7 +68,7 @@ fn why(asked: &Asked, allowance: u32, look: Look) -> Reply {
 }
 
 struct Explainer<'a> {
-    asked: &'a Asked,
+    asked: &'a Asked<'a>,
     pattern: Tree<'a>,
     record: Tree<'a>,
     allowance: u32,

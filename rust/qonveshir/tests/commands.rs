@@ -333,7 +333,7 @@ fn wrong_calls() {
     let folder = folder("calls");
     assert_eq!(run(&folder, &[]).0, 2);
     assert_eq!(run(&folder, &["match", "nowhere", "open", "open"]).0, 2);
-    assert_eq!(run(&folder, &["explain", "16"]).0, 2);
+    assert_eq!(run(&folder, &["explain", "25"]).0, 2);
     assert_eq!(run(&folder, &["--help"]).0, 0);
     assert!(run(&folder, &["--version"]).1.starts_with("qonveshir 0."));
     let unknown = "qonveshir: mach: no such command; see qonveshir --help\n";

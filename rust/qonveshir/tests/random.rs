@@ -16,6 +16,9 @@ const WORDS: &[&str] = &[
     "check",
     "report",
     "cost",
+    "splice",
+    "store",
+    "restore",
     "explain",
     "help",
     "table",
@@ -23,6 +26,10 @@ const WORDS: &[&str] = &[
     "rules",
     "states",
     "folder",
+    "text",
+    "record",
+    "pattern",
+    "--edition",
     "--all",
     "--marks",
     "--names",
@@ -42,6 +49,7 @@ const WORDS: &[&str] = &[
     " ",
     "0",
     "1",
+    "2",
     "7",
     "15",
     "99",
@@ -74,8 +82,8 @@ const WORDS: &[&str] = &[
 const CHARACTERS: &[char] =
     &['(', ')', ',', '!', '?', '@', '0', '1', '9', 'o', ' ', ':', '#', 'é', '\n'];
 /// Symbols in place, with two spellings of one.
-const SPELLED: &str = "open shut held gate/1 row/2 gates/* closed=shut";
-const SYMBOLS: &[&str] = &["open", "shut", "held", "gate", "row", "gates"];
+const SPELLED: &str = "open shut held gate/1 row/2 gates/* closed=shut doors=gates";
+const SYMBOLS: &[&str] = &["open", "shut", "held", "gate", "row", "gates", "doors"];
 
 struct Draw(u64);
 
@@ -160,7 +168,7 @@ impl Draw {
         for name in ["table.bin", "rules.bin", "states.bin", "random.bin"] {
             let length = self.below(40);
             let bytes: Vec<u8> =
-                (0..length).map(|_| self.of(&[0, 1, 2, 5, 6, 200, 232, 248, 255])).collect();
+                (0..length).map(|_| self.of(&[0, 1, 2, 5, 6, 128, 200, 232, 248, 255])).collect();
             fs::write(name, bytes).unwrap();
         }
         fs::write("rules.txt", (0..3).map(|_| self.term(2, true) + "\n").collect::<String>())
@@ -175,13 +183,28 @@ const CALLS: &[&str] = &[
     "match SYMBOLS RULE STATE",
     "match --marks SYMBOLS RULE STATE",
     "match --all --allowance NUMBER SYMBOLS RULE STATE",
+    "match --edition 2 SYMBOLS RULE STATE",
+    "match --plain --edition 2 SYMBOLS RULE STATE",
     "why SYMBOLS RULE STATE",
+    "why --edition 2 SYMBOLS RULE STATE",
     "why --marks --allowance NUMBER SYMBOLS RULE STATE",
     "pack table SYMBOLS out.bin",
     "pack classes SYMBOLS out.bin",
     "pack rules SYMBOLS TEXT out.bin",
     "pack states SYMBOLS TEXT out.bin",
     "pack folder .",
+    "pack rules --edition 2 SYMBOLS TEXT out.bin",
+    "pack states --edition 2 SYMBOLS TEXT out.bin",
+    "pack folder --edition 2 .",
+    "splice SYMBOLS RULE",
+    "splice SYMBOLS STATE",
+    "splice text SYMBOLS TEXT out.txt",
+    "splice rules SYMBOLS FILE out.bin",
+    "splice states SYMBOLS FILE out.bin",
+    "splice pattern SYMBOLS FILE out.bin",
+    "splice record SYMBOLS FILE out.bin",
+    "store record --edition 2 SYMBOLS FILE out.bin",
+    "restore record --edition 2 SYMBOLS FILE out.bin",
     "unpack classes SYMBOLS FILE",
     "unpack rules SYMBOLS FILE",
     "unpack states SYMBOLS FILE",
@@ -191,6 +214,7 @@ const CALLS: &[&str] = &[
     "report --names .",
     "explain FILE --rules FILE --states FILE",
     "explain FILE --pattern FILE --record FILE --classes FILE",
+    "explain --edition 2 FILE --pattern FILE --record FILE --stored FILE",
     "explain NUMBER",
     "explain --code NUMBER",
 ];

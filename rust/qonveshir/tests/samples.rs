@@ -22,6 +22,17 @@ fn packed(name: &str) -> PathBuf {
     folder
 }
 
+/// Splices the texts of a folder, packs them in edition 2, and gives the report.
+fn report_in_edition_2(folder: &Path) -> String {
+    let path = |name: &str| folder.join(name).to_str().unwrap().to_string();
+    for text in [path("rules.txt"), path("states.txt")] {
+        run(&["splice", "text", &path("symbols.txt"), &text, &text]);
+    }
+    let packed = run(&["pack", "folder", "--edition", "2", &path("")]);
+    assert_eq!(packed.matches(", edition 2\n").count(), 2, "{packed}");
+    run(&["report", &path("")])
+}
+
 /// The output of a command that succeeds.
 fn run(arguments: &[&str]) -> String {
     let output = Command::new(env!("CARGO_BIN_EXE_qonveshir")).args(arguments).output().unwrap();
@@ -64,6 +75,19 @@ fn the_station_has_its_size_and_its_report() {
         let found: HashSet<String> = found.filter(|word| word != "-").collect();
         assert_eq!(found, words);
     }
+    // No list of it is directly inside one of the same symbol, so edition 2 means the same.
+    assert_eq!(report_in_edition_2(&folder), stored("report.txt"));
+    assert_eq!(fs::read_to_string(folder.join("states.txt")).unwrap(), stored("states.txt"));
+    fs::remove_dir_all(folder).unwrap();
+}
+
+#[test]
+fn the_sections_have_a_report_in_each_edition() {
+    let stored = |name: &str| fs::read_to_string(samples().join("sections").join(name)).unwrap();
+    let folder = packed("sections");
+    assert_eq!(run(&["report", folder.to_str().unwrap()]), stored("report.txt"));
+    assert_eq!(report_in_edition_2(&folder), stored("report-2.txt"));
+    assert_ne!(stored("report.txt"), stored("report-2.txt"));
     fs::remove_dir_all(folder).unwrap();
 }
 

@@ -5,7 +5,8 @@ mod common;
 use command_line::trace::{Spent, Trace, Tree, NOTHING};
 use command_line::{Console, Look};
 use common::{folder, run, SYMBOLS};
-use interface::{Library, Word, ABSENT, ANSWER};
+use interface::{Edition, Language, Library, Outcome, Word};
+use reference::Reference;
 use std::fs;
 
 fn why(rule: &str, state: &str) -> (i32, String) {
@@ -160,20 +161,20 @@ impl Draw {
 #[test]
 fn the_trace_counts_as_the_library_does() {
     let (mut draw, mut words) = (Draw(1), [0; 3]);
+    let language = Language::simple(&TABLE).with_classes(&CLASSES);
     for case in 0..100_000 {
-        let (pattern, record) = (draw.whole(true), draw.whole(false));
+        let (mut pattern, mut record) = (draw.whole(true), draw.whole(false));
         let allowance = if case % 5 == 0 { draw.below(20).into() } else { 100_000 };
-        let outcome = reference::Reference.match_one_with_classes(
-            &TABLE,
-            &CLASSES,
-            &pattern,
-            &record,
-            allowance,
-            &mut [ABSENT; ANSWER],
-        );
         if pattern.len() > 256 {
             continue;
         }
+        let edition = if case % 2 == 0 { Edition::ONE } else { Edition::TWO };
+        if edition == Edition::TWO {
+            splice(&mut pattern, |bytes, out| Reference.splice_pattern(language, bytes, out));
+            splice(&mut record, |bytes, out| Reference.splice_record(language, bytes, out));
+        }
+        let (outcome, _) =
+            Reference.find(language.in_edition(edition), &pattern, &record, allowance);
         let (rule, state) = (Tree::new(&TABLE, &pattern), Tree::new(&TABLE, &record));
         let mut trace = Trace::new((&TABLE, &CLASSES), &rule, &state, allowance);
         let word = match trace.level(0, 0, NOTHING) {
@@ -190,6 +191,15 @@ fn the_trace_counts_as_the_library_does() {
         words[[Word::Bound, Word::None, Word::Spent].iter().position(|w| *w == word).unwrap()] += 1;
     }
     assert!(words.iter().all(|&number| number > 1_000), "{words:?}");
+}
+
+/// Splices bytes in place.
+fn splice(bytes: &mut Vec<u8>, call: impl Fn(&[u8], &mut [u8]) -> Outcome) {
+    let mut output = vec![0; bytes.len()];
+    let outcome = call(bytes, &mut output);
+    assert_eq!(outcome.number, 0, "{bytes:?}");
+    output.truncate(outcome.count as usize);
+    *bytes = output;
 }
 
 #[test]

@@ -4,28 +4,29 @@
 //! table of where each term ends ([`record`]), and the search ([`search`]) goes back by a stack
 //! of run names. A record's bytes determine its term, so equal terms are equal bytes. Up to class
 //! the same search runs on a pattern and a record whose symbols are replaced by their classes
-//! ([`classes`]); where parts lie is not changed by that. The search has two variants, with the
-//! same counts: one tries every length of a run name, one counts those that cannot hold without
-//! trying them.
+//! ([`classes`]); where parts lie is not changed by that. In edition 2 the readers ask for spliced
+//! lists, and the search is the same. The search has two variants, with the same counts: one tries
+//! every length of a run name, one counts those that cannot hold without trying them.
 
 pub mod classes;
 pub mod fault;
+pub mod grammar;
 pub mod pattern;
 pub mod plain;
 pub mod record;
 pub mod search;
 pub mod sheet;
+pub mod splice;
 pub mod stored;
 pub mod table;
 
-use classes::Classes;
 use fault::Fault;
-use interface::{Library, Outcome, Part, Word, ANSWER, SHEET_LIMIT};
+use grammar::Grammar;
+use interface::{edition_of, Language, Library, Outcome, Part, Word, ANSWER, SHEET_LIMIT};
 use pattern::Steps;
 use record::Record;
 use search::{Found, Search};
 use sheet::Sheet;
-use table::Table;
 
 pub use Independent::{Reference, Shortcuts};
 
@@ -41,123 +42,56 @@ pub enum Independent {
 impl Library for Independent {
     fn match_one(
         &self,
-        table: &[u8],
+        language: Language,
         pattern: &[u8],
         record: &[u8],
         allowance: u32,
         answer: &mut [u16],
     ) -> Outcome {
-        shown(match_one(*self, table, None, pattern, record, allowance, answer))
-    }
-
-    fn match_one_with_classes(
-        &self,
-        table: &[u8],
-        classes: &[u8],
-        pattern: &[u8],
-        record: &[u8],
-        allowance: u32,
-        answer: &mut [u16],
-    ) -> Outcome {
-        shown(match_one(*self, table, Some(classes), pattern, record, allowance, answer))
+        shown(match_one(*self, language, pattern, record, allowance, answer))
     }
 
     fn next(
         &self,
-        table: &[u8],
+        language: Language,
         pattern: &[u8],
         record: &[u8],
         given: &[u16],
         allowance: u32,
         answer: &mut [u16],
     ) -> Outcome {
-        shown(next(*self, table, None, pattern, record, given, allowance, answer))
-    }
-
-    fn next_with_classes(
-        &self,
-        table: &[u8],
-        classes: &[u8],
-        pattern: &[u8],
-        record: &[u8],
-        given: &[u16],
-        allowance: u32,
-        answer: &mut [u16],
-    ) -> Outcome {
-        shown(next(*self, table, Some(classes), pattern, record, given, allowance, answer))
+        shown(next(*self, language, pattern, record, given, allowance, answer))
     }
 
     fn match_plain(
         &self,
-        table: &[u8],
+        language: Language,
         pattern: &[u8],
         record: &[u8],
         answer: &mut [u16],
     ) -> Outcome {
-        shown(match_plain(table, None, pattern, record, answer))
-    }
-
-    fn match_plain_with_classes(
-        &self,
-        table: &[u8],
-        classes: &[u8],
-        pattern: &[u8],
-        record: &[u8],
-        answer: &mut [u16],
-    ) -> Outcome {
-        shown(match_plain(table, Some(classes), pattern, record, answer))
+        shown(match_plain(language, pattern, record, answer))
     }
 
     fn match_rules(
         &self,
-        table: &[u8],
+        language: Language,
         rules: &[u8],
         record: &[u8],
         allowance: u32,
         answer: &mut [u16],
     ) -> Outcome {
-        shown(match_rules(*self, table, None, rules, record, allowance, answer))
-    }
-
-    fn match_rules_with_classes(
-        &self,
-        table: &[u8],
-        classes: &[u8],
-        rules: &[u8],
-        record: &[u8],
-        allowance: u32,
-        answer: &mut [u16],
-    ) -> Outcome {
-        shown(match_rules(*self, table, Some(classes), rules, record, allowance, answer))
+        shown(match_rules(*self, language, rules, record, allowance, answer))
     }
 
     fn write_sheet(
         &self,
-        table: &[u8],
+        language: Language,
         records: &[u8],
         lengths: &[u16],
         output: &mut [u8],
     ) -> Outcome {
-        shown((|| {
-            let table = Table::read(table)?;
-            let sum: usize = lengths.iter().map(|&length| usize::from(length)).sum();
-            if lengths.contains(&0) || sum != records.len() {
-                return Err(Fault::new(Word::Directory, 0).into());
-            }
-            let size = 2 + 4 * lengths.len() + sum;
-            if size > SHEET_LIMIT {
-                return Err(Fault::new(Word::Long, SHEET_LIMIT).into());
-            }
-            let mut rest = records;
-            for (index, &length) in lengths.iter().enumerate() {
-                let (bytes, later) = rest.split_at(length.into());
-                Record::check(table, bytes).map_err(|fault| fault.of_entry(index))?;
-                rest = later;
-            }
-            let output = output.get_mut(..size).ok_or(Fault::new(Word::Full, 0))?;
-            sheet::write(records, lengths, output);
-            Ok(Outcome::counted(Word::Bound, 0, size as u64))
-        })())
+        shown(write_sheet(language, records, lengths, output))
     }
 
     fn entry(&self, sheet: &[u8], index: u32) -> Part {
@@ -169,24 +103,32 @@ impl Library for Independent {
         }
     }
 
-    fn check_rules(&self, table: &[u8], sheet: &[u8]) -> Outcome {
-        shown(check_rules(table, sheet).map(|()| Outcome::ACCEPTED))
+    fn check_rules(&self, language: Language, sheet: &[u8]) -> Outcome {
+        shown(check_rules(language, sheet).map(|()| Outcome::ACCEPTED))
     }
 
-    fn check_states(&self, table: &[u8], sheet: &[u8]) -> Outcome {
-        shown(check_states(table, sheet).map(|()| Outcome::ACCEPTED))
+    fn check_states(&self, language: Language, sheet: &[u8]) -> Outcome {
+        shown(check_states(language, sheet).map(|()| Outcome::ACCEPTED))
     }
 
-    fn cost(&self, table: &[u8], pattern: &[u8]) -> Outcome {
-        shown(cost(table, pattern))
+    fn cost(&self, language: Language, pattern: &[u8]) -> Outcome {
+        shown(cost(language, pattern))
     }
 
-    fn store(&self, table: &[u8], record: &[u8], output: &mut [u8]) -> Outcome {
-        shown(stored::store(table, record, output))
+    fn store(&self, language: Language, record: &[u8], output: &mut [u8]) -> Outcome {
+        shown(stored::store(language, record, output))
     }
 
-    fn restore(&self, table: &[u8], stored: &[u8], output: &mut [u8]) -> Outcome {
-        shown(stored::restore(table, stored, output))
+    fn restore(&self, language: Language, stored: &[u8], output: &mut [u8]) -> Outcome {
+        shown(stored::restore(language, stored, output))
+    }
+
+    fn splice_record(&self, language: Language, record: &[u8], output: &mut [u8]) -> Outcome {
+        shown(splice::record(language, record, output))
+    }
+
+    fn splice_pattern(&self, language: Language, pattern: &[u8], output: &mut [u8]) -> Outcome {
+        shown(splice::pattern(language, pattern, output))
     }
 }
 
@@ -203,78 +145,103 @@ impl From<Fault> for Refusal {
     }
 }
 
-/// Checks a table and a sheet of patterns.
-pub fn check_rules(table: &[u8], sheet: &[u8]) -> Result<(), Refusal> {
-    let table = Table::read(table)?;
+/// Checks a table, a class list if one is brought, and a sheet of patterns, in the sheet's edition.
+pub fn check_rules(language: Language, sheet: &[u8]) -> Result<(), Refusal> {
+    let grammar = Grammar::read(in_sheet(language, sheet))?;
     let mut steps = Steps::new();
     for (index, bytes) in Sheet::read(sheet)?.rules()?.entries().enumerate() {
         steps.clear();
-        steps.read(table, bytes).map_err(|fault| fault.of_entry(index))?;
+        steps.read(grammar, bytes).map_err(|fault| fault.of_entry(index))?;
     }
     Ok(())
 }
 
-/// Checks a table and a sheet of records.
-pub fn check_states(table: &[u8], sheet: &[u8]) -> Result<(), Refusal> {
-    let table = Table::read(table)?;
+/// Checks a table, a class list if one is brought, and a sheet of records, in the sheet's edition.
+pub fn check_states(language: Language, sheet: &[u8]) -> Result<(), Refusal> {
+    let grammar = Grammar::read(in_sheet(language, sheet))?;
     for (index, bytes) in Sheet::read(sheet)?.entries().enumerate() {
-        Record::check(table, bytes).map_err(|fault| fault.of_entry(index))?;
+        Record::check(grammar, bytes).map_err(|fault| fault.of_entry(index))?;
     }
     Ok(())
+}
+
+/// A language in the edition that a sheet tells.
+fn in_sheet<'a>(language: Language<'a>, sheet: &[u8]) -> Language<'a> {
+    language.in_edition(edition_of(sheet))
 }
 
 /// Counts the nodes of a pattern, each of which is set against one record node at most.
-fn cost(table: &[u8], pattern: &[u8]) -> Result<Outcome, Refusal> {
+fn cost(language: Language, pattern: &[u8]) -> Result<Outcome, Refusal> {
     let mut steps = Steps::new();
-    steps.read(Table::read(table)?, pattern)?;
+    steps.read(Grammar::read(language)?, pattern)?;
     Ok(match steps.nodes() {
         Some(nodes) => Outcome::counted(Word::Bound, 0, nodes as u64),
         None => Outcome::counted(Word::None, 0, 0),
     })
 }
 
-/// Matches one pattern, up to class if a class list is brought; inlined, as what it calls, so that
-/// a call without one is as fast as if there were none.
+/// Writes a sheet of joined records.
+fn write_sheet(
+    language: Language,
+    records: &[u8],
+    lengths: &[u16],
+    output: &mut [u8],
+) -> Result<Outcome, Refusal> {
+    let grammar = Grammar::read(language)?;
+    let sum: usize = lengths.iter().map(|&length| usize::from(length)).sum();
+    if lengths.contains(&0) || sum != records.len() {
+        return Err(Fault::new(Word::Directory, 0).into());
+    }
+    let size = 2 + 4 * lengths.len() + sum;
+    if size > SHEET_LIMIT {
+        return Err(Fault::new(Word::Long, SHEET_LIMIT).into());
+    }
+    let mut rest = records;
+    for (index, &length) in lengths.iter().enumerate() {
+        let (bytes, later) = rest.split_at(length.into());
+        Record::check(grammar, bytes).map_err(|fault| fault.of_entry(index))?;
+        rest = later;
+    }
+    let output = output.get_mut(..size).ok_or(Fault::new(Word::Full, 0))?;
+    sheet::write(language.edition, records, lengths, output);
+    Ok(Outcome::counted(Word::Bound, 0, size as u64))
+}
+
+/// Matches one pattern; inlined, as what it calls, so that a call without a class list is as fast
+/// as if there were none.
 #[inline(always)]
 fn match_one(
     variant: Independent,
-    table: &[u8],
-    brought: Option<&[u8]>,
+    language: Language,
     pattern: &[u8],
     record: &[u8],
     allowance: u32,
     answer: &mut [u16],
 ) -> Result<Outcome, Refusal> {
-    let answer = wide(answer)?;
-    let table = Table::read(table)?;
-    let classes = read_classes(table, brought)?;
+    let (answer, grammar) = told(language, answer)?;
     let mut steps = Steps::new();
-    let start = steps.read(table, pattern)?;
-    with_search(variant, table, classes, steps, record, |search| {
+    let start = steps.read(grammar, pattern)?;
+    with_search(variant, grammar, steps, record, |search| {
         first_of(search, &[start], allowance, answer)
     })
 }
 
-/// Shows the answer after the one with the given lengths, up to class if a class list is brought.
-#[allow(clippy::too_many_arguments)]
+/// Shows the answer after the one with the given lengths.
 fn next(
     variant: Independent,
-    table: &[u8],
-    brought: Option<&[u8]>,
+    language: Language,
     pattern: &[u8],
     record: &[u8],
     given: &[u16],
     allowance: u32,
     answer: &mut [u16],
 ) -> Result<Outcome, Refusal> {
-    let answer = wide(answer)?;
-    let table = Table::read(table)?;
-    let classes = read_classes(table, brought)?;
+    let (answer, grammar) = told(language, answer)?;
     let mut steps = Steps::new();
-    let start = steps.read(table, pattern)?;
+    let start = steps.read(grammar, pattern)?;
     let runs = steps.free_runs(start);
     let unknown = Fault::new(Word::Unknown, 0);
-    with_search(variant, table, classes, steps, record, |search| {
+    with_search(variant, grammar, steps, record, |search| {
         if given.len() != runs.len() {
             return Err(unknown.into());
         }
@@ -287,41 +254,35 @@ fn next(
     })
 }
 
-/// Matches one plain pattern, up to class if a class list is brought.
+/// Matches one plain pattern.
 fn match_plain(
-    table: &[u8],
-    brought: Option<&[u8]>,
+    language: Language,
     pattern: &[u8],
     record: &[u8],
     answer: &mut [u16],
 ) -> Result<Outcome, Refusal> {
-    let answer = wide(answer)?;
-    let table = Table::read(table)?;
-    let classes = read_classes(table, brought)?;
-    Steps::new().read(table, pattern)?;
-    let rule = plain::read(table, pattern).ok_or(Fault::new(Word::NotPlain, 0))?;
+    let (answer, grammar) = told(language, answer)?;
+    Steps::new().read(grammar, pattern)?;
+    let rule = plain::read(grammar.table, pattern).ok_or(Fault::new(Word::NotPlain, 0))?;
     let ends = &mut Vec::new();
-    let record = Record::read(table, record, ends)?;
-    Ok(plain::run(table, classes, &rule, record, answer))
+    let record = Record::read(grammar, record, ends)?;
+    Ok(plain::run(grammar, &rule, record, answer))
 }
 
-/// Tries the patterns of a sheet, up to class if a class list is brought.
+/// Tries the patterns of a sheet, in its edition, on a record in the same.
 #[inline(always)]
 fn match_rules(
     variant: Independent,
-    table: &[u8],
-    brought: Option<&[u8]>,
+    language: Language,
     rules: &[u8],
     record: &[u8],
     allowance: u32,
     answer: &mut [u16],
 ) -> Result<Outcome, Refusal> {
-    let answer = wide(answer)?;
-    let table = Table::read(table)?;
-    let classes = read_classes(table, brought)?;
+    let (answer, grammar) = told(in_sheet(language, rules), answer)?;
     let mut steps = Steps::new();
-    let starts = read_rules(table, rules, &mut steps)?;
-    with_search(variant, table, classes, steps, record, |search| {
+    let starts = read_rules(grammar, rules, &mut steps)?;
+    with_search(variant, grammar, steps, record, |search| {
         first_of(search, &starts, allowance, answer)
     })
 }
@@ -352,16 +313,15 @@ fn first_of(
 #[inline(always)]
 fn with_search(
     variant: Independent,
-    table: Table,
-    classes: Option<Classes>,
+    grammar: Grammar,
     mut steps: Steps,
     record: &[u8],
     run: impl FnOnce(&mut Search) -> Result<Outcome, Refusal>,
 ) -> Result<Outcome, Refusal> {
     let ends = &mut Vec::new();
-    let mut record = Record::read(table, record, ends)?;
+    let mut record = Record::read(grammar, record, ends)?;
     let merged;
-    if let Some(classes) = classes {
+    if let Some(classes) = grammar.classes {
         steps.merge(classes);
         merged = classes.merged(record.bytes);
         record.bytes = &merged;
@@ -369,25 +329,24 @@ fn with_search(
     run(&mut Search::new(variant, &steps, record))
 }
 
-/// The class list, if one is brought.
-fn read_classes<'a>(
-    table: Table<'a>,
-    brought: Option<&'a [u8]>,
-) -> Result<Option<Classes<'a>>, Fault> {
-    brought.map(|list| Classes::read(table, list)).transpose()
-}
-
 /// Reads the patterns of a rule sheet, and gives the step at which each starts.
-fn read_rules(table: Table, sheet: &[u8], steps: &mut Steps) -> Result<Vec<usize>, Refusal> {
+fn read_rules(grammar: Grammar, sheet: &[u8], steps: &mut Steps) -> Result<Vec<usize>, Refusal> {
     let entries = Sheet::read(sheet)?.rules()?.entries().enumerate();
     entries
-        .map(|(index, bytes)| steps.read(table, bytes).map_err(|fault| fault.of_entry(index)))
+        .map(|(index, bytes)| steps.read(grammar, bytes).map_err(|fault| fault.of_entry(index)))
         .collect()
 }
 
-/// The numbers of an answer, if the buffer is wide enough.
-fn wide(answer: &mut [u16]) -> Result<&mut [u16; ANSWER], Fault> {
-    answer.first_chunk_mut().ok_or(Fault::new(Word::Narrow, 0))
+/// The numbers of an answer and the language, if there is such an edition, the buffer is wide enough
+/// and the language is accepted.
+#[inline(always)]
+fn told<'a, 'b>(
+    language: Language<'a>,
+    answer: &'b mut [u16],
+) -> Result<(&'b mut [u16; ANSWER], Grammar<'a>), Fault> {
+    grammar::check_edition(language.edition)?;
+    let answer = answer.first_chunk_mut().ok_or(Fault::new(Word::Narrow, 0))?;
+    Ok((answer, Grammar::read(language)?))
 }
 
 /// The outcome of a call that may be refused.

@@ -1,6 +1,6 @@
 //! Patterns, checked and compiled to steps in one pass.
 
-use crate::{classes::Classes, fault::Fault, table::Table};
+use crate::{classes::Classes, fault::Fault, grammar::Grammar};
 use interface::{
     Word, COMPLEMENT, FIRST_NAME, FIRST_RUN, LIST, NAMES, NESTING_LIMIT, PATTERN_LIMIT,
 };
@@ -46,14 +46,14 @@ impl Steps {
         self.0.clear();
     }
 
-    /// Reads a further pattern: numbers 6, 2, 4, 5, 7, 3, or the step at which it starts.
-    pub fn read(&mut self, table: Table, bytes: &[u8]) -> Result<usize, Fault> {
+    /// Reads a further pattern: numbers 6, 2, 4, 5, 7, 16, 3, or the step at which it starts.
+    pub fn read(&mut self, grammar: Grammar, bytes: &[u8]) -> Result<usize, Fault> {
         if bytes.len() > PATTERN_LIMIT {
             return Err(Fault::new(Word::Long, PATTERN_LIMIT));
         }
         let start = self.0.len();
         self.0.reserve(bytes.len() + 8);
-        let mut reader = Reader { table, bytes, steps: &mut self.0, at: 0, lists: 0 };
+        let mut reader = Reader { grammar, bytes, steps: &mut self.0, at: 0, lists: 0 };
         reader.level(1)?;
         if reader.at < bytes.len() {
             return Err(Fault::new(Word::Spare, reader.at));
@@ -94,26 +94,39 @@ impl Steps {
 }
 
 struct Reader<'a> {
-    table: Table<'a>,
+    grammar: Grammar<'a>,
     bytes: &'a [u8],
     steps: &'a mut Vec<Step>,
     at: usize,
     lists: u8,
 }
 
+/// Where a node stands: the list whose child it is, or [`NO_LIST`], and that list's symbol.
+#[derive(Clone, Copy)]
+struct Place {
+    within: u8,
+    symbol: u8,
+}
+
+impl Place {
+    const ELSEWHERE: Place = Place { within: NO_LIST, symbol: 0 };
+}
+
 impl Reader<'_> {
     fn level(&mut self, nesting: usize) -> Result<(), Fault> {
-        self.node(nesting, NO_LIST)?;
+        self.node(nesting, Place::ELSEWHERE)?;
         self.steps.push(Step::Done);
         Ok(())
     }
 
-    fn node(&mut self, nesting: usize, within: u8) -> Result<(), Fault> {
-        let start = self.at;
+    fn node(&mut self, nesting: usize, place: Place) -> Result<(), Fault> {
+        let (start, within) = (self.at, place.within);
         let fault = |word| Err(Fault::new(word, start));
         let code = self.byte()?;
         let children = match code {
-            ..FIRST_NAME => self.table.children(code).ok_or(Fault::new(Word::Code, start))?,
+            ..FIRST_NAME => {
+                self.grammar.table.children(code).ok_or(Fault::new(Word::Code, start))?
+            }
             FIRST_NAME..=COMPLEMENT => 0,
             _ => return fault(Word::Code),
         };
@@ -121,7 +134,7 @@ impl Reader<'_> {
             return fault(Word::Deep);
         }
         match code {
-            ..FIRST_NAME if children == LIST => return self.list(code, nesting, within),
+            ..FIRST_NAME if children == LIST => return self.list(code, nesting, place),
             ..FIRST_NAME => self.steps.push(Step::Symbol { within, symbol: code }),
             FIRST_NAME..FIRST_RUN => {
                 self.steps.push(Step::Name { within, place: code - FIRST_NAME })
@@ -133,18 +146,22 @@ impl Reader<'_> {
             _ => return self.complement(nesting, within),
         }
         for _ in 0..children {
-            self.node(nesting + 1, NO_LIST)?;
+            self.node(nesting + 1, Place::ELSEWHERE)?;
         }
         Ok(())
     }
 
-    fn list(&mut self, symbol: u8, nesting: usize, within: u8) -> Result<(), Fault> {
+    fn list(&mut self, symbol: u8, nesting: usize, place: Place) -> Result<(), Fault> {
+        let within = place.within;
+        if within != NO_LIST && self.grammar.unspliced(place.symbol, symbol) {
+            return Err(Fault::new(Word::Unspliced, self.at - 1));
+        }
         let children = self.byte()?;
         let list = self.lists;
         self.lists += 1;
         self.steps.push(Step::List { within, symbol, list });
         for _ in 0..children {
-            self.node(nesting + 1, list)?;
+            self.node(nesting + 1, Place { within: list, symbol })?;
         }
         self.steps.push(Step::Close { list });
         Ok(())

@@ -1,6 +1,6 @@
 //! The plain tier: a pattern as a tree, matched in one descent.
 
-use crate::{classes::Classes, record::Record, table::Table};
+use crate::{grammar::Grammar, record::Record, table::Table};
 use interface::{Outcome, Word, ABSENT, ANSWER, COMPLEMENT, ENTRY, FIRST_NAME, LIST, NAMES, RUNS};
 
 /// A node of a plain pattern. A variable is its place in the answer.
@@ -47,15 +47,9 @@ fn node(
 }
 
 /// Matches a plain pattern against a record, and writes the answer if it is bound.
-pub fn run(
-    table: Table,
-    classes: Option<Classes>,
-    rule: &Node,
-    record: Record,
-    answer: &mut [u16; ANSWER],
-) -> Outcome {
+pub fn run(grammar: Grammar, rule: &Node, record: Record, answer: &mut [u16; ANSWER]) -> Outcome {
     let absent = [ABSENT, 0, 0];
-    let mut tier = Tier { table, classes, record, count: 0, entries: [absent; NAMES + RUNS] };
+    let mut tier = Tier { grammar, record, count: 0, entries: [absent; NAMES + RUNS] };
     if tier.node(rule, 0).is_none() {
         return Outcome::counted(Word::None, 0, tier.count);
     }
@@ -64,8 +58,7 @@ pub fn run(
 }
 
 struct Tier<'a> {
-    table: Table<'a>,
-    classes: Option<Classes<'a>>,
+    grammar: Grammar<'a>,
     record: Record<'a>,
     count: u64,
     entries: [[u16; ENTRY]; NAMES + RUNS],
@@ -80,7 +73,7 @@ impl Tier<'_> {
             Node::Variable(place) => self.show(*place, at, end, 1),
             Node::Symbol(symbol, children) => {
                 let found = self.record.bytes[at];
-                if self.class(*symbol) != self.class(found) {
+                if self.grammar.class(*symbol) != self.grammar.class(found) {
                     return None;
                 }
                 self.children(children, found, at)?;
@@ -91,7 +84,7 @@ impl Tier<'_> {
 
     /// Sets child patterns against the children of the term at an offset.
     fn children(&mut self, children: &[Node], symbol: u8, at: usize) -> Option<()> {
-        let fixed = self.table.children(symbol)?;
+        let fixed = self.grammar.table.children(symbol)?;
         let (elements, mut at) = match fixed {
             LIST => (usize::from(self.record.bytes[at + 1]), at + 2),
             _ => (usize::from(fixed), at + 1),
@@ -124,9 +117,5 @@ impl Tier<'_> {
 
     fn end(&self, at: usize) -> usize {
         self.record.ends[at].into()
-    }
-
-    fn class(&self, symbol: u8) -> u8 {
-        self.classes.map_or(symbol, |classes| classes.of(symbol))
     }
 }

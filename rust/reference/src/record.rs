@@ -1,6 +1,6 @@
 //! Records.
 
-use crate::{fault::Fault, table::Table};
+use crate::{fault::Fault, grammar::Grammar};
 use interface::{Word, LIST, NESTING_LIMIT, RECORD_LIMIT};
 
 /// An accepted record and, for each offset at which a term starts, the offset at which it ends.
@@ -11,26 +11,34 @@ pub struct Record<'a> {
 }
 
 impl<'a> Record<'a> {
-    /// Reads a record: numbers 6, 2, 4, 5, 3, or accepted. The ends are kept in the given vector.
-    pub fn read(table: Table, bytes: &'a [u8], ends: &'a mut Vec<u16>) -> Result<Self, Fault> {
+    /// Reads a record: numbers 6, 2, 4, 5, 16, 3, or accepted. The ends are kept in the given
+    /// vector.
+    pub fn read(grammar: Grammar, bytes: &'a [u8], ends: &'a mut Vec<u16>) -> Result<Self, Fault> {
         ends.clear();
         ends.resize(bytes.len().min(RECORD_LIMIT), 0);
-        read_record(table, bytes, |start, end| ends[start] = end as u16)?;
+        read_record(grammar, bytes, |start, end| ends[start] = end as u16)?;
         Ok(Record { bytes, ends })
     }
 
-    /// Checks a record: numbers 6, 2, 4, 5, 3, or accepted.
-    pub fn check(table: Table, bytes: &[u8]) -> Result<(), Fault> {
-        read_record(table, bytes, |_, _| ())
+    /// Checks a record: numbers 6, 2, 4, 5, 16, 3, or accepted.
+    pub fn check(grammar: Grammar, bytes: &[u8]) -> Result<(), Fault> {
+        read_record(grammar, bytes, |_, _| ())
     }
 }
 
 /// Reads a record, and tells start and end of each of its terms.
-fn read_record(table: Table, bytes: &[u8], ended: impl FnMut(usize, usize)) -> Result<(), Fault> {
+fn read_record(
+    grammar: Grammar,
+    bytes: &[u8],
+    ended: impl FnMut(usize, usize),
+) -> Result<(), Fault> {
     if bytes.len() > RECORD_LIMIT {
         return Err(Fault::new(Word::Long, RECORD_LIMIT));
     }
-    let end = read_term(table, bytes, ended)?;
+    let end = match grammar.spliced {
+        false => read_term::<false>(grammar, bytes, ended)?,
+        true => read_term::<true>(grammar, bytes, ended)?,
+    };
     if end < bytes.len() {
         return Err(Fault::new(Word::Spare, end));
     }
@@ -45,8 +53,9 @@ struct Open {
 }
 
 /// Reads the term at the start, tells start and end of each of its terms, and gives its own end.
-fn read_term(
-    table: Table,
+/// With `SPLICED` lists must be so.
+fn read_term<const SPLICED: bool>(
+    grammar: Grammar,
     bytes: &[u8],
     mut ended: impl FnMut(usize, usize),
 ) -> Result<usize, Fault> {
@@ -54,15 +63,21 @@ fn read_term(
     let (mut open, mut nesting, mut at) = ([Open::default(); NESTING_LIMIT], 0, 0);
     loop {
         let start = at;
-        let mut children = table.children(byte(at)?).ok_or(Fault::new(Word::Code, at))?;
-        let place = open.get_mut(nesting).ok_or(Fault::new(Word::Deep, at))?;
+        let mut children = grammar.table.children(byte(at)?).ok_or(Fault::new(Word::Code, at))?;
+        if nesting == NESTING_LIMIT {
+            return Err(Fault::new(Word::Deep, at));
+        }
         at += 1;
         if children == LIST {
+            let outer = open[..nesting].last().map(|outer| bytes[outer.start]);
+            if SPLICED && outer.is_some_and(|outer| grammar.unspliced(outer, bytes[start])) {
+                return Err(Fault::new(Word::Unspliced, start));
+            }
             children = byte(at)?;
             at += 1;
         }
         if children > 0 {
-            *place = Open { start, left: children };
+            open[nesting] = Open { start, left: children };
             nesting += 1;
             continue;
         }

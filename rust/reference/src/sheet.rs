@@ -1,7 +1,7 @@
 //! Sheets: a count, pairs of offset and length, and the entries.
 
 use crate::fault::Fault;
-use interface::{Word, RULES_LIMIT, SHEET_LIMIT};
+use interface::{Edition, Word, EDITION_MARK, RULES_LIMIT, SHEET_LIMIT};
 use std::ops::Range;
 
 /// A sheet whose directory is accepted.
@@ -21,7 +21,7 @@ impl<'a> Sheet<'a> {
         let Some((first, _)) = bytes.split_first_chunk() else {
             return broken(bytes.len());
         };
-        let count = usize::from(u16::from_le_bytes(*first));
+        let count = usize::from(u16::from_le_bytes(*first) % EDITION_MARK);
         let mut end = 2 + 4 * count;
         let Some(directory) = bytes.get(2..end) else {
             return broken(bytes.len());
@@ -69,11 +69,12 @@ impl<'a> Sheet<'a> {
 }
 
 /// Writes a sheet over an output of just its size.
-pub(crate) fn write(entries: &[u8], lengths: &[u16], output: &mut [u8]) {
+pub(crate) fn write(edition: Edition, entries: &[u8], lengths: &[u16], output: &mut [u8]) {
     let (directory, rest) = output.split_at_mut(2 + 4 * lengths.len());
     rest.copy_from_slice(entries);
     let mut offset = directory.len() as u16;
-    directory[..2].copy_from_slice(&(lengths.len() as u16).to_le_bytes());
+    let count = lengths.len() as u16 + edition.mark();
+    directory[..2].copy_from_slice(&count.to_le_bytes());
     for (pair, &length) in directory[2..].chunks_exact_mut(4).zip(lengths) {
         pair[..2].copy_from_slice(&offset.to_le_bytes());
         pair[2..].copy_from_slice(&length.to_le_bytes());

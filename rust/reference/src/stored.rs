@@ -1,36 +1,40 @@
 //! The stored form of records, in which a list tells the length of its children.
 
-use crate::{fault::Fault, record::Record, table::Table, Refusal};
-use interface::{Outcome, Word, LIST, NESTING_LIMIT, RECORD_LIMIT, STORED_LIMIT};
+use crate::{fault::Fault, grammar::Grammar, record::Record, table::Table, Refusal};
+use interface::{Language, Outcome, Word, LIST, NESTING_LIMIT, RECORD_LIMIT, STORED_LIMIT};
 
 /// Bytes of a list's length.
 const LENGTH: usize = 2;
+/// Bytes of a list's node: its symbol, its number of children and its length.
+const NODE: usize = 2 + LENGTH;
 
-/// Writes the stored form of a record: numbers 1, the record's, 12, or written.
-pub fn store(table: &[u8], record: &[u8], output: &mut [u8]) -> Result<Outcome, Refusal> {
-    let table = Table::read(table)?;
-    Record::check(table, record)?;
+/// Writes the stored form of a record: the language's numbers, the record's, 12, or written.
+pub fn store(language: Language, record: &[u8], output: &mut [u8]) -> Result<Outcome, Refusal> {
+    let grammar = Grammar::read(language)?;
+    Record::check(grammar, record)?;
+    let table = grammar.table;
     let size = record.len() + LENGTH * lists(table, record);
     let output = output.get_mut(..size).ok_or(Fault::new(Word::Full, 0))?;
     write_stored(table, record, output);
     Ok(Outcome::counted(Word::Bound, 0, size as u64))
 }
 
-/// Writes the old form of a stored record: numbers 1, the stored record's, 12, or written.
-pub fn restore(table: &[u8], stored: &[u8], output: &mut [u8]) -> Result<Outcome, Refusal> {
-    let table = Table::read(table)?;
-    let size = check(table, stored)?;
+/// Writes the old form of a stored record: the language's numbers, the stored record's, 12, or
+/// written.
+pub fn restore(language: Language, stored: &[u8], output: &mut [u8]) -> Result<Outcome, Refusal> {
+    let grammar = Grammar::read(language)?;
+    let size = check(grammar, stored)?;
     let output = output.get_mut(..size).ok_or(Fault::new(Word::Full, 0))?;
-    write_old(table, stored, output);
+    write_old(grammar.table, stored, output);
     Ok(Outcome::counted(Word::Bound, 0, size as u64))
 }
 
-/// Checks a stored record: numbers 6, 2, 4, 5, 17, 3, 6 of the old form, or its length.
-pub fn check(table: Table, stored: &[u8]) -> Result<usize, Fault> {
+/// Checks a stored record: numbers 6, 2, 4, 5, 16, 17, 3, 6 of the old form, or its length.
+pub fn check(grammar: Grammar, stored: &[u8]) -> Result<usize, Fault> {
     if stored.len() > STORED_LIMIT {
         return Err(Fault::new(Word::Long, STORED_LIMIT));
     }
-    let (end, lists) = read_stored(table, stored)?;
+    let (end, lists) = read_stored(grammar, stored)?;
     if end < stored.len() {
         return Err(Fault::new(Word::Spare, end));
     }
@@ -65,15 +69,20 @@ struct Open {
 }
 
 /// Reads the term at the start, and gives its end and the number of its lists.
-fn read_stored(table: Table, bytes: &[u8]) -> Result<(usize, usize), Fault> {
+fn read_stored(grammar: Grammar, bytes: &[u8]) -> Result<(usize, usize), Fault> {
     let byte = |at: usize| bytes.get(at).copied().ok_or(Fault::new(Word::Short, at));
     let (mut open, mut nesting, mut at, mut lists) = ([Open::default(); NESTING_LIMIT], 0, 0, 0);
     loop {
-        let left = table.children(byte(at)?).ok_or(Fault::new(Word::Code, at))?;
+        let symbol = byte(at)?;
+        let left = grammar.table.children(symbol).ok_or(Fault::new(Word::Code, at))?;
+        let outer = open[..nesting].last().and_then(|outer| outer.list);
         let place = open.get_mut(nesting).ok_or(Fault::new(Word::Deep, at))?;
         *place = Open { left, list: None };
         at += 1;
         if left == LIST {
+            if outer.is_some_and(|(start, _)| grammar.unspliced(bytes[start - NODE], symbol)) {
+                return Err(Fault::new(Word::Unspliced, at - 1));
+            }
             let (left, low) = (byte(at)?, byte(at + 1)?);
             let told = usize::from(low) + 256 * usize::from(byte(at + 2)?);
             at += 3;

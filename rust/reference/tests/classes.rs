@@ -1,6 +1,6 @@
 //! Matches up to class, and the class lists that are turned away.
 
-use interface::{sheet_of, Library, Outcome, Word, ANSWER};
+use interface::{sheet_of, Edition, Language, Library, Outcome, Word, ANSWER};
 use notation::Symbols;
 use reference::Reference;
 
@@ -9,16 +9,16 @@ const SYMBOLS: &str = "open shut held gate/1 row/2 gates/* stopped=held door=gat
 /// Matches texts with and without the class list and shows word and count of both.
 fn matched(pattern: &str, record: &str) -> String {
     let symbols = Symbols::parse(SYMBOLS).unwrap();
-    let (table, classes) = (symbols.table(), symbols.classes());
+    let simple = Language::simple(symbols.table());
     let (pattern, record) = (symbols.pattern(pattern).unwrap(), symbols.term(record).unwrap());
     let text = |outcome: Outcome| {
         let (word, count) = (outcome.word().unwrap().text(), outcome.count);
         format!("{word} {count}")
     };
-    let plain = Reference.find(table, &pattern, &record, 1_000);
-    let own: Vec<u8> = (0..table.len() as u8).collect();
-    assert_eq!(Reference.find_with_classes(table, &own, &pattern, &record, 1_000), plain);
-    let (outcome, answer) = Reference.find_with_classes(table, classes, &pattern, &record, 1_000);
+    let find = |language: Language| Reference.find(language, &pattern, &record, 1_000);
+    let plain = find(simple);
+    assert_eq!(find(simple.with_classes(simple.class_list())), plain);
+    let (outcome, answer) = find(simple.with_classes(symbols.classes()));
     let part = answer.name(0).or(answer.run(0));
     let shown = part.map(|part| format!(" {}", symbols.show_run(&record[part]).unwrap()));
     format!("{}{}; {}", text(outcome), shown.unwrap_or_default(), text(plain.0))
@@ -49,7 +49,8 @@ fn the_number_of_children_is_no_symbol() {
     let pattern = symbols.pattern("row(?0, ?0)").unwrap();
     let matched = |record: &str| {
         let record = symbols.term(record).unwrap();
-        Reference.find_with_classes(symbols.table(), symbols.classes(), &pattern, &record, 9).0
+        let language = Language::simple(symbols.table()).with_classes(symbols.classes());
+        Reference.find(language, &pattern, &record, 9).0
     };
     let equal = Outcome::counted(Word::Bound, 0, 3);
     let unlike = Outcome::counted(Word::None, 0, 3);
@@ -62,13 +63,14 @@ fn the_number_of_children_is_no_symbol() {
 fn class_lists_are_checked_after_the_table() {
     let (table, pattern, record) = ([0, 0, 0, 1, 255, 0], [200], [0]);
     let call = |table: &[u8], classes: &[u8], pattern: &[u8], width: usize| {
+        let language = Language::simple(table).with_classes(classes);
         let mut answer = [7; ANSWER + 1];
         let lent = &mut answer[..width];
-        let outcome = Reference.match_one_with_classes(table, classes, pattern, &record, 9, lent);
-        let rules = sheet_of(&[pattern.to_vec()]);
+        let outcome = Reference.match_one(language, pattern, &record, 9, lent);
+        let rules = sheet_of(Edition::ONE, &[pattern.to_vec()]);
         let mut other = [7; ANSWER + 1];
         let lent = &mut other[..width];
-        let tried = Reference.match_rules_with_classes(table, classes, &rules, &record, 9, lent);
+        let tried = Reference.match_rules(language, &rules, &record, 9, lent);
         assert_eq!((outcome, answer), (tried, other));
         assert_eq!(answer == [7; ANSWER + 1], outcome.number != 0);
         assert!(outcome.number == 0 || (outcome.index, outcome.count) == (0, 0));
@@ -99,11 +101,13 @@ fn class_lists_are_checked_after_the_table() {
 fn rules_are_tried_up_to_class() {
     let symbols = Symbols::parse(SYMBOLS).unwrap();
     let rules = ["row(!?0, ?0)", "row(held, !shut)"].map(|rule| symbols.pattern(rule).unwrap());
-    let (rules, record) = (sheet_of(&rules), symbols.term("row(stopped, held)").unwrap());
+    let (rules, record) =
+        (sheet_of(Edition::ONE, &rules), symbols.term("row(stopped, held)").unwrap());
     let answer = &mut [7; ANSWER];
-    let (table, classes) = (symbols.table(), symbols.classes());
-    let outcome = Reference.match_rules_with_classes(table, classes, &rules, &record, 9, answer);
+    let simple = Language::simple(symbols.table());
+    let classes = simple.with_classes(symbols.classes());
+    let outcome = Reference.match_rules(classes, &rules, &record, 9, answer);
     assert_eq!(outcome, Outcome::counted(Word::Bound, 1, 8));
-    let outcome = Reference.match_rules(table, &rules, &record, 9, answer);
+    let outcome = Reference.match_rules(simple, &rules, &record, 9, answer);
     assert_eq!(outcome, Outcome::counted(Word::Bound, 0, 4));
 }

@@ -1,13 +1,13 @@
 //! What a rule can cost at most.
 
-use interface::{Library, Outcome, Word, AMPLE, PATTERN_LIMIT};
+use interface::{Language, Library, Outcome, Word, AMPLE, PATTERN_LIMIT};
 use reference::Reference;
 
 /// open, shut, gate (1), row (2), gates (list).
 const TABLE: [u8; 5] = [0, 0, 1, 2, 255];
 
 fn cost(pattern: &[u8]) -> Outcome {
-    Reference.cost(&TABLE, pattern)
+    Reference.cost(Language::simple(&TABLE), pattern)
 }
 
 fn at_most(nodes: u64) -> Outcome {
@@ -34,9 +34,9 @@ fn nodes_of_patterns_without_run_names() {
 fn the_largest_bound_is_ample_and_is_counted() {
     let pattern = [vec![248; PATTERN_LIMIT - 1], vec![200]].concat();
     assert_eq!(cost(&pattern), at_most(AMPLE.into()));
-    let (none, _) = Reference.find(&TABLE, &pattern, &[0], AMPLE);
+    let (none, _) = Reference.find(Language::simple(&TABLE), &pattern, &[0], AMPLE);
     assert_eq!(none, Outcome::counted(Word::None, 0, AMPLE.into()));
-    let (spent, _) = Reference.find(&TABLE, &pattern, &[0], AMPLE - 1);
+    let (spent, _) = Reference.find(Language::simple(&TABLE), &pattern, &[0], AMPLE - 1);
     assert_eq!(spent.word(), Some(Word::Spent));
 }
 
@@ -49,13 +49,13 @@ fn run_names_have_no_such_bound() {
         assert_eq!(cost(pattern), Outcome::counted(Word::None, 0, 0), "{pattern:?}");
     }
     // gates(@0, @0) counts more than its three nodes
-    let (found, _) = Reference.find(&TABLE, &[4, 2, 232, 232], &[4, 1, 0], 100);
+    let (found, _) = Reference.find(Language::simple(&TABLE), &[4, 2, 232, 232], &[4, 1, 0], 100);
     assert_eq!(found, Outcome::counted(Word::None, 0, 5));
 }
 
 #[test]
 fn refusals_in_their_order() {
-    assert_eq!(Reference.cost(&[9], &[]), Outcome::refused(Word::Table, 0));
+    assert_eq!(Reference.cost(Language::simple(&[9]), &[]), Outcome::refused(Word::Table, 0));
     let faults: [(&[u8], Word); 6] = [
         (&[], Word::Short),
         (&[0, 0], Word::Spare),

@@ -1,6 +1,6 @@
 //! Document 01's rides and the places where its wording needs a reading.
 
-use interface::{Library, Word, NAMES, RUNS};
+use interface::{Language, Library, Word, NAMES, RUNS};
 use notation::Symbols;
 use reference::Reference;
 
@@ -9,7 +9,8 @@ fn matched(pattern: &str, record: &str, allowance: u32) -> String {
     let symbols = Symbols::parse("open shut held gate/1 row/2 gates/*").unwrap();
     let pattern = symbols.pattern(pattern).unwrap();
     let record = symbols.term(record).unwrap();
-    let (outcome, answer) = Reference.find(symbols.table(), &pattern, &record, allowance);
+    let (outcome, answer) =
+        Reference.find(Language::simple(symbols.table()), &pattern, &record, allowance);
     let names = (0..NAMES).filter_map(|i| Some((format!("?{i}"), answer.name(i)?, 1)));
     let runs = (0..RUNS).filter_map(|j| Some((format!("@{j}"), answer.run(j)?, answer.terms(j)?)));
     let mut text = format!("{} {}", outcome.word().unwrap().text(), outcome.count);
@@ -92,7 +93,7 @@ fn spent_is_a_count_over_the_allowance() {
 
 /// The number for a pattern and a record in bytes, over `open gate/1 gates/*`.
 fn number(pattern: &[u8], record: &[u8]) -> Option<Word> {
-    Reference.find(&[0, 1, 255], pattern, record, 100).0.word()
+    Reference.find(Language::simple(&[0, 1, 255]), pattern, record, 100).0.word()
 }
 
 #[test]
@@ -144,7 +145,10 @@ fn complements_do_not_nest() {
     }
     for (complements, word) in [(254, Word::Bound), (255, Word::None), (256, Word::Long)] {
         let pattern = [&vec![248; complements][..], &[200]].concat();
-        assert_eq!(Reference.find(&[0], &pattern, &[0], 256).0.word(), Some(word));
+        assert_eq!(
+            Reference.find(Language::simple(&[0]), &pattern, &[0], 256).0.word(),
+            Some(word)
+        );
     }
 }
 
@@ -164,7 +168,10 @@ fn limits() {
 
 #[test]
 fn an_empty_table_has_no_symbol() {
-    assert_eq!(Reference.find(&[], &[200], &[0], 1).0.word(), Some(Word::Code));
-    assert_eq!(Reference.find(&[9], &[200], &[0], 1).0.word(), Some(Word::Table));
-    assert_eq!(Reference.find(&[0; 201], &[200], &[0], 1).0.word(), Some(Word::Table));
+    assert_eq!(Reference.find(Language::simple(&[]), &[200], &[0], 1).0.word(), Some(Word::Code));
+    assert_eq!(Reference.find(Language::simple(&[9]), &[200], &[0], 1).0.word(), Some(Word::Table));
+    assert_eq!(
+        Reference.find(Language::simple(&[0; 201]), &[200], &[0], 1).0.word(),
+        Some(Word::Table)
+    );
 }

@@ -1,22 +1,17 @@
 //! Every answer, by the calls alone, against the list of all run lengths.
 
-use interface::{Answers, Library, Outcome, Word, ABSENT, ANSWER};
+use interface::{Answers, Edition, Language, Library, Outcome, Word, ABSENT, ANSWER};
 use reference::Reference;
 
 /// open, shut, gate (1), row (2), gates (list), stopped; the last may be of the class of shut.
-const TABLE: [u8; 6] = [0, 0, 1, 2, 255, 0];
+const SIMPLE: Language =
+    Language { table: &[0, 0, 1, 2, 255, 0], classes: None, edition: Edition::ONE };
 const CLASSES: [u8; 6] = [0, 1, 2, 3, 4, 1];
 
 const MOST: u32 = 100_000;
 
-fn next(classes: Option<&[u8]>, pattern: &[u8], record: &[u8], given: &[u16]) -> Outcome {
-    let answer = &mut [ABSENT; ANSWER];
-    match classes {
-        None => Reference.next(&TABLE, pattern, record, given, MOST, answer),
-        Some(classes) => {
-            Reference.next_with_classes(&TABLE, classes, pattern, record, given, MOST, answer)
-        }
-    }
+fn next(language: Language, pattern: &[u8], record: &[u8], given: &[u16]) -> Outcome {
+    Reference.next(language, pattern, record, given, MOST, &mut [ABSENT; ANSWER])
 }
 
 /// All lists of so many lengths from 0 to `longest`, in order.
@@ -58,8 +53,8 @@ const RECORDS: [&[u8]; 6] = [
 ];
 
 /// The run lengths of every answer.
-fn listed(classes: Option<&[u8]>, pattern: &[u8], record: &[u8]) -> Vec<Vec<u16>> {
-    let mut answers = Answers::new(&Reference, &TABLE, classes, pattern, record, MOST);
+fn listed(language: Language, pattern: &[u8], record: &[u8]) -> Vec<Vec<u16>> {
+    let mut answers = Answers::new(&Reference, language, pattern, record, MOST);
     let mut listed = Vec::new();
     while let Some(answer) = answers.next() {
         assert!(answer.is_ok(), "{pattern:?} on {record:?}: {answer:?}");
@@ -73,11 +68,11 @@ fn the_answers_are_all_lists_that_are_known() {
     let mut found = 0;
     for (pattern, runs) in PATTERNS {
         for record in RECORDS {
-            for classes in [None, Some(&CLASSES[..])] {
+            for language in [SIMPLE, SIMPLE.with_classes(&CLASSES)] {
                 let known = lists(runs, 5).into_iter().filter(|given| {
-                    next(classes, pattern, record, given).word() != Some(Word::Unknown)
+                    next(language, pattern, record, given).word() != Some(Word::Unknown)
                 });
-                let listed = listed(classes, pattern, record);
+                let listed = listed(language, pattern, record);
                 found += listed.len();
                 assert_eq!(listed, known.collect::<Vec<_>>(), "{pattern:?} on {record:?}");
             }
@@ -90,10 +85,10 @@ fn the_answers_are_all_lists_that_are_known() {
 fn lengths_that_are_not_one_for_each_are_unknown_before_any_search() {
     let answer = &mut [7; ANSWER];
     for given in [&[][..], &[0], &[0, 1, 0]] {
-        let outcome = Reference.next(&TABLE, &[4, 2, 232, 233], &[4, 1, 0], given, 0, answer);
+        let outcome = Reference.next(SIMPLE, &[4, 2, 232, 233], &[4, 1, 0], given, 0, answer);
         assert_eq!(outcome, Outcome::refused(Word::Unknown, 0));
     }
-    let spent = Reference.next(&TABLE, &[4, 2, 232, 233], &[4, 1, 0], &[0, 1], 0, answer);
+    let spent = Reference.next(SIMPLE, &[4, 2, 232, 233], &[4, 1, 0], &[0, 1], 0, answer);
     assert_eq!(spent, Outcome::counted(Word::Spent, 0, 0));
     assert_eq!(*answer, [7; ANSWER]);
 }

@@ -1,19 +1,22 @@
 //! Rule sheets, state sheets, their reading and writing.
 
-use interface::{sheet_of, Library, Outcome, Part, Word, ANSWER};
+use interface::{sheet_of, Edition, Language, Library, Outcome, Part, Word, ANSWER};
 use notation::Symbols;
 use reference::Reference;
 
-const TABLE: [u8; 6] = [0, 0, 0, 1, 2, 255];
+/// open, shut, held, gate (1), row (2), gates (list).
+const SIMPLE: Language =
+    Language { table: &[0, 0, 0, 1, 2, 255], classes: None, edition: Edition::ONE };
 
 fn rules(texts: &[&str]) -> Vec<u8> {
     let symbols = Symbols::parse("open shut held gate/1 row/2 gates/*").unwrap();
-    sheet_of(&texts.iter().map(|text| symbols.pattern(text).unwrap()).collect::<Vec<_>>())
+    let rules: Vec<_> = texts.iter().map(|text| symbols.pattern(text).unwrap()).collect();
+    sheet_of(Edition::ONE, &rules)
 }
 
 fn first(rules: &[u8], record: &[u8], allowance: u32) -> (Outcome, [u16; ANSWER + 1]) {
     let mut answer = [7; ANSWER + 1];
-    let outcome = Reference.match_rules(&TABLE, rules, record, allowance, &mut answer);
+    let outcome = Reference.match_rules(SIMPLE, rules, record, allowance, &mut answer);
     (outcome, answer)
 }
 
@@ -43,7 +46,7 @@ fn a_spent_rule_is_not_passed_over() {
 #[test]
 fn refusals_of_a_rule_sheet() {
     let good = rules(&["?0"]);
-    let many = sheet_of(&vec![vec![0]; 65]);
+    let many = sheet_of(Edition::ONE, &vec![vec![0]; 65]);
     let broken = |mut sheet: Vec<u8>| {
         sheet[2] += 1;
         sheet
@@ -56,8 +59,8 @@ fn refusals_of_a_rule_sheet() {
         (vec![0; 32_769], &[0], Word::Long, 0),
         (many.clone(), &[0], Word::Long, 0),
         (broken(many), &[0], Word::Directory, 0),
-        (sheet_of(&[vec![0], vec![232]]), &[0], Word::Stray, 1),
-        (sheet_of(&[vec![0], long]), &[0], Word::Long, 1),
+        (sheet_of(Edition::ONE, &[vec![0], vec![232]]), &[0], Word::Stray, 1),
+        (sheet_of(Edition::ONE, &[vec![0], long]), &[0], Word::Long, 1),
         (good, &[200], Word::Code, 0),
     ];
     for (rules, record, word, index) in cases {
@@ -69,7 +72,7 @@ fn refusals_of_a_rule_sheet() {
 
 #[test]
 fn entries() {
-    let sheet = sheet_of(&[vec![4, 0, 0], vec![9]]);
+    let sheet = sheet_of(Edition::ONE, &[vec![4, 0, 0], vec![9]]);
     assert_eq!(Reference.entry(&sheet, 0), Part { number: 0, offset: 10, length: 3 });
     assert_eq!(Reference.entry(&sheet, 1), Part { number: 0, offset: 13, length: 1 });
     assert_eq!(Reference.entry(&sheet, 2), Part { number: 9, offset: 0, length: 0 });
@@ -78,20 +81,23 @@ fn entries() {
 
 #[test]
 fn checks_of_sheets() {
-    let two = sheet_of(&[vec![4, 0, 0], vec![5, 1, 232]]);
-    assert_eq!(Reference.check_rules(&TABLE, &two), Outcome::ACCEPTED);
-    assert_eq!(Reference.check_states(&TABLE, &two), Outcome::refused(Word::Code, 1));
-    let many = sheet_of(&vec![vec![0]; 65]);
-    assert_eq!(Reference.check_rules(&TABLE, &many), Outcome::refused(Word::Long, 0));
-    assert_eq!(Reference.check_states(&TABLE, &many), Outcome::ACCEPTED);
-    assert_eq!(Reference.check_states(&[9], &[]), Outcome::refused(Word::Table, 0));
+    let two = sheet_of(Edition::ONE, &[vec![4, 0, 0], vec![5, 1, 232]]);
+    assert_eq!(Reference.check_rules(SIMPLE, &two), Outcome::ACCEPTED);
+    assert_eq!(Reference.check_states(SIMPLE, &two), Outcome::refused(Word::Code, 1));
+    let many = sheet_of(Edition::ONE, &vec![vec![0]; 65]);
+    assert_eq!(Reference.check_rules(SIMPLE, &many), Outcome::refused(Word::Long, 0));
+    assert_eq!(Reference.check_states(SIMPLE, &many), Outcome::ACCEPTED);
+    assert_eq!(
+        Reference.check_states(Language::simple(&[9]), &[]),
+        Outcome::refused(Word::Table, 0)
+    );
 }
 
 #[test]
 fn writing() {
-    let written = sheet_of(&[vec![4, 0, 0], vec![2]]);
+    let written = sheet_of(Edition::ONE, &[vec![4, 0, 0], vec![2]]);
     let mut output = [7; 20];
-    let outcome = Reference.write_sheet(&TABLE, &[4, 0, 0, 2], &[3, 1], &mut output);
+    let outcome = Reference.write_sheet(SIMPLE, &[4, 0, 0, 2], &[3, 1], &mut output);
     assert_eq!(outcome, Outcome::counted(Word::Bound, 0, 14));
     assert_eq!(output[..14], written);
     assert_eq!(output[14..], [7; 6]);
@@ -101,7 +107,7 @@ fn writing() {
 fn refused_writings_leave_the_output() {
     let refused = |records: &[u8], lengths: &[u16], size, word, index| {
         let mut output = vec![7; size];
-        let outcome = Reference.write_sheet(&TABLE, records, lengths, &mut output);
+        let outcome = Reference.write_sheet(SIMPLE, records, lengths, &mut output);
         assert_eq!(outcome, Outcome::refused(word, index));
         assert_eq!(output, vec![7; size]);
     };
@@ -118,6 +124,6 @@ fn refused_writings_leave_the_output() {
 #[test]
 fn a_sheet_without_entries() {
     let mut output = [7; 3];
-    assert_eq!(Reference.write_sheet(&[], &[], &[], &mut output).count, 2);
+    assert_eq!(Reference.write_sheet(Language::simple(&[]), &[], &[], &mut output).count, 2);
     assert_eq!(output, [0, 0, 7]);
 }

@@ -1,7 +1,7 @@
 //! Counting lengths that cannot hold without trying them shows what trying them shows: at every
 //! allowance, also one that ends within such lengths.
 
-use interface::{Answers, Library, Outcome, Word, ABSENT, ANSWER};
+use interface::{Answers, Language, Library, Outcome, Word, ABSENT, ANSWER};
 use notation::Symbols;
 use reference::{Reference, Shortcuts};
 
@@ -66,40 +66,35 @@ fn records() -> Vec<String> {
 /// What a match shows and writes.
 fn matched(
     library: &dyn Library,
-    classes: Option<&[u8]>,
+    language: Language,
     (pattern, record): (&[u8], &[u8]),
     allowance: u32,
 ) -> (Outcome, [u16; ANSWER]) {
     let mut answer = [7; ANSWER];
-    let room = &mut answer;
-    let outcome = match classes {
-        None => library.match_one(&TABLE, pattern, record, allowance, room),
-        Some(classes) => {
-            library.match_one_with_classes(&TABLE, classes, pattern, record, allowance, room)
-        }
-    };
+    let outcome = library.match_one(language, pattern, record, allowance, &mut answer);
     (outcome, answer)
 }
 
 /// What the calls for every answer show.
 fn listed(
     library: &dyn Library,
-    classes: Option<&[u8]>,
+    language: Language,
     (pattern, record): (&[u8], &[u8]),
     allowance: u32,
 ) -> Vec<Result<(interface::Answer, u64), Outcome>> {
-    Answers::new(library, &TABLE, classes, pattern, record, allowance).collect()
+    Answers::new(library, language, pattern, record, allowance).collect()
 }
 
 /// Runs a test on every pattern and record, without classes and up to class.
-fn each(test: impl Fn(Option<&[u8]>, (&[u8], &[u8]), &str)) {
+fn each(test: impl Fn(Language, (&[u8], &[u8]), &str)) {
     let symbols = symbols();
     assert_eq!(symbols.table(), TABLE);
     for pattern in PATTERNS {
         for record in records() {
             let bytes = (symbols.pattern(pattern).unwrap(), symbols.term(&record).unwrap());
-            for classes in [None, Some(symbols.classes())] {
-                test(classes, (&bytes.0, &bytes.1), &format!("{pattern} on {record}"));
+            let simple = Language::simple(symbols.table());
+            for language in [simple, simple.with_classes(symbols.classes())] {
+                test(language, (&bytes.0, &bytes.1), &format!("{pattern} on {record}"));
             }
         }
     }
@@ -107,21 +102,21 @@ fn each(test: impl Fn(Option<&[u8]>, (&[u8], &[u8]), &str)) {
 
 #[test]
 fn every_allowance_up_to_the_count() {
-    each(|classes, pair, text| {
-        let (outcome, _) = matched(&Reference, classes, pair, u32::MAX);
+    each(|language, pair, text| {
+        let (outcome, _) = matched(&Reference, language, pair, u32::MAX);
         for allowance in (0..=outcome.count as u32 + 1).chain([u32::MAX]) {
-            let expected = matched(&Reference, classes, pair, allowance);
-            assert_eq!(matched(&Shortcuts, classes, pair, allowance), expected, "{text}");
+            let expected = matched(&Reference, language, pair, allowance);
+            assert_eq!(matched(&Shortcuts, language, pair, allowance), expected, "{text}");
         }
     });
 }
 
 #[test]
 fn every_answer() {
-    each(|classes, pair, text| {
+    each(|language, pair, text| {
         for allowance in [u32::MAX, 0, 4, 9, 17, 40] {
-            let expected = listed(&Reference, classes, pair, allowance);
-            assert_eq!(listed(&Shortcuts, classes, pair, allowance), expected, "{text}");
+            let expected = listed(&Reference, language, pair, allowance);
+            assert_eq!(listed(&Shortcuts, language, pair, allowance), expected, "{text}");
         }
     });
 }
@@ -134,7 +129,8 @@ fn the_next_answer_at_every_allowance() {
     let record = symbols.term(record).unwrap();
     let next = |library: &dyn Library, given: &[u16], allowance| {
         let answer = &mut [ABSENT; ANSWER];
-        (library.next(symbols.table(), &pattern, &record, given, allowance, answer), *answer)
+        let language = Language::simple(symbols.table());
+        (library.next(language, &pattern, &record, given, allowance, answer), *answer)
     };
     // The check counts 4; lengths 1 to 3 count 2 each, and the answer 1 + 1 + 2.
     let (outcome, _) = next(&Shortcuts, &[0, 5], 14);
@@ -151,7 +147,8 @@ fn the_next_answer_at_every_allowance() {
 fn shown(pattern: &str, record: &str, allowance: u32) -> String {
     let symbols = symbols();
     let (pattern, record) = (symbols.pattern(pattern).unwrap(), symbols.term(record).unwrap());
-    let (outcome, _) = Shortcuts.find(symbols.table(), &pattern, &record, allowance);
+    let (outcome, _) =
+        Shortcuts.find(Language::simple(symbols.table()), &pattern, &record, allowance);
     format!("{} {}", outcome.word().unwrap().text(), outcome.count)
 }
 

@@ -12,29 +12,34 @@ enum-known-rule : tie.Need-enum-known-rule
 enum-known-rule c = search needs
 
 returns : tie.Need-returns
-returns c = first-fails _ _ _ _ _ _ (sym (c .before .rule .given .1) ∙ c .before .before .before .check-rule .ensures)
+returns c = first-fails _ _ _ _ _ (sym (c .before .rule .given .1) ∙ c .before .before .before .check-rule .ensures)
 
 enum-told : tie.Need-enum-told
 enum-told c = search needs
 
-read-record-requires : tie.Need-read-record-requires
-read-record-requires c κs = search needs
+brought-list-requires : tie.Need-brought-list-requires
+brought-list-requires c κs = search needs
+
+read-record-in-requires : tie.Need-read-record-in-requires
+read-record-in-requires c κs = search needs
 
 enum-known-s : tie.Need-enum-known-s
 enum-known-s c = search needs
 
 returns-2 : tie.Need-returns-2
 returns-2 c =
-    record-fails _ _ _ _ _ (sym (c .before .before .before .before .enum-told .given .1) ∙ c .before .before .before .before .before .before .check-rule .ensures) _
-    (sym (c .before .before .before .read-record .ensures) ∙ c .before .s .given .1)
+    let list = c .before .before .before .before in
+    record-fails _ _ _ _ (sym (list .before .enum-told .given .1) ∙ list .before .before .before .check-rule .ensures) _
+    (rw (list .brought-list .ensures) at (sym (c .before .before .before .read-record-in .ensures) ∙ c .before .s .given .1))
 
 enum-told-2 : tie.Need-enum-told-2
 enum-told-2 c = search needs
 
 returns-3 : tie.Need-returns-3
 returns-3 c =
-    all-pass _ _ _ _ _ (sym (c .before .before .before .enum-told .given .1) ∙ c .before .before .before .before .before .check-rule .ensures) _
-    (sym (c .before .before .read-record .ensures) ∙ c .enum-told2 .given .1)
+    let list = c .before .before .before in
+    all-pass _ _ _ _ (sym (list .before .enum-told .given .1) ∙ list .before .before .before .check-rule .ensures) _
+    (rw (list .brought-list .ensures) at (sym (c .before .before .read-record-in .ensures) ∙ c .enum-told2 .given .1))
 
 pub check-input-spec : {M : Type 1} → statement M
 check-input-spec =
@@ -44,7 +49,8 @@ check-input-spec =
     enum-known-rule
     returns
     enum-told
-    read-record-requires
+    brought-list-requires
+    read-record-in-requires
     enum-known-s
     returns-2
     enum-told-2

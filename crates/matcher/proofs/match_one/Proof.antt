@@ -1,8 +1,8 @@
 -- `matcher::match_one` meets its contract.
 use native.Mathlib.Omega.{arith}
 use mathlib.Core.List.{[]}
-use mathlib.Core.Option.{none}
 use mathlib.Core.Path.{refl}
+use Rattle.reader.specs.Brought.{simply}
 use Rattle.matcher.proofs.Demanded.{fails-called, passes-called}
 use borrow.Author.Needs.{needs}
 use Rattle.matcher.proofs.match_one.Statement.{statement}
@@ -26,7 +26,7 @@ match-checked-requires c κs = search needs
 returns : tie.Need-returns
 returns c =
     let a = c .before .before .before .before .before .before .before .before .before .args in
-    fails-called (a .table .now) none (a .pattern .now) (a .«record» .now) (a .answer .now) (a .allowance)
+    fails-called (simply (a .table .now)) (a .pattern .now) (a .«record» .now) (a .answer .now) (a .allowance)
     (λ i. omega (arith, c .before .before .before .before .before .before .before .shared-slice-known2 .given i))
     (λ i. omega (arith, c .before .before .before .before .before .before .shared-slice-known3 .given i))
     (c .before .before .before .check-input .ensures) (c .before .checks .given .1)
@@ -37,7 +37,7 @@ same-length c = search needs
 returns-2 : tie.Need-returns-2
 returns-2 c =
     let a = c .before .before .before .before .before .before .before .before .before .before .before .before .args in
-    passes-called (a .table .now) none (a .pattern .now) (a .«record» .now) (a .answer .now) (a .allowance)
+    passes-called (simply (a .table .now)) (a .pattern .now) (a .«record» .now) (a .answer .now) (a .allowance)
     (λ i. omega (arith, c .before .before .before .before .before .before .before .before .before .before .shared-slice-known2 .given i))
     (λ i. omega (arith, c .before .before .before .before .before .before .before .before .before .shared-slice-known3 .given i))
     (c .before .before .before .before .before .before .check-input .ensures) (c .before .before .before .before .enum-told .given .1) [] refl _ _

@@ -1,6 +1,6 @@
 -- `matcher::next_brought` meets its contract.
 use native.Mathlib.Omega.{arith}
-use Rattle.call.specs.Brought.{broughtBy}
+use Rattle.reader.specs.Brought.{broughtBy}
 use Rattle.matcher.proofs.NextDemanded.{next-fails, next-passes}
 use borrow.Author.Needs.{needs}
 use Rattle.matcher.proofs.next_brought.Statement.{statement}
@@ -21,7 +21,7 @@ next-checked-requires c κs = search needs
 returns : tie.Need-returns
 returns c =
     let a = c .before .before .before .before .before .before .before .before .before .before .args in
-    next-fails (a .table .now) (broughtBy (a .brings) (a .classes .now)) (a .pattern .now) (a .«record» .now) (a .given .now) (a .answer .now) (a .allowance)
+    next-fails (broughtBy (a .edition) (a .table .now) (a .brings) (a .classes .now)) (a .pattern .now) (a .«record» .now) (a .given .now) (a .answer .now) (a .allowance)
     (λ i. omega (arith, c .before .before .before .before .before .before .before .shared-slice-known3 .given i))
     (λ i. omega (arith, c .before .before .before .before .before .before .shared-slice-known4 .given i))
     (c .before .before .before .check-input .ensures) (c .before .checks .given .1)
@@ -32,7 +32,7 @@ same-length c = search needs
 returns-2 : tie.Need-returns-2
 returns-2 c =
     let a = c .before .before .before .before .before .before .before .before .before .before .before .before .before .args in
-    next-passes (a .table .now) (broughtBy (a .brings) (a .classes .now)) (a .pattern .now) (a .«record» .now) (a .given .now) (a .answer .now) (a .allowance)
+    next-passes (broughtBy (a .edition) (a .table .now) (a .brings) (a .classes .now)) (a .pattern .now) (a .«record» .now) (a .given .now) (a .answer .now) (a .allowance)
     (λ i. omega (arith, c .before .before .before .before .before .before .before .before .before .before .shared-slice-known3 .given i))
     (λ i. omega (arith, c .before .before .before .before .before .before .before .before .before .shared-slice-known4 .given i))
     (c .before .before .before .before .before .before .check-input .ensures) (c .before .before .before .before .enum-told .given .1) (a .classes .now) (c .before .before .before .before .before .before .before .before .before .before .before .before .before .pre) _ _

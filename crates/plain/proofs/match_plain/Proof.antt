@@ -1,111 +1,19 @@
 -- `plain::match_plain` meets its contract.
-use native.Mathlib.Omega.{arith}
-use mathlib.Core.Option.{none}
-use mathlib.Core.Path.{refl, sym, _∙_}
-use lib.ListN.{length}
-use borrow.Author.Tests.{not-true, not-false}
 use borrow.Author.Needs.{needs}
-use Rattle.plain.proofs.Checks.{rule-short}
-use Rattle.plain.proofs.Demanded.{first-called, plain-called, record-called, passes-called, ended-first}
 use Rattle.plain.proofs.match_plain.Statement.{statement}
 use Rattle.plain.proofs.match_plain.Tie as tie
 
-slice-aggregate-classes : tie.Need-slice-aggregate-classes
-slice-aggregate-classes c = search needs
+slice-aggregate-match-plain-brought : tie.Need-slice-aggregate-match-plain-brought
+slice-aggregate-match-plain-brought c = search needs
 
-check-rule-requires : tie.Need-check-rule-requires
-check-rule-requires c κs = search needs
-
-enum-known-checks : tie.Need-enum-known-checks
-enum-known-checks c = search needs
-
-enum-told : tie.Need-enum-told
-enum-told c = search needs
-
-is-plain-requires : tie.Need-is-plain-requires
-is-plain-requires c κs = search needs
-
-returns : tie.Need-returns
-returns c =
-    let told = c .before .before in
-    let ruled = told .before .before in
-    let a = ruled .before .before .before .before .before .before .args in
-    plain-called (a .table .now) none (a .pattern .now) (a .«record» .now) (a .answer .now) (λ i. omega (arith, ruled .before .before .before .before .shared-slice-known2 .given i)) (λ i. omega (arith, ruled .before .before .before .shared-slice-known3 .given i)) (sym (told .enum-told .given .1) ∙ ruled .check-rule .ensures)
-    (sym (c .before .is-plain .ensures) ∙ not-true _ (c .if1 .taken))
-
-read-record-requires : tie.Need-read-record-requires
-read-record-requires c κs = search needs
-
-enum-known-s : tie.Need-enum-known-s
-enum-known-s c = search needs
-
-returns-2 : tie.Need-returns-2
-returns-2 c =
-    let read = c .before .before .before in
-    let told = read .before .before .before in
-    let ruled = told .before .before in
-    let a = ruled .before .before .before .before .before .before .args in
-    record-called (a .table .now) none (a .pattern .now) (a .«record» .now) (a .answer .now) (λ i. omega (arith, ruled .before .before .before .before .shared-slice-known2 .given i)) (λ i. omega (arith, ruled .before .before .before .shared-slice-known3 .given i)) (sym (told .enum-told .given .1) ∙ ruled .check-rule .ensures)
-    (sym (read .before .before .is-plain .ensures) ∙ not-false _ (read .before .if1 .left)) _ (sym (read .read-record .ensures) ∙ c .before .s .given .1)
-
-enum-told-2 : tie.Need-enum-told-2
-enum-told-2 c = search needs
-
-root-may-hold-requires : tie.Need-root-may-hold-requires
-root-may-hold-requires c κs = search needs
-
-returns-3 : tie.Need-returns-3
-returns-3 c =
-    let read = c .before .before .before .before in
-    let told = read .before .before .before in
-    let ruled = told .before .before in
-    let a = ruled .before .before .before .before .before .before .args in
-    passes-called (a .table .now) none (a .pattern .now) (a .«record» .now) (a .answer .now) (λ i. omega (arith, ruled .before .before .before .before .shared-slice-known2 .given i)) (λ i. omega (arith, ruled .before .before .before .shared-slice-known3 .given i)) (sym (told .enum-told .given .1) ∙ ruled .check-rule .ensures)
-    (sym (read .before .before .is-plain .ensures) ∙ not-false _ (read .before .if1 .left)) _ (sym (read .read-record .ensures) ∙ c .before .before .enum-told2 .given .1) _ refl _ _ (ended-first _ _ _ _ _ _ (c .before .root-may-hold .ensures) (not-true _ (c .if2 .taken))) refl
-
-match-checked-requires : tie.Need-match-checked-requires
-match-checked-requires c κs =
-    let told = c .before .before .before .before .before .before .before .before in
-    let ruled = told .before .before in
-    let a = ruled .before .before .before .before .before .before .args in
-    rule-short (a .table .now) none (a .pattern .now) (a .«record» .now) (length (a .answer .now)) (λ i. omega (arith, ruled .before .before .before .before .shared-slice-known2 .given i)) (sym (told .enum-told .given .1) ∙ ruled .check-rule .ensures)
-
-returns-4 : tie.Need-returns-4
-returns-4 c =
-    let ruled = c .before .before .before in
-    let a = ruled .before .before .before .before .before .before .args in
-    first-called (a .table .now) none (a .pattern .now) (a .«record» .now) (a .answer .now) (λ i. omega (arith, ruled .before .before .before .before .shared-slice-known2 .given i)) (λ i. omega (arith, ruled .before .before .before .shared-slice-known3 .given i))
-    (ruled .check-rule .ensures) (c .before .checks .given .1)
+match-plain-brought-requires : tie.Need-match-plain-brought-requires
+match-plain-brought-requires c κs = search needs
 
 same-length : tie.Need-same-length
 same-length c = search needs
 
-returns-5 : tie.Need-returns-5
-returns-5 c =
-    let read = c .before .before .before .before .before .before .before .before in
-    let told = read .before .before .before in
-    let ruled = told .before .before in
-    let a = ruled .before .before .before .before .before .before .args in
-    passes-called (a .table .now) none (a .pattern .now) (a .«record» .now) (a .answer .now) (λ i. omega (arith, ruled .before .before .before .before .shared-slice-known2 .given i)) (λ i. omega (arith, ruled .before .before .before .shared-slice-known3 .given i)) (sym (told .enum-told .given .1) ∙ ruled .check-rule .ensures)
-    (sym (read .before .before .is-plain .ensures) ∙ not-false _ (read .before .if1 .left)) _ (sym (read .read-record .ensures) ∙ c .before .before .before .before .before .before .enum-told2 .given .1) _ refl _ _ (c .before .before .match-checked .ensures) (same-length c)
+returns : tie.Need-returns
+returns c = c .before .before .match-plain-brought .ensures
 
 pub match-plain-spec : {M : Type 1} → statement M
-match-plain-spec =
-    tie.close
-    (tie.spec
-    slice-aggregate-classes
-    check-rule-requires
-    enum-known-checks
-    enum-told
-    is-plain-requires
-    returns
-    read-record-requires
-    enum-known-s
-    returns-2
-    enum-told-2
-    root-may-hold-requires
-    returns-3
-    match-checked-requires
-    returns-4
-    same-length
-    returns-5)
+match-plain-spec = tie.close (tie.spec slice-aggregate-match-plain-brought match-plain-brought-requires same-length returns)

@@ -1,11 +1,13 @@
 -- `qonveshir::qonveshir_check_states` meets its contract.
+use mathlib.Core.Path.{refl, sym, ap, _∙_}
 use native.Mathlib.Omega.{arith}
-use mathlib.Core.Bool.{true}
-use mathlib.Core.Path.{ap, _∙_}
-use borrow.Author.Needs.{needs}
+use mathlib.Core.Bool.{true, false}
+use mathlib.Core.Option.{none, some}
 use Rattle.byte_answers.specs.Answers.{checkedIndex}
+use Rattle.sheet.specs.declared.Editions.the-variants.{Any}
 use Rattle.qonveshir.specs.Shown.{checkShown}
 use Rattle.qonveshir.proofs.Indices.{contents-index}
+use borrow.Author.Needs.{needs}
 use Rattle.qonveshir.proofs.qonveshir_check_states.Statement.{statement}
 use Rattle.qonveshir.proofs.qonveshir_check_states.Tie as tie
 
@@ -15,11 +17,15 @@ check-states-requires c κs = search needs
 check-shown-requires : tie.Need-check-shown-requires
 check-shown-requires c κs =
     let a = c .before .before .before .args in
-    omega (arith, ap checkedIndex (c .check-states .ensures), contents-index true (a .table .now) (a .sheet .now))
+    omega (arith, ap checkedIndex (c .check-states .ensures), contents-index true Any (a .table .now) none (a .sheet .now))
 
 returns : tie.Need-returns
 returns c = c .check-shown .ensures ∙ ap checkShown (c .before .check-states .ensures)
 
 pub qonveshir-check-states-spec : {M : Type 1} → statement M
 qonveshir-check-states-spec =
-    tie.close (tie.spec check-states-requires check-shown-requires returns)
+    tie.close
+    (tie.spec
+    check-states-requires
+    check-shown-requires
+    returns)

@@ -1,7 +1,7 @@
 -- `qonveshir::qonveshir_cost` meets its contract.
-use mathlib.Core.Path.{ap, _∙_}
-use borrow.Author.Needs.{needs}
+use mathlib.Core.Path.{refl, sym, ap, _∙_}
 use Rattle.qonveshir.specs.Shown.{costShown}
+use borrow.Author.Needs.{needs}
 use Rattle.qonveshir.proofs.qonveshir_cost.Statement.{statement}
 use Rattle.qonveshir.proofs.qonveshir_cost.Tie as tie
 
@@ -17,4 +17,9 @@ returns c =
     (c .cost-shown .ensures ∙ ap costShown (called .0), rw (called .0) at (called .1))
 
 pub qonveshir-cost-spec : {M : Type 1} → statement M
-qonveshir-cost-spec = tie.close (tie.spec cost-of-requires cost-shown-requires returns)
+qonveshir-cost-spec =
+    tie.close
+    (tie.spec
+    cost-of-requires
+    cost-shown-requires
+    returns)

@@ -1,7 +1,7 @@
 -- `qonveshir::qonveshir_match` meets its contract.
-use mathlib.Core.Path.{ap, _∙_}
-use borrow.Author.Needs.{needs}
+use mathlib.Core.Path.{refl, sym, ap, _∙_}
 use Rattle.qonveshir.specs.Shown.{answerShown}
+use borrow.Author.Needs.{needs}
 use Rattle.qonveshir.proofs.qonveshir_match.Statement.{statement}
 use Rattle.qonveshir.proofs.qonveshir_match.Tie as tie
 
@@ -20,4 +20,10 @@ returns c =
     (c .answer-shown .ensures ∙ ap answerShown (called .0), (called .1 .0, rw (called .0) at (called .1 .1)))
 
 pub qonveshir-match-spec : {M : Type 1} → statement M
-qonveshir-match-spec = tie.close (tie.spec match-one-requires answer-shown-requires same-length returns)
+qonveshir-match-spec =
+    tie.close
+    (tie.spec
+    match-one-requires
+    answer-shown-requires
+    same-length
+    returns)

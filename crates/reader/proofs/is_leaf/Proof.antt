@@ -1,5 +1,6 @@
 -- `reader::is_leaf` meets its contract.
 use Rattle.reader.proofs.Shallow.{leaf-read}
+use Rattle.term.specs.Language.{simple}
 use mathlib.Core.Path.{sym, _∙_}
 use native.Mathlib.Omega.{arith}
 use borrow.Author.Needs.{needs}
@@ -8,9 +9,6 @@ use Rattle.reader.proofs.is_leaf.Tie as tie
 
 returns : tie.Need-returns
 returns c = tt
-
-returns-2 : tie.Need-returns-2
-returns-2 c = tt
 
 shared-slice-read-decode : tie.Need-shared-slice-read-decode
 shared-slice-read-decode c = omega arith
@@ -36,12 +34,14 @@ enum-told-3 c = search needs
 enum-told-4 : tie.Need-enum-told-4
 enum-told-4 c = search needs
 
-returns-3 : tie.Need-returns-3
-returns-3 c =
+returns-2 : tie.Need-returns-2
+returns-2 c =
     let read = c .before .before .before .before in
-    let asked = read .before .before .before in
-    let a = asked .before .before .before .args in
-    rw (asked .if1 .left, c .is-childless .ensures) (leaf-read (a .table .now) (a .s .now) _ (omega (arith, read .before .before .if2 .left)) (sym (read .decode .ensures) ∙ c .before .before .code .given .1))
+    let a = read .before .before .before .before .before .args in
+    rw (c .is-childless .ensures) (leaf-read (simple (a .table .now)) (a .s .now) _ (omega (arith, read .before .before .if1 .left)) (sym (read .decode .ensures) ∙ c .before .before .code .given .1))
+
+returns-3 : tie.Need-returns-3
+returns-3 c = tt
 
 returns-4 : tie.Need-returns-4
 returns-4 c = tt
@@ -52,15 +52,11 @@ returns-5 c = tt
 returns-6 : tie.Need-returns-6
 returns-6 c = tt
 
-returns-7 : tie.Need-returns-7
-returns-7 c = tt
-
 pub is-leaf-spec : {M : Type 1} → statement M
 is-leaf-spec =
     tie.close
     (tie.spec
     returns
-    returns-2
     shared-slice-read-decode
     decode-requires
     enum-known-code
@@ -69,8 +65,8 @@ is-leaf-spec =
     enum-told-2
     enum-told-3
     enum-told-4
+    returns-2
     returns-3
     returns-4
     returns-5
-    returns-6
-    returns-7)
+    returns-6)

@@ -30,17 +30,20 @@ plain-node-requires c κs = search needs
 enum-told-2 : tie.Need-enum-told-2
 enum-told-2 c = search needs
 
+in-list-requires : tie.Need-in-list-requires
+in-list-requires c κs = search needs
+
 plain-node-requires-2 : tie.Need-plain-node-requires-2
 plain-node-requires-2 c κs = search needs
 
 returns-2 : tie.Need-returns-2
 unfolding openNode codeNode
 returns-2 c =
-    let code = c .before .before .before .before in
+    let code = c .before .before .before .before .before in
     c .plain-node2 .ensures
     ∙ sym
-    (node-code _ _ _ _ _ _ (code .before .before .if1 .left) (sym (c .before .before .enum-told2 .given .1) ∙ code .code-in .ensures)
-    ∙ rw (c .before .if2 .taken))
+    (node-code _ _ _ _ _ _ (code .before .before .if1 .left) (sym (c .before .before .before .enum-told2 .given .1) ∙ code .code-in .ensures)
+    ∙ rw (sym (c .before .before .in-list .ensures) ∙ c .before .if2 .taken))
 
 stray-node-requires : tie.Need-stray-node-requires
 stray-node-requires c κs = search needs
@@ -69,11 +72,11 @@ returns-4 c =
 returns-5 : tie.Need-returns-5
 unfolding openNode codeNode
 returns-5 c =
-    let code = c .before .before .before .before in
+    let code = c .before .before .before .before .before in
     c .stray-node .ensures
     ∙ sym
-    (node-code _ _ _ _ _ _ (code .before .before .if1 .left) (sym (c .before .before .enum-told2 .given .1) ∙ code .code-in .ensures)
-    ∙ rw (c .before .if2 .left))
+    (node-code _ _ _ _ _ _ (code .before .before .if1 .left) (sym (c .before .before .before .enum-told2 .given .1) ∙ code .code-in .ensures)
+    ∙ rw (sym (c .before .before .in-list .ensures) ∙ c .before .if2 .left))
 
 returns-6 : tie.Need-returns-6
 unfolding openNode codeNode
@@ -99,6 +102,7 @@ node-at-spec =
     enum-told
     plain-node-requires
     enum-told-2
+    in-list-requires
     plain-node-requires-2
     returns-2
     stray-node-requires

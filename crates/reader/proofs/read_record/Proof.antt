@@ -13,12 +13,12 @@ returns : tie.Need-returns
 unfolding readRecord
 returns c = sym (rw (c .if1 .taken) at (c .before .is-shallow .ensures)) ∙ sym (shown-map _ _)
 
-read-whole-requires : tie.Need-read-whole-requires
-read-whole-requires c κs = search needs
+simple-whole-requires : tie.Need-simple-whole-requires
+simple-whole-requires c κs = search needs
 
 returns-2 : tie.Need-returns-2
 unfolding readRecord
-returns-2 c = c .read-whole .ensures ∙ sym (shown-map _ _)
+returns-2 c = c .simple-whole .ensures ∙ sym (shown-map _ _)
 
 pub read-record-spec : {M : Type 1} → statement M
-read-record-spec = tie.close (tie.spec is-shallow-requires returns read-whole-requires returns-2)
+read-record-spec = tie.close (tie.spec is-shallow-requires returns simple-whole-requires returns-2)

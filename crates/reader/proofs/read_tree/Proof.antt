@@ -1,5 +1,6 @@
 -- `reader::read_tree` meets its contract. The invariant: the trees of the frames are still to come. The measure is what is left of the bytes.
 use Rattle.reader.proofs.Frames.{Reading, reading-starts, node-refuses, node-ends, depth-within, next-tree, next-around, no-more, child-last, place-free, child-first}
+use Rattle.term.specs.Language.{language}
 use borrow.Author.Needs.{needs}
 use native.Mathlib.Omega.{arith}
 use Prim.Native.Nat.{_-_}
@@ -10,10 +11,10 @@ use Rattle.reader.proofs.read_tree.Statement.{statement}
 use Rattle.reader.proofs.read_tree.Tie as tie
 
 abbrev Inv-loop : tie.InvT-loop
-Inv-loop table s records around₀ depth₀ top₀ at₀ around depth top at = Reading table records s around depth top at
+Inv-loop edition table classes s records around₀ depth₀ top₀ at₀ around depth top at = Reading (language edition table classes) records s around depth top at
 
 abbrev μ-loop : tie.MeasureT-loop
-μ-loop table s records around₀ depth₀ top₀ at₀ around depth top at = length s - at
+μ-loop edition table classes s records around₀ depth₀ top₀ at₀ around depth top at = length s - at
 
 of-requires : tie.Need-of-requires Inv-loop μ-loop
 of-requires c κs = search needs

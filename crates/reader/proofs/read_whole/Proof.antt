@@ -10,18 +10,12 @@ use borrow.Author.Needs.{needs}
 use Rattle.reader.proofs.read_whole.Statement.{statement}
 use Rattle.reader.proofs.read_whole.Tie as tie
 
-is-leaf-requires : tie.Need-is-leaf-requires
-is-leaf-requires c κs = search needs
-
-returns : tie.Need-returns
-returns c = sym (rw (c .if1 .taken) at (c .before .is-leaf .ensures))
-
 longest-of-requires : tie.Need-longest-of-requires
 longest-of-requires c κs = search needs
 
-returns-2 : tie.Need-returns-2
-returns-2 c =
-    let h : longest (c .before .before .before .before .before .before .args .records) < length (c .before .before .before .before .before .before .args .s .now) = omega arith in
+returns : tie.Need-returns
+returns c =
+    let h : longest (c .before .before .before .before .before .args .records) < length (c .before .before .before .before .before .args .s .now) = omega arith in
     sym (whole-long _ _ _ h)
 
 read-tree-requires : tie.Need-read-tree-requires
@@ -33,33 +27,31 @@ enum-known-tree c = search needs
 enum-told : tie.Need-enum-told
 enum-told c = search needs
 
+returns-2 : tie.Need-returns-2
+returns-2 c =
+    let h : length (c .before .before .before .before .before .before .before .before .args .s .now) ≤ longest (c .before .before .before .before .before .before .before .before .args .records) = omega arith in
+    c .enum-told .given .1 ∙ sym (ap shown (whole-tree _ _ _ h) ∙ whole-refused _ _ _ (sym (c .before .before .read-tree .ensures) ∙ c .enum-told .given .1))
+
 returns-3 : tie.Need-returns-3
 returns-3 c =
-    let h : length (c .before .before .before .before .before .before .before .before .before .args .s .now) ≤ longest (c .before .before .before .before .before .before .before .before .before .args .records) = omega arith in
-    c .enum-told .given .1 ∙ sym (ap shown (whole-tree _ _ _ h) ∙ whole-refused _ _ _ (sym (c .before .before .read-tree .ensures) ∙ c .enum-told .given .1))
+    let h : length (c .before .before .before .before .before .before .before .before .before .before .args .s .now) ≤ longest (c .before .before .before .before .before .before .before .before .before .before .args .records) = omega arith in
+    sym (ap shown (whole-tree _ _ _ h) ∙ whole-spare _ _ _ (sym (c .before .before .before .before .read-tree .ensures) ∙ c .before .before .tree .given .1) (c .if2 .taken))
 
 returns-4 : tie.Need-returns-4
 returns-4 c =
-    let h : length (c .before .before .before .before .before .before .before .before .before .before .before .args .s .now) ≤ longest (c .before .before .before .before .before .before .before .before .before .before .before .args .records) = omega arith in
-    sym (ap shown (whole-tree _ _ _ h) ∙ whole-spare _ _ _ (sym (c .before .before .before .before .read-tree .ensures) ∙ c .before .before .tree .given .1) (c .if3 .taken))
-
-returns-5 : tie.Need-returns-5
-returns-5 c =
-    let h : length (c .before .before .before .before .before .before .before .before .before .before .before .args .s .now) ≤ longest (c .before .before .before .before .before .before .before .before .before .before .before .args .records) = omega arith in
+    let h : length (c .before .before .before .before .before .before .before .before .before .before .args .s .now) ≤ longest (c .before .before .before .before .before .before .before .before .before .before .args .records) = omega arith in
     let e = sym (c .before .before .before .before .read-tree .ensures) ∙ c .before .before .tree .given .1 in
-    sym (ap shown (whole-tree _ _ _ h) ∙ whole-all _ _ _ e (tree-ends _ _ _ _ _ _ e) (c .if3 .left))
+    sym (ap shown (whole-tree _ _ _ h) ∙ whole-all _ _ _ e (tree-ends _ _ _ _ _ _ e) (c .if2 .left))
 
 pub read-whole-spec : {M : Type 1} → statement M
 read-whole-spec =
     tie.close
     (tie.spec
-    is-leaf-requires
-    returns
     longest-of-requires
-    returns-2
+    returns
     read-tree-requires
     enum-known-tree
     enum-told
+    returns-2
     returns-3
-    returns-4
-    returns-5)
+    returns-4)

@@ -29,6 +29,9 @@ returns-3 c =
 enum-told : tie.Need-enum-told
 enum-told c = search needs
 
+edition-of-requires : tie.Need-edition-of-requires
+edition-of-requires c κs = search needs
+
 check-file-requires-2 : tie.Need-check-file-requires-2
 check-file-requires-2 c κs = search needs
 
@@ -40,11 +43,19 @@ enum-known-records-2 c = search needs
 
 returns-4 : tie.Need-returns-4
 returns-4 c =
-    all-accepted _ _ _ _ _ _ (not-false _ (c .before .before .before .before .before .before .before .before .before .if1 .left)) (sym (c .before .before .before .before .before .before .before .before .check-table .ensures) ∙ not-false _ (c .before .before .before .before .before .before .before .if2 .left)) _ (sym (c .before .before .before .before .before .before .check-file .ensures) ∙ c .before .before .before .before .enum-told .given .1) _ (sym (c .before .before .before .check-file2 .ensures) ∙ c .before .records .given .1)
+    let like = c .before .before .before .before in
+    let rules = like .before .before .before in
+    all-accepted _ _ _ _ _ _ (not-false _ (rules .before .before .before .if1 .left)) (sym (rules .before .before .check-table .ensures) ∙ not-false _ (rules .before .if2 .left)) _
+    (sym (rules .check-file .ensures) ∙ like .before .enum-told .given .1) _
+    (rw (like .edition-of .ensures) at (sym (c .before .before .before .check-file2 .ensures) ∙ c .before .records .given .1))
 
 returns-5 : tie.Need-returns-5
 returns-5 c =
-    states-refused _ _ _ _ _ _ (not-false _ (c .before .before .before .before .before .before .before .before .before .if1 .left)) (sym (c .before .before .before .before .before .before .before .before .check-table .ensures) ∙ not-false _ (c .before .before .before .before .before .before .before .if2 .left)) _ (sym (c .before .before .before .before .before .before .check-file .ensures) ∙ c .before .before .before .before .enum-told .given .1) _ _ (sym (c .before .before .before .check-file2 .ensures) ∙ c .before .records2 .given .1)
+    let like = c .before .before .before .before in
+    let rules = like .before .before .before in
+    states-refused _ _ _ _ _ _ (not-false _ (rules .before .before .before .if1 .left)) (sym (rules .before .before .check-table .ensures) ∙ not-false _ (rules .before .if2 .left)) _
+    (sym (rules .check-file .ensures) ∙ like .before .enum-told .given .1) _ _
+    (rw (like .edition-of .ensures) at (sym (c .before .before .before .check-file2 .ensures) ∙ c .before .records2 .given .1))
 
 pub check-files-spec : {M : Type 1} → statement M
 check-files-spec =
@@ -57,6 +68,7 @@ check-files-spec =
     enum-known-patterns
     returns-3
     enum-told
+    edition-of-requires
     check-file-requires-2
     enum-known-records
     enum-known-records-2

@@ -2,6 +2,7 @@
 use Prim.Native.Nat.{_≤_, _-_}
 use native.Mathlib.Omega.{arith}
 use mathlib.Core.Path.{_≡_, sym, ap, _∙_}
+use Rattle.term.specs.Language.{language}
 use borrow.Author.Needs.{needs}
 use Rattle.sheet.specs.Contents.{readEntry, checkEach}
 use Rattle.sheet.specs.Entry.{entries, entriesFrom}
@@ -10,13 +11,18 @@ use Rattle.sheet.proofs.check_entries.Statement.{statement}
 use Rattle.sheet.proofs.check_entries.Tie as tie
 
 abbrev Inv-loop : tie.InvT-loop
-Inv-loop records table sheet n i₀ i = (i ≤ n) × (checkEach records table 0 (entries sheet) ≡ checkEach records table i (entriesFrom sheet (n - i) i))
+Inv-loop records edition table classes sheet n i₀ i =
+    let l = language edition table classes in
+    (i ≤ n) × (checkEach records l 0 (entries sheet) ≡ checkEach records l i (entriesFrom sheet (n - i) i))
 
 abbrev μ-loop : tie.MeasureT-loop
-μ-loop records table sheet n i₀ i = n - i
+μ-loop records edition table classes sheet n i₀ i = n - i
 
 loop-holds : tie.Need-loop-holds Inv-loop μ-loop
-loop-holds c = (omega arith, left-start (c .before .before .args .records) (c .before .before .args .table .now) (c .before .before .args .sheet .now) (c .before .before .args .n) 0 (c .before .before .pre))
+loop-holds c =
+    let from = c .before .before .before in
+    let args = from .args in
+    (omega arith, left-start (args .records) (language (args .edition) (args .table .now) (args .classes .now)) (args .sheet .now) (args .n) 0 (from .pre))
 
 part-at-requires : tie.Need-part-at-requires Inv-loop μ-loop
 part-at-requires c κs = search needs
@@ -29,10 +35,10 @@ enum-known-read c = search needs
 
 returns : tie.Need-returns Inv-loop μ-loop
 returns c =
-    let args = c .before .before .before .before .before .before .before .before .before .args in
-    let table = args .table .now in
-    let e = sym (c .before .before .before .read-entry .ensures ∙ ap (readEntry (args .records) table) (c .before .before .before .before .part-at .ensures .0)) ∙ c .before .read .given .1 in
-    sym (c .before .before .before .before .before .before .loop .inv .1 ∙ left-refused (args .records) table (args .sheet .now) (args .n) (c .before .before .before .before .before .before .loop .i) _ (c .before .before .before .before .before .before .before .before .before .pre) (c .before .before .before .before .before .loop-test .taken) e)
+    let args = c .before .before .before .before .before .before .before .before .before .before .args in
+    let l = language (args .edition) (args .table .now) (args .classes .now) in
+    let e = sym (c .before .before .before .read-entry .ensures ∙ ap (readEntry (args .records) l) (c .before .before .before .before .part-at .ensures .0)) ∙ c .before .read .given .1 in
+    sym (c .before .before .before .before .before .before .loop .inv .1 ∙ left-refused (args .records) l (args .sheet .now) (args .n) (c .before .before .before .before .before .before .loop .i) _ (c .before .before .before .before .before .before .before .before .before .before .pre) (c .before .before .before .before .before .loop-test .taken) e)
 
 enum-told : tie.Need-enum-told Inv-loop μ-loop
 enum-told c = search needs
@@ -45,15 +51,15 @@ loop-less c = omega arith
 
 loop-again : tie.Need-loop-again Inv-loop μ-loop
 loop-again c =
-    let args = c .before .before .before .before .before .before .before .before .args in
-    let table = args .table .now in
-    let e = sym (c .before .before .read-entry .ensures ∙ ap (readEntry (args .records) table) (c .before .before .before .part-at .ensures .0)) ∙ c .enum-told .given .1 in
-    (omega arith, c .before .before .before .before .before .loop .inv .1 ∙ left-read (args .records) table (args .sheet .now) (args .n) (c .before .before .before .before .before .loop .i) _ (c .before .before .before .before .before .before .before .before .pre) (c .before .before .before .before .loop-test .taken) e)
+    let args = c .before .before .before .before .before .before .before .before .before .args in
+    let l = language (args .edition) (args .table .now) (args .classes .now) in
+    let e = sym (c .before .before .read-entry .ensures ∙ ap (readEntry (args .records) l) (c .before .before .before .part-at .ensures .0)) ∙ c .enum-told .given .1 in
+    (omega arith, c .before .before .before .before .before .loop .inv .1 ∙ left-read (args .records) l (args .sheet .now) (args .n) (c .before .before .before .before .before .loop .i) _ (c .before .before .before .before .before .before .before .before .before .pre) (c .before .before .before .before .loop-test .taken) e)
 
 returns-2 : tie.Need-returns-2 Inv-loop μ-loop
 returns-2 c =
-    let args = c .before .before .before .before .args in
-    sym (c .before .loop .inv .1 ∙ left-end (args .records) (args .table .now) (args .sheet .now) (args .n) (c .before .loop .i) (c .loop-test .left))
+    let args = c .before .before .before .before .before .args in
+    sym (c .before .loop .inv .1 ∙ left-end (args .records) (language (args .edition) (args .table .now) (args .classes .now)) (args .sheet .now) (args .n) (c .before .loop .i) (c .loop-test .left))
 
 pub check-entries-spec : {M : Type 1} → statement M
 check-entries-spec =

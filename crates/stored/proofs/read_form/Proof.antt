@@ -26,9 +26,16 @@ returns-3 : tie.Need-returns-3
 returns-3 c = form-spare _ _ (c .before .before .before .before .before .if1 .left) _ (sym (c .before .before .before .before .read-tree .ensures) ∙ c .before .before .read .given .1) (c .if2 .taken)
 
 returns-4 : tie.Need-returns-4
-returns-4 c = form-all _ _ (c .before .before .before .before .before .if1 .left) _ (sym (c .before .before .before .before .read-tree .ensures) ∙ c .before .before .read .given .1) (tree-ends _ _ _ _ (λ i. omega (arith, c .before .before .before .before .before .before .shared-slice-known2 .given i)) (sym (c .before .before .before .before .read-tree .ensures) ∙ c .before .before .read .given .1)) (c .if2 .left)
+returns-4 c = form-all _ _ (c .before .before .before .before .before .if1 .left) _ (sym (c .before .before .before .before .read-tree .ensures) ∙ c .before .before .read .given .1) (tree-ends _ _ _ _ _ (λ i. omega (arith, c .before .before .before .before .before .before .shared-slice-known3 .given i)) (sym (c .before .before .before .before .read-tree .ensures) ∙ c .before .before .read .given .1)) (c .if2 .left)
 
 pub read-form-spec : {M : Type 1} → statement M
 read-form-spec =
     tie.close
-    (tie.spec returns read-tree-requires enum-known-read enum-told returns-2 returns-3 returns-4)
+    (tie.spec
+    returns
+    read-tree-requires
+    enum-known-read
+    enum-told
+    returns-2
+    returns-3
+    returns-4)
