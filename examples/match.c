@@ -1,5 +1,6 @@
 /* Matches one rule against one state from C, another up to class, lists every answer of a third,
-   shows what two of them can cost at most, and matches a state that it splices for edition 2.
+   shows what two of them can cost at most, matches a state that it splices for edition 2, and
+   writes the next state by a template.
 
    cc -Iinclude examples/match.c target/staticlib/libqonveshir.a -o target/match && target/match */
 
@@ -67,6 +68,23 @@ static void show_edition_2(void) {
        answer);
 }
 
+/* Opens the first gate that is shut: gates(@0, shut, @1) with the template gates(@0, open, @1). */
+static void show_next(const uint8_t *state, size_t state_length) {
+  static const uint8_t rule[] = {5, 3, 232, 1, 233};
+  static const uint8_t template_[] = {5, 3, 232, 0, 233};
+  uint8_t next[QONVESHIR_RECORD_LIMIT];
+  qonveshir_written look = qonveshir_look(table, sizeof table, rule, sizeof rule, template_,
+                                          sizeof template_, state, state_length, 100000);
+  printf("a look: number %u, length %u, count %llu\n", look.number, look.length,
+         (unsigned long long)look.count);
+  qonveshir_written written =
+      qonveshir_apply(table, sizeof table, rule, sizeof rule, template_, sizeof template_, state,
+                      state_length, 100000, next, look.length);
+  printf("the next state: number %u, bytes", written.number);
+  for (uint32_t i = 0; i < written.length; i++) printf(" %u", next[i]);
+  printf("\n");
+}
+
 int main(void) {
   uint16_t answer[QONVESHIR_ANSWER];
 
@@ -104,5 +122,6 @@ int main(void) {
          (unsigned long long)cost.count);
 
   show_edition_2();
+  show_next(gates, sizeof gates);
   return 0;
 }

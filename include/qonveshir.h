@@ -1,6 +1,7 @@
 /* qonveshir: matches rules (patterns with names, run names and complements)
-   against states (records of one term), and reads and writes sheets of either.
-   Formats, meaning and numbers are those of documents 01 and 02.
+   against states (records of one term), writes the state that a bound rule's
+   template gives, and reads and writes sheets of rules or states. Formats,
+   meaning and numbers are those of documents 01 and 02.
 
    Link with target/staticlib/libqonveshir.a (x86-64 Linux), which
    `rt staticlib qonveshir` builds. The calls keep no state, take no memory
@@ -24,7 +25,7 @@ extern "C" {
 /* The version of the library that this header belongs to. */
 #define QONVESHIR_VERSION "0.2.0"
 
-/* The numbers. 13, unread, belongs to the report program. No call gives 18 to 22
+/* The numbers. 13, unread, belongs to the report program. No call gives 20 to 22
    or 24 yet: they are document 02's, for calls to come. */
 enum {
   QONVESHIR_DONE = 0,       /* bound, written, accepted or bounded */
@@ -91,6 +92,11 @@ enum {
    count: bound, none, spent: the count or sum; written: the length written;
    bounded: the bound; else 0. */
 typedef struct { uint32_t number; uint32_t index; uint64_t count; } qonveshir_outcome;
+
+/* number: 0 bound, else another of the numbers above.
+   length: that of the result in bytes; 0 unless bound.
+   count: bound, none, spent: the count; else 0. */
+typedef struct { uint32_t number; uint32_t length; uint64_t count; } qonveshir_written;
 
 /* number: 0, or 6 or 9; offset and length are in the sheet's bytes, and both 0
    unless number is 0. */
@@ -368,6 +374,61 @@ qonveshir_outcome qonveshir_splice_pattern_in(const uint8_t *table, size_t table
                                               const uint8_t *classes, size_t classes_length,
                                               const uint8_t *pattern, size_t pattern_length,
                                               uint8_t *output, size_t output_length);
+
+/* Matches one pattern against one record and, if it is bound, writes the next
+   record: the template with each name and run name replaced by what the first
+   answer shows for it. A template is a pattern without complements whose names
+   and run names are free in the pattern; any other is refused with 18.
+
+   bound (0): the result is written and its length shown. It is an accepted
+   record. Output past it stays.
+   none (10), spent (11): as for qonveshir_match, whose number and count these
+   are; bound has its count too.
+   outgrown (19): the result is over QONVESHIR_RECORD_LIMIT bytes,
+   QONVESHIR_NESTING_LIMIT or 255 elements of a list.
+   full (12): the output is shorter than the result.
+   Length 0 and an output as it was, with all but bound; count 0, with all but
+   bound, none and spent.
+
+   Checks: 1, the pattern, the template as a pattern, 18, the record; after the
+   match 19, then 12. */
+qonveshir_written qonveshir_apply(const uint8_t *table, size_t table_length,
+                                  const uint8_t *pattern, size_t pattern_length,
+                                  const uint8_t *template_, size_t template_length,
+                                  const uint8_t *record, size_t record_length,
+                                  uint32_t allowance,
+                                  uint8_t *output, size_t output_length);
+
+/* The same in an edition, up to class. In edition 2 the result is spliced: in
+   place of a list directly inside a list of its class stand its elements, and
+   the outer list keeps its symbol. 19 and 12 are then of the spliced result.
+   Checks: 9 of the edition, 1, 14, the pattern, the template as a pattern, 18,
+   the record; after the match 19, then 12. */
+qonveshir_written qonveshir_apply_in(uint32_t edition,
+                                     const uint8_t *table, size_t table_length,
+                                     const uint8_t *classes, size_t classes_length,
+                                     const uint8_t *pattern, size_t pattern_length,
+                                     const uint8_t *template_, size_t template_length,
+                                     const uint8_t *record, size_t record_length,
+                                     uint32_t allowance,
+                                     uint8_t *output, size_t output_length);
+
+/* Shows what qonveshir_apply shows with an output of QONVESHIR_RECORD_LIMIT
+   bytes, and writes nothing. */
+qonveshir_written qonveshir_look(const uint8_t *table, size_t table_length,
+                                 const uint8_t *pattern, size_t pattern_length,
+                                 const uint8_t *template_, size_t template_length,
+                                 const uint8_t *record, size_t record_length,
+                                 uint32_t allowance);
+
+/* The same of qonveshir_apply_in. */
+qonveshir_written qonveshir_look_in(uint32_t edition,
+                                    const uint8_t *table, size_t table_length,
+                                    const uint8_t *classes, size_t classes_length,
+                                    const uint8_t *pattern, size_t pattern_length,
+                                    const uint8_t *template_, size_t template_length,
+                                    const uint8_t *record, size_t record_length,
+                                    uint32_t allowance);
 
 #ifdef __cplusplus
 }

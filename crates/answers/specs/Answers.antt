@@ -4,6 +4,7 @@ use Rattle.answers.specs.Refusal.{numberOf}
 use Rattle.answers.specs.declared.Cost.{Cost}
 use Rattle.answers.specs.declared.Answer.{Answer}
 use Rattle.answers.specs.declared.RuleAnswer.{RuleAnswer}
+use Rattle.answers.specs.declared.Applied.{Applied}
 
 -- what a rule can cost: its number, 10 (none) where there is no such bound, and the bound
 abbrev pub costNumber : Cost → ℕ
@@ -49,3 +50,23 @@ ruleCount (RuleAnswer.Bound index sum) = sum
 ruleCount (RuleAnswer.None sum) = sum
 ruleCount (RuleAnswer.Spent index sum) = sum
 ruleCount (RuleAnswer.Refused r index) = 0
+
+-- the same of a template that is put in place of a record or looked at, and the length of the result. Document 02's L8: "the same word, count and new
+-- length (0 unless bound)"
+abbrev pub appliedNumber : Applied → ℕ
+appliedNumber (Applied.Bound count length) = 0
+appliedNumber (Applied.None count) = 10
+appliedNumber (Applied.Spent count) = 11
+appliedNumber (Applied.Refused r) = numberOf r
+
+abbrev pub appliedCount : Applied → ℕ
+appliedCount (Applied.Bound count length) = count
+appliedCount (Applied.None count) = count
+appliedCount (Applied.Spent count) = count
+appliedCount (Applied.Refused r) = 0
+
+abbrev pub appliedLength : Applied → ℕ
+appliedLength (Applied.Bound count length) = length
+appliedLength (Applied.None count) = 0
+appliedLength (Applied.Spent count) = 0
+appliedLength (Applied.Refused r) = 0

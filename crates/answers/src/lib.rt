@@ -1,9 +1,9 @@
-// What a match answers, with the numbers of documents 01 and 02: refusals, parts of a record, the answers of a pattern, of a rule sheet and of
-// the cost.
+// What a match answers, with the numbers of documents 01 and 02: refusals, parts of a record, the answers of a pattern, of a rule sheet, of
+// the cost and of a template.
 ghost use mathlib.Core.Path.{_≡_};
 ghost use Rattle.answers.specs.Refusal.{numberOf};
 ghost use Rattle.answers.specs.Part.{isAbsent, boundPart};
-ghost use Rattle.answers.specs.Answers.{costNumber, costCount, answerNumber, answerCount, ruleNumber, ruleIndex, ruleCount};
+ghost use Rattle.answers.specs.Answers.{costNumber, costCount, answerNumber, answerCount, ruleNumber, ruleIndex, ruleCount, appliedNumber, appliedCount, appliedLength};
 
 // The offset of the absent mark: no part within the longest record has it.
 const NOWHERE: u16 = 65535;
@@ -207,6 +207,52 @@ impl RuleAnswer {
             RuleAnswer::None(n) => n,
             RuleAnswer::Spent(_, n) => n,
             RuleAnswer::Refused(_, _) => 0,
+        }
+    }
+}
+
+// Bound, with the count and the length of the result; none or spent, with the count; or why the input or the result is refused.
+pub enum Applied {
+    Bound(u32, usize),
+    None(u32),
+    Spent(u32),
+    Refused(Refusal),
+}
+
+impl Applied {
+    // Document 01's number; bound has 0.
+    pub fn number(self) -> u8
+        ensures { λ r. ⌜ r ≡ appliedNumber self ⌝ }
+    {
+        match self {
+            Applied::Bound(_, _) => 0,
+            Applied::None(_) => 10,
+            Applied::Spent(_) => 11,
+            Applied::Refused(r) => r.number(),
+        }
+    }
+
+    // The count that it shows; a refusal shows 0.
+    pub fn count(self) -> u32
+        ensures { λ r. ⌜ r ≡ appliedCount self ⌝ }
+    {
+        match self {
+            Applied::Bound(n, _) => n,
+            Applied::None(n) => n,
+            Applied::Spent(n) => n,
+            Applied::Refused(_) => 0,
+        }
+    }
+
+    // The length of the result; 0 unless bound.
+    pub fn length(self) -> usize
+        ensures { λ r. ⌜ r ≡ appliedLength self ⌝ }
+    {
+        match self {
+            Applied::Bound(_, n) => n,
+            Applied::None(_) => 0,
+            Applied::Spent(_) => 0,
+            Applied::Refused(_) => 0,
         }
     }
 }

@@ -105,7 +105,7 @@ module _ (l : Language) (c : Classed l) where
     same-all-spliced x y k (u :: us) (t :: ts) h g =
         let a = cons-open l u t us ts h in (same-spliced x y k u t (a .0) (g .0), same-all-spliced x y k us ts (a .1) (g .1))
 
-  same-of : (u t : Term) → l ⊢ u ≈ t → TermOf l t → TermOf l u
+  pub same-of : (u t : Term) → l ⊢ u ≈ t → TermOf l t → TermOf l u
   same-of u t h g = (same-over u t h (g .0), same-spliced Elsewhere Elsewhere tt u t h (g .1))
 
   same-all-of : (us ts : Terms) → l ⊢ us ≋ ts → TermsOf l ts → TermsOf l us

@@ -327,7 +327,7 @@ module _ (l : Language) where
 
     module _ (a b : Assignment) (e : CountAsOne l a b) (v : ℕ) where
       mutual
-        place-one : (q : Pattern) (t : Term) (at : ℕ) (other other′ : Option ℕ) → other ≡ other′
+        pub place-one : (q : Pattern) (t : Term) (at : ℕ) (other other′ : Option ℕ) → other ≡ other′
             → place (l .table) q t at a v other ≡ place (l .table) q t at b v other′
         place-one (name u) t at other other′ i = ap (cond (eqb u v) (some at)) i
         place-one (symbol s qs) (node r ts) at other other′ i = places-one qs ts (at + width (l .table) r) other other′ i

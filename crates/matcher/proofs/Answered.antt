@@ -183,18 +183,28 @@ module _ (brought : Brought) (pattern bytes : List ℕ) (k : Alike (brought .tab
       (meter-within allowance (whole (languageOf brought) q t) within ∙ metered-first (whole (languageOf brought) q t .out) e (allowance - countOf (languageOf brought) q t) o)
       (whole-agrees (languageOf brought) pattern bytes k q t i allowance))
 
-  bound-shows : (before : List ℕ) → answerNumber (told (answer (languageOf brought) q t allowance)) ≡ 0
-      → (x : Assignment) × First (languageOf brought) q t x × Shows (brought .table) bytes q t x (written (boundParts (answer (languageOf brought) q t allowance)) before)
-  bound-shows before h =
+  -- the buffer shows the first answer of the search
+  pub first-shown : (before : List ℕ) → answerNumber (told (answer (languageOf brought) q t allowance)) ≡ 0
+      → (e : Env) × (firstAnswer (whole (languageOf brought) q t .out) ≡ some e)
+      × Shows (brought .table) bytes q t (e .value) (written (boundParts (answer (languageOf brought) q t allowance)) before)
+      × Shown (brought .table) bytes (searchOf (brought .table) (classesOf brought) pattern bytes allowance .parts) e
+  first-shown before h =
       let b = bound-told (answer (languageOf brought) q t allowance) h in
       let f = bound-found (languageOf brought) q t allowance (b .0) (b .1) (b .2) in
       let e = f .1 .0 in
       let z : answer (languageOf brought) q t allowance ≡ bound (parts (brought .table) e) (b .1) = b .2 ∙ ap (λ (ps : List Part). bound ps (b .1)) (f .1 .2) in (
-        e .value,
-        search-decides (languageOf brought) k q t of .found-first e (f .1 .1),
+        e,
+        f .1 .1,
         subst (Shows (brought .table) bytes q t (e .value)) (ap (λ (o : Matching). written (boundParts o) before) (sym z))
             (env-shown brought pattern bytes k q t i e (first-answers (whole (languageOf brought) q t .out) e (f .1 .1)) _ (found-shown e (f .0) (f .1 .1)) (drop answerWidth before)),
+        found-shown e (f .0) (f .1 .1),
       )
+
+  bound-shows : (before : List ℕ) → answerNumber (told (answer (languageOf brought) q t allowance)) ≡ 0
+      → (x : Assignment) × First (languageOf brought) q t x × Shows (brought .table) bytes q t x (written (boundParts (answer (languageOf brought) q t allowance)) before)
+  bound-shows before h =
+      let s = first-shown before h in
+      (s .0 .value, search-decides (languageOf brought) k q t of .found-first (s .0) (s .1), s .2)
 
   count-told : (o : Answers) (n : ℕ) → answerCount (told (matchingOf (brought .table) o n)) ≡ n
   count-told (found e m o) n = refl

@@ -7,8 +7,9 @@ use Rattle.answers.specs.Refusal.{numberOf}
 use Rattle.answers.specs.declared.Refusal.the-variants.{Directory}
 use Rattle.term.specs.declared.Edition.{Edition}
 use Rattle.term.specs.declared.Edition.the-variants.{One, Two}
-use Rattle.qonveshir.specs.Shown.{outcome}
+use Rattle.qonveshir.specs.Shown.{outcome, asWritten}
 use Rattle.qonveshir.specs.declared.Outcome.{Outcome}
+use Rattle.qonveshir.specs.declared.Written.{Written}
 use Rattle.qonveshir.specs.declared.Told.{Told}
 use Rattle.qonveshir.specs.declared.Told.the-variants.{In, Nothing}
 
@@ -18,10 +19,17 @@ toldBy n = cond (eqb n 1) (In One) (cond (eqb n 2) (In Two) Nothing)
 abbrev pub noEdition : Outcome
 noEdition = outcome (numberOf Directory) 0 0
 
+abbrev pub noneWritten : Written
+noneWritten = asWritten (numberOf Directory) 0 0
+
 -- what is shown, what is left in a buffer that held `before`, and what is demanded, by the edition that is told
 abbrev pub shownIn : Told → (Edition → Outcome) → Outcome
 shownIn Nothing f = noEdition
 shownIn (In e) f = f e
+
+abbrev pub writtenIn : Told → (Edition → Written) → Written
+writtenIn Nothing f = noneWritten
+writtenIn (In e) f = f e
 
 abbrev pub leftIn : Told → (Edition → List ℕ) → List ℕ → List ℕ
 leftIn Nothing f before = before

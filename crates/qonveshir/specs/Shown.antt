@@ -1,9 +1,10 @@
 -- What the interface shows of each answer of the library: its number, its index, its count.
 use Prim.Native.Nat.{ℕ}
-use Rattle.answers.specs.Answers.{costNumber, costCount, answerNumber, answerCount, ruleNumber, ruleIndex, ruleCount}
+use Rattle.answers.specs.Answers.{costNumber, costCount, answerNumber, answerCount, ruleNumber, ruleIndex, ruleCount, appliedNumber, appliedCount, appliedLength}
 use Rattle.answers.specs.declared.Cost.{Cost}
 use Rattle.answers.specs.declared.Answer.{Answer}
 use Rattle.answers.specs.declared.RuleAnswer.{RuleAnswer}
+use Rattle.answers.specs.declared.Applied.{Applied}
 use Rattle.byte_answers.specs.Answers.{checkedNumber, checkedIndex, writingNumber, writingIndex, writingLength, placeNumber, placeOffset, placeLength, moveNumber, moveLength}
 use Rattle.byte_answers.specs.declared.Checked.{Checked}
 use Rattle.byte_answers.specs.declared.EntryPlace.{EntryPlace}
@@ -11,8 +12,9 @@ use Rattle.byte_answers.specs.declared.Writing.{Writing}
 use Rattle.byte_answers.specs.declared.Move.{Move}
 use Rattle.qonveshir.specs.declared.Outcome.{Outcome}
 use Rattle.qonveshir.specs.declared.Part.{Part}
+use Rattle.qonveshir.specs.declared.Written.{Written}
 
--- the largest index that can be shown
+-- the largest index or length that can be shown
 abbrev pub largest : ℕ
 largest = 4294967295
 
@@ -47,3 +49,10 @@ costShown c = outcome (costNumber c) 0 (costCount c)
 -- the count of a move is the length that was written
 abbrev pub moveShown : Move → Outcome
 moveShown m = outcome (moveNumber m) 0 (moveLength m)
+
+abbrev pub asWritten : ℕ → ℕ → ℕ → Written
+asWritten number length count = record { number = number; length = length; count = count }
+
+-- of a template: the length of the result, and the count of the match
+abbrev pub appliedShown : Applied → Written
+appliedShown a = asWritten (appliedNumber a) (appliedLength a) (appliedCount a)

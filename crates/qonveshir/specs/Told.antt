@@ -12,15 +12,21 @@ use Rattle.writing.specs.Writing.{writing, outputAfter}
 use Rattle.writing.specs.Demands.{Demanded as SheetDemanded}
 use Rattle.stored.specs.Demands.{StoreDemanded, RestoreDemanded}
 use Rattle.stored.specs.Move.{storing, restoring, moved, outputAfter as outputMoved}
+use Rattle.replace.specs.Call.{lookOf, applyOf, outputOf}
+use Rattle.replace.specs.Demands.{DemandedOf as ApplyDemandedOf, LookDemandedOf}
 use Rattle.qonveshir.specs.Demands.{PlainDemandedOf}
-use Rattle.qonveshir.specs.Edition.{toldBy, shownIn, leftIn, DemandedIn}
-use Rattle.qonveshir.specs.Shown.{answerShown, writingShown, costShown, moveShown}
+use Rattle.qonveshir.specs.Edition.{toldBy, shownIn, writtenIn, leftIn, DemandedIn}
+use Rattle.qonveshir.specs.Shown.{answerShown, writingShown, costShown, moveShown, appliedShown}
 use Rattle.qonveshir.specs.declared.Outcome.{Outcome}
+use Rattle.qonveshir.specs.declared.Written.{Written}
 
 module _ (edition : ℕ) (table classes : List ℕ) where
   -- by what is brought in that edition
   abbrev shows : (Brought → Outcome) → Outcome
   shows f = shownIn (toldBy edition) (λ e. f (bringing e table classes))
+
+  abbrev writes : (Brought → Written) → Written
+  writes f = writtenIn (toldBy edition) (λ e. f (bringing e table classes))
 
   abbrev leaves : (Brought → List ℕ) → List ℕ → List ℕ
   leaves f before = leftIn (toldBy edition) (λ e. f (bringing e table classes)) before
@@ -88,3 +94,18 @@ module _ (edition : ℕ) (table classes : List ℕ) where
 
   abbrev pub RestoreDemandedIn : List ℕ → List ℕ → ℕ → ℕ → List ℕ → Type 0
   RestoreDemandedIn stored before number size after = Demands (λ b. RestoreDemanded b stored before number size after)
+
+  abbrev pub applyIn : List ℕ → List ℕ → List ℕ → ℕ → ℕ → Written
+  applyIn rule template bytes allowance room = writes (λ b. appliedShown (applyOf b rule template bytes allowance room))
+
+  abbrev pub applyLeft : List ℕ → List ℕ → List ℕ → ℕ → List ℕ → List ℕ
+  applyLeft rule template bytes allowance before = leaves (λ b. outputOf b rule template bytes allowance before) before
+
+  abbrev pub ApplyDemandedIn : List ℕ → List ℕ → List ℕ → List ℕ → ℕ → List ℕ → Type 0
+  ApplyDemandedIn rule template bytes before allowance after = Demands (λ b. ApplyDemandedOf b rule template bytes before allowance after)
+
+  abbrev pub lookIn : List ℕ → List ℕ → List ℕ → ℕ → Written
+  lookIn rule template bytes allowance = writes (λ b. appliedShown (lookOf b rule template bytes allowance))
+
+  abbrev pub LookDemandedIn : List ℕ → List ℕ → List ℕ → ℕ → Type 0
+  LookDemandedIn rule template bytes allowance = Demands (λ b. LookDemandedOf b rule template bytes allowance)

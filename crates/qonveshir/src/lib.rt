@@ -1,5 +1,6 @@
 // The C interface, `include/qonveshir.h`: the library's calls, with their answers as numbers.
 use answers::Answer;
+use answers::Applied;
 use answers::Cost;
 use answers::Refusal;
 use answers::RuleAnswer;
@@ -12,7 +13,7 @@ ghost use mathlib.Core.Bool.{true, false};
 ghost use mathlib.Core.Option.{none, some};
 ghost use Prim.Native.Nat.{_≤_};
 ghost use lib.ListN.{length};
-ghost use Rattle.answers.specs.Answers.{ruleIndex};
+ghost use Rattle.answers.specs.Answers.{ruleIndex, appliedLength};
 ghost use Rattle.byte_answers.specs.Answers.{checkedIndex, writingIndex};
 ghost use Rattle.term.specs.Moment.{old, new};
 ghost use Rattle.reader.specs.Brought.{simply};
@@ -33,12 +34,16 @@ ghost use Rattle.stored.specs.Move.{storing, restoring, moved, outputAfter as o
 ghost use Rattle.splice.specs.Call.{call, shownOf};
 ghost use Rattle.splice.specs.Converting.{outputAfter as outputSpliced};
 ghost use Rattle.splice.specs.Demands.{Demanded as SpliceDemanded};
+ghost use Rattle.replace.specs.Call.{lookOf, applyOf, outputOf};
+ghost use Rattle.replace.specs.Demands.{DemandedOf as ApplyDemandedOf, LookDemandedOf};
 ghost use Rattle.qonveshir.specs.Demands.{PlainDemandedOf};
-ghost use Rattle.qonveshir.specs.Edition.{toldBy, noEdition};
+ghost use Rattle.qonveshir.specs.Edition.{toldBy, noEdition, noneWritten};
 ghost use Rattle.qonveshir.specs.Told.{matchIn, matchLeft, MatchDemandedIn, nextIn, nextLeft, NextDemandedIn};
 ghost use Rattle.qonveshir.specs.Told.{plainIn, plainLeft, PlainDemandedIn, costIn, CostDemandedIn, writeIn, writeLeft, WriteDemandedIn};
 ghost use Rattle.qonveshir.specs.Told.{storeIn, storeLeft, StoreDemandedIn, restoreIn, restoreLeft, RestoreDemandedIn};
+ghost use Rattle.qonveshir.specs.Told.{applyIn, applyLeft, ApplyDemandedIn, lookIn, LookDemandedIn};
 ghost use Rattle.qonveshir.specs.Shown.{largest, outcome, partShown, answerShown, rulesShown, writingShown, checkShown, placeShown, costShown, moveShown};
+ghost use Rattle.qonveshir.specs.Shown.{asWritten, appliedShown};
 
 // Document 01's number, 0 where nothing is refused; the index of the rule shown or of the entry at fault, else 0; and the count.
 #[repr(C)]
@@ -60,6 +65,14 @@ pub struct Part {
     pub number: u32,
     pub offset: u32,
     pub length: u32,
+}
+
+// Document 01's number, 0 where nothing is refused; the length of the result, 0 unless bound; and the count.
+#[repr(C)]
+pub struct Written {
+    pub number: u32,
+    pub length: u32,
+    pub count: u64,
 }
 
 fn shown(number: u8, index: usize, count: u64) -> Outcome
@@ -122,6 +135,24 @@ fn writing_shown(w: Writing) -> Outcome
     shown(w.number(), w.index(), w.length() as u64)
 }
 
+fn as_written(number: u8, length: usize, n: u64) -> Written
+    requires { ⌜ length ≤ largest ⌝ }
+    ensures { λ r. ⌜ r ≡ asWritten number length n ⌝ }
+{
+    Written {
+        number: number as u32,
+        length: length as u32,
+        count: n,
+    }
+}
+
+fn applied_shown(a: Applied) -> Written
+    requires { ⌜ appliedLength a ≤ largest ⌝ }
+    ensures { λ r. ⌜ r ≡ appliedShown a ⌝ }
+{
+    as_written(a.number(), a.length(), a.count() as u64)
+}
+
 fn edition_of(number: u32) -> Told
     ensures { λ r. ⌜ r ≡ toldBy number ⌝ }
 {
@@ -140,6 +171,13 @@ fn no_edition() -> Outcome
 {
     let r = Refusal::Directory;
     shown(r.number(), 0, 0)
+}
+
+fn none_written() -> Written
+    ensures { λ r. ⌜ r ≡ noneWritten ⌝ }
+{
+    let r = Refusal::Directory;
+    as_written(r.number(), 0, 0)
 }
 
 // One pattern against one record.
@@ -525,4 +563,93 @@ pub extern "C" fn qonveshir_splice_pattern_in(
 {
     let m = splice::splice_pattern_in(table, classes, pattern, output);
     move_shown(m)
+}
+
+// Writes a template with the parts of a rule's first answer put in.
+#[no_mangle]
+pub extern "C" fn qonveshir_apply(
+    table: &[u8],
+    pattern: &[u8],
+    template: &[u8],
+    record: &[u8],
+    allowance: u32,
+    output: &mut [u8],
+) -> Written
+    ensures is { λ r. ⌜ r ≡ appliedShown (applyOf (simply (old table)) (old pattern) (old template) (old «record») allowance (length (old output))) ⌝ }
+    ensures contents { λ _. ⌜ new output ≡ outputOf (simply (old table)) (old pattern) (old template) (old «record») allowance (old output) ⌝ }
+    ensures demand { λ _. ⌜ ApplyDemandedOf (simply (old table)) (old pattern) (old template) (old «record») (old output) allowance (new output) ⌝ }
+{
+    let a = replace::apply(table, pattern, template, record, allowance, output);
+    applied_shown(a)
+}
+
+// The same in an edition, up to class.
+#[no_mangle]
+pub extern "C" fn qonveshir_apply_in(
+    edition: u32,
+    table: &[u8],
+    classes: &[u8],
+    pattern: &[u8],
+    template: &[u8],
+    record: &[u8],
+    allowance: u32,
+    output: &mut [u8],
+) -> Written
+    ensures is { λ r. ⌜ r ≡ applyIn edition (old table) (old classes) (old pattern) (old template) (old «record») allowance (length (old output)) ⌝ }
+    ensures contents { λ _. ⌜ new output ≡ applyLeft edition (old table) (old classes) (old pattern) (old template) (old «record») allowance (old output) ⌝ }
+    ensures demand { λ _. ⌜ ApplyDemandedIn edition (old table) (old classes) (old pattern) (old template) (old «record») (old output) allowance (new output) ⌝ }
+{
+    let t = edition_of(edition);
+    let Told::In(e) = t else {
+        return none_written();
+    };
+    let a = replace::apply_in(
+        e,
+        table,
+        classes,
+        pattern,
+        template,
+        record,
+        allowance,
+        output,
+    );
+    applied_shown(a)
+}
+
+// What applying would show with an output of 4,096 bytes; nothing is written.
+#[no_mangle]
+pub extern "C" fn qonveshir_look(
+    table: &[u8],
+    pattern: &[u8],
+    template: &[u8],
+    record: &[u8],
+    allowance: u32,
+) -> Written
+    ensures is { λ r. ⌜ r ≡ appliedShown (lookOf (simply (old table)) (old pattern) (old template) (old «record») allowance) ⌝ }
+    ensures demand { λ _. ⌜ LookDemandedOf (simply (old table)) (old pattern) (old template) (old «record») allowance ⌝ }
+{
+    let a = replace::look(table, pattern, template, record, allowance);
+    applied_shown(a)
+}
+
+// The same in an edition, up to class.
+#[no_mangle]
+pub extern "C" fn qonveshir_look_in(
+    edition: u32,
+    table: &[u8],
+    classes: &[u8],
+    pattern: &[u8],
+    template: &[u8],
+    record: &[u8],
+    allowance: u32,
+) -> Written
+    ensures is { λ r. ⌜ r ≡ lookIn edition (old table) (old classes) (old pattern) (old template) (old «record») allowance ⌝ }
+    ensures demand { λ _. ⌜ LookDemandedIn edition (old table) (old classes) (old pattern) (old template) (old «record») allowance ⌝ }
+{
+    let t = edition_of(edition);
+    let Told::In(e) = t else {
+        return none_written();
+    };
+    let a = replace::look_in(e, table, classes, pattern, template, record, allowance);
+    applied_shown(a)
 }

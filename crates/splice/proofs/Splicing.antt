@@ -135,3 +135,18 @@ module _ (classes table : List ℕ) where
 
   pub spliced-two : (t : Tree) → Spliced classes table t → term-spliced.Spliced (language Two table classes) t
   spliced-two t h = spliced-at Elsewhere t h
+
+  -- and the other way
+
+  mutual
+    unfolding SplicedIn listClass
+
+    two-at : (x : Stand) (t : Tree) → SplicedAt (language Two table classes) x t → SplicedIn classes table (classIn classes x) t
+    two-at x (branch c ts) h = (h .0, two-all-at (standIn table c) ts (h .1))
+
+    two-all-at : (x : Stand) (ts : Trees) → SplicedAll (language Two table classes) x ts → AllSplicedIn classes table (classIn classes x) ts
+    two-all-at x empty h = tt
+    two-all-at x (more t ts) h = (two-at x t (h .0), two-all-at x ts (h .1))
+
+  pub two-spliced : (t : Tree) → term-spliced.Spliced (language Two table classes) t → Spliced classes table t
+  two-spliced t h = two-at Elsewhere t h

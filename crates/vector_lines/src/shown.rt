@@ -1,6 +1,7 @@
 // Outcomes as text: each word and number with a blank before it. A text that has no more room is cut.
 use crate::text;
 use answers::Answer;
+use answers::Applied;
 use answers::Cost;
 use answers::RuleAnswer;
 use byte_answers::Checked;
@@ -283,15 +284,19 @@ fn is_stated(output: &[u8; text::ROOM], length: usize, stated: &[u8]) -> bool {
 }
 
 // What was written, in the words stated where those stand for it.
-pub fn show_written(length: usize, output: &[u8; text::ROOM], stated: &[u8]) -> Shown {
-    let written = show_number(b" written ", length as u64);
+fn put_written(out: Shown, length: usize, output: &[u8; text::ROOM], stated: &[u8]) -> Shown {
     if is_stated(output, length, stated) {
-        return put(put(written, b" "), stated);
+        return put(put(out, b" "), stated);
     }
     put(
-        put_bytes(written, text::start(output, length)),
+        put_bytes(out, text::start(output, length)),
         b", another output",
     )
+}
+
+pub fn show_written(length: usize, output: &[u8; text::ROOM], stated: &[u8]) -> Shown {
+    let written = show_number(b" written ", length as u64);
+    put_written(written, length, output, stated)
 }
 
 // The other form of a record, or why it is refused.
@@ -299,5 +304,32 @@ pub fn show_move(moved: Move, output: &[u8; text::ROOM], stated: &[u8]) -> Shown
     match moved {
         Move::Written(length) => show_written(length, output, stated),
         Move::Refused(r) => show_unchanged(show_number(b" refused ", r.number() as u64), output),
+    }
+}
+
+// A result's length; that of an answer that is not bound is 0 and not shown.
+fn put_length(out: Shown, number: u8, length: usize) -> Shown {
+    if number == 0 {
+        return put_number(out, b" ", length as u64);
+    }
+    if length == 0 {
+        return out;
+    }
+    put_number(out, b" length ", length as u64)
+}
+
+// The answer of a look.
+pub fn show_look(looked: Applied) -> Shown {
+    let number = looked.number();
+    let counted = put_count(show_word(number), number, looked.count() as u64);
+    put_length(counted, number, looked.length())
+}
+
+// The same of applying, and what it wrote.
+pub fn show_applied(applied: Applied, output: &[u8; text::ROOM], stated: &[u8]) -> Shown {
+    let answered = show_look(applied);
+    match applied {
+        Applied::Bound(_, length) => put_written(answered, length, output, stated),
+        _ => show_unchanged(answered, output),
     }
 }

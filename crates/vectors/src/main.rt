@@ -2,6 +2,7 @@
 // from what is answered or can't be read, and how many agree and differ.
 mod calls;
 mod matches;
+mod replacements;
 
 use libc::STDOUT_FILENO;
 use vector_lines::shown;

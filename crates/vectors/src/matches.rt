@@ -15,10 +15,10 @@ use vector_lines::text;
 use vector_lines::text::Told;
 
 // The most symbols that a class list names here.
-const SYMBOLS: usize = 256;
+pub const SYMBOLS: usize = 256;
 
 // The calls by their places among their names, of either form.
-const MATCH: usize = 0;
+pub const MATCH: usize = 0;
 
 const NEXT: usize = 1;
 
@@ -156,7 +156,7 @@ fn match_told(
     }
 }
 
-fn allowance(field: &[u8]) -> u32 {
+pub fn allowance(field: &[u8]) -> u32 {
     (text::number(field) % text::UNREAD) as u32
 }
 
@@ -246,7 +246,7 @@ fn rule_in_two<'a>(call: usize, rest: &[u8], out: &'a mut [u8]) -> &'a [u8] {
 }
 
 // Whether a rule, or one of a sheet, is not spliced.
-fn is_unspliced(call: usize, table: &[u8], classes: &[u8], rule: &[u8]) -> bool {
+pub fn is_unspliced(call: usize, table: &[u8], classes: &[u8], rule: &[u8]) -> bool {
     let number = Refusal::Unspliced.number();
     if call == MATCH_RULES {
         return sheet::check_rules_in(table, classes, rule).number() == number;
@@ -269,10 +269,26 @@ fn once_more(call: usize, table: &[u8], classes: &[u8], rest: &[u8]) -> Shown {
 }
 
 // Whether two texts are the same; no byte of a text is 0.
-fn is_same(first: Shown, second: Shown) -> bool {
+pub fn is_same(first: Shown, second: Shown) -> bool {
     let first_bytes = first.bytes;
     let second_bytes = second.bytes;
     check::same(&first_bytes, &second_bytes)
+}
+
+// What a call shows in edition 1, beside what it shows in edition 2, which may be nothing.
+pub fn beside_two(first: Shown, second: Shown) -> Shown {
+    if second.length == 0 || is_same(first, second) {
+        return first;
+    }
+    shown::put(first, b", another in edition 2")
+}
+
+// What a call shows in its simple form, beside what it shows with the list of single classes.
+pub fn beside_single(simple: Shown, by_class: Shown) -> Shown {
+    if is_same(simple, by_class) {
+        return simple;
+    }
+    shown::put(simple, b", another by single classes or in edition 2")
 }
 
 // A call with a class list in edition 1, and in edition 2; one that checks nothing has no edition.
@@ -281,15 +297,11 @@ fn in_both(call: usize, table: &[u8], classes: &[u8], rest: &[u8]) -> Shown {
     if MATCH_RULES < call {
         return first;
     }
-    let second = once_more(call, table, classes, rest);
-    if second.length == 0 || is_same(first, second) {
-        return first;
-    }
-    shown::put(first, b", another in edition 2")
+    beside_two(first, once_more(call, table, classes, rest))
 }
 
 // Each symbol is its own class.
-fn single() -> [u8; SYMBOLS] {
+pub fn single() -> [u8; SYMBOLS] {
     let mut classes = [0u8; SYMBOLS];
     let mut i: usize = 0;
     while i < SYMBOLS {
@@ -304,11 +316,7 @@ fn simply(call: usize, table: &[u8], rest: &[u8]) -> Shown {
     let single = single();
     let classes = text::start(&single, table.len());
     let simple = once(call, Told::Simply, table, classes, rest);
-    let by_class = in_both(call, table, classes, rest);
-    if is_same(simple, by_class) {
-        return simple;
-    }
-    shown::put(simple, b", another by single classes or in edition 2")
+    beside_single(simple, in_both(call, table, classes, rest))
 }
 
 // A call with a class list after the table, which may be empty if it checks nothing.

@@ -11,6 +11,7 @@ mod editions;
 mod measure;
 mod peer;
 mod plot;
+mod replaces;
 mod table;
 mod workloads;
 

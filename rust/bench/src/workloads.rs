@@ -1,6 +1,6 @@
 //! The named workloads.
 
-use crate::editions;
+use crate::{editions, replaces};
 use interface::{
     sheet_of, Answers, Edition, Language, Library, Word, ANSWER, LIST, RECORD_LIMIT, STORED_LIMIT,
 };
@@ -50,6 +50,7 @@ pub fn all() -> Vec<Workload> {
     all.extend(stored());
     all.extend(plains());
     all.extend(editions::all());
+    all.extend(replaces::all());
     all
 }
 

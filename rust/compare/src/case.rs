@@ -1,7 +1,7 @@
 //! One call with its inputs, run between margins of random bytes.
 
 use crate::rng::Rng;
-use interface::{Edition, Language, Library, Outcome, Part, Word, ENTRY, NAMES, RUNS};
+use interface::{Edition, Language, Library, Outcome, Part, Word, Written, ENTRY, NAMES, RUNS};
 use std::fmt;
 
 /// The calls.
@@ -32,10 +32,14 @@ pub enum Call {
     SpliceRecordIn,
     SplicePattern,
     SplicePatternIn,
+    Apply,
+    ApplyIn,
+    Look,
+    LookIn,
 }
 
 /// The calls in their order, with their names.
-pub const CALLS: [(Call, &str); 25] = [
+pub const CALLS: [(Call, &str); 29] = [
     (Call::Match, "match"),
     (Call::MatchIn, "match_in"),
     (Call::Next, "next"),
@@ -61,6 +65,10 @@ pub const CALLS: [(Call, &str); 25] = [
     (Call::SpliceRecordIn, "splice_record_in"),
     (Call::SplicePattern, "splice_pattern"),
     (Call::SplicePatternIn, "splice_pattern_in"),
+    (Call::Apply, "apply"),
+    (Call::ApplyIn, "apply_in"),
+    (Call::Look, "look"),
+    (Call::LookIn, "look_in"),
 ];
 
 impl Call {
@@ -76,7 +84,8 @@ impl Call {
     /// Whether the call is told the edition.
     pub fn is_told(self) -> bool {
         use Call::*;
-        matches!(self, MatchIn | NextIn | PlainIn | WriteIn | CostIn | StoreIn | RestoreIn)
+        let searches = matches!(self, MatchIn | NextIn | PlainIn | ApplyIn | LookIn);
+        searches || matches!(self, WriteIn | CostIn | StoreIn | RestoreIn)
     }
 
     /// Whether the call writes bytes.
@@ -85,7 +94,7 @@ impl Call {
         let moves = matches!(self, Store | StoreIn | Restore | RestoreIn);
         let splices =
             matches!(self, SpliceRecord | SpliceRecordIn | SplicePattern | SplicePatternIn);
-        matches!(self, Write | WriteIn) || moves || splices
+        matches!(self, Write | WriteIn | Apply | ApplyIn) || moves || splices
     }
 }
 
@@ -151,6 +160,18 @@ pub enum Kind {
     OneElementOver,
     JustEnough,
     OneByteShort,
+    OwnNames,
+    RuleAsTemplate,
+    NotFree,
+    WithinAComplement,
+    ComplementInTemplate,
+    ResultOf255,
+    ResultOf256,
+    ResultOf4096,
+    ResultOf4097,
+    Nesting32,
+    Nesting33,
+    LimitBySplicing,
 }
 
 /// A call and its inputs.
@@ -159,7 +180,8 @@ pub struct Case {
     pub call: Call,
     /// The edition, where the call is told it.
     pub edition: Edition,
-    /// Table, class list, pattern, record, sheet or records, as many as the call has, in its order.
+    /// Table, class list, pattern, template, record, sheet or records, as many as the call has, in
+    /// its order.
     pub inputs: Vec<Vec<u8>>,
     /// The writer's lengths, or those of a given answer.
     pub lengths: Vec<u16>,
@@ -210,12 +232,22 @@ impl Case {
         Shown { result, memory }
     }
 
+    /// How many bytes the call writes.
+    pub fn length(&self, library: &dyn Library) -> usize {
+        let [_, length, count] = self.run(library, 0, 0).result;
+        match self.call {
+            Call::Apply | Call::ApplyIn => length as usize,
+            _ => count as usize,
+        }
+    }
+
     /// What the call can count at most, where it is a match of a pattern that has such a bound.
     pub fn bound(&self, library: &dyn Library) -> Option<u64> {
         use Call::*;
         let inputs: Vec<&[u8]> = self.inputs.iter().map(Vec::as_slice).collect();
         let cost = match (self.call, self.language(&inputs)) {
-            (Match | MatchIn | Next | NextIn, (language, [pattern, _])) => {
+            (Match | MatchIn | Next | NextIn, (language, [pattern, _]))
+            | (Apply | ApplyIn | Look | LookIn, (language, [pattern, _, _])) => {
                 library.cost(language, pattern)
             }
             _ => return None,
@@ -243,7 +275,13 @@ impl Case {
             (Entry, [sheet]) => return part(library.entry(sheet, n)),
             (_, inputs) => self.language(inputs),
         };
-        // p: pattern, r: record, s: sheet.
+        // p: pattern, t: template, r: record, s: sheet.
+        if let [p, t, r] = inputs {
+            return written(match self.call {
+                Apply | ApplyIn => library.apply(l, p, t, r, n, output),
+                _ => library.look(l, p, t, r, n),
+            });
+        }
         outcome(match (self.call, inputs) {
             (Match | MatchIn, [p, r]) => library.match_one(l, p, r, n, answer),
             (Next | NextIn, [p, r]) => library.next(l, p, r, lengths, n, answer),
@@ -264,6 +302,10 @@ impl Case {
 
 fn outcome(outcome: Outcome) -> [u64; 3] {
     [outcome.number.into(), outcome.index.into(), outcome.count]
+}
+
+fn written(written: Written) -> [u64; 3] {
+    [written.number.into(), written.length.into(), written.count]
 }
 
 fn part(part: Part) -> [u64; 3] {
@@ -300,7 +342,8 @@ impl Shown {
 
     /// Where two runs differ.
     pub fn difference(&self, other: &Shown) -> String {
-        let mut text = format!("number, index, count: {:?} and {:?}\n", self.result, other.result);
+        let mut text =
+            format!("number, index or length, count: {:?} and {:?}\n", self.result, other.result);
         let (one, two, margin) = (&self.memory, &other.memory, self.memory.margin);
         for (i, (one, two)) in one.inputs.iter().zip(&two.inputs).enumerate() {
             text += &place(&format!("input {i}"), margin, one, two);

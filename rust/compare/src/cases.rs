@@ -6,7 +6,7 @@ use crate::nexts::Search;
 use crate::rng::Rng;
 use crate::skips::skip_case;
 use crate::told::{Forms, Told};
-use crate::{plains, splices, stored};
+use crate::{plains, replaces, splices, stored};
 use interface::{
     sheet_of, Answer, Edition, Language, Library, Outcome, Word, ANSWER, FIRST_NAME, FIRST_RUN,
     SHEET_LIMIT, STORED_LIMIT,
@@ -16,7 +16,7 @@ use interface::{
 type Make = fn(&mut Rng, Vec<u8>, &dyn Library) -> Case;
 
 /// How often a case of each kind is made.
-const MAKERS: [(usize, Make); 14] = [
+const MAKERS: [(usize, Make); 16] = [
     (40, match_case),
     (26, next_case),
     (24, rules_case),
@@ -24,13 +24,15 @@ const MAKERS: [(usize, Make); 14] = [
     (4, entry_case),
     (13, check_rules_case),
     (14, check_states_case),
-    (14, cost_case),
+    (18, cost_case),
     (16, skips),
     (12, stored::store_case),
     (20, stored::restore_case),
     (20, plain_case),
     (14, splices::record_case),
     (12, splices::pattern_case),
+    (32, replaces::apply_case),
+    (24, replaces::look_case),
 ];
 
 /// A case; `library` gives the count that allowances are taken around.
@@ -85,13 +87,13 @@ fn cost_case(rng: &mut Rng, table: Vec<u8>, library: &dyn Library) -> Case {
 }
 
 /// What a match is made of.
-struct Made {
-    told: Told,
-    pattern: Vec<u8>,
-    record: Vec<u8>,
+pub struct Made {
+    pub told: Told,
+    pub pattern: Vec<u8>,
+    pub record: Vec<u8>,
     /// What it comes to with the allowance [`MOST`].
-    found: (Outcome, Answer),
-    kinds: Vec<Kind>,
+    pub found: (Outcome, Answer),
+    pub kinds: Vec<Kind>,
 }
 
 impl Made {
@@ -103,7 +105,7 @@ impl Made {
 }
 
 /// A match of a pair that is made so.
-fn made(
+pub fn made(
     rng: &mut Rng,
     table: Vec<u8>,
     library: &dyn Library,
@@ -301,8 +303,7 @@ fn entry_case(rng: &mut Rng, table: Vec<u8>, _: &dyn Library) -> Case {
 /// plenty.
 pub fn with_room(rng: &mut Rng, case: Case, library: &dyn Library) -> Case {
     let mut case = Case { room: STORED_LIMIT, ..case };
-    let [_, _, length] = case.run(library, 0, 0).result;
-    let length = length as usize;
+    let length = case.length(library);
     let (room, kind) = match rng.below(8) {
         0 => (length.saturating_sub(1), Some(Kind::OneByteShort)),
         1 => (0, None),
@@ -370,7 +371,7 @@ pub fn room(rng: &mut Rng) -> usize {
 pub const MOST: u32 = 20_000;
 
 /// An allowance at, around or far from the count of an outcome that had [`MOST`].
-fn allowance(rng: &mut Rng, outcome: Outcome) -> (u32, Vec<Kind>) {
+pub fn allowance(rng: &mut Rng, outcome: Outcome) -> (u32, Vec<Kind>) {
     let (count, known) = (outcome.count as u32, outcome.word() != Some(Word::Spent));
     match rng.below(20) {
         0 => (0, vec![]),

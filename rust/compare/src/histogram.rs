@@ -12,15 +12,15 @@ pub struct Histogram {
 }
 
 /// The kinds in their order, the words with which they count, and the calls that must have them.
-const KINDS: [(&str, &[Word], &[Call]); 59] = [
-    ("record over 1,000 bytes, not spent", &ENDED, &RECORDS),
+const KINDS: [(&str, &[Word], &[Call]); 71] = [
+    ("record over 1,000 bytes, not spent", &ENDED, &LONG_RECORDS),
     ("pattern over 100 bytes, not spent", &ENDED, &PATTERNS),
     ("count over 1,000, not spent", &ENDED, &SEARCHES),
     ("over 32 complements in a row, not spent", &ENDED, &WITH_A_PATTERN),
     ("a run of another number of bytes than of terms", &[Word::Bound], &WITH_AN_ANSWER),
-    ("allowance one below the count", &SEARCHED, &SEARCHES),
-    ("allowance at the count", &SEARCHED, &SEARCHES),
-    ("allowance far above the count", &SEARCHED, &SEARCHES),
+    ("allowance one below the count", &SEARCHED, &COUNTED),
+    ("allowance at the count", &SEARCHED, &COUNTED),
+    ("allowance far above the count", &SEARCHED, &COUNTED),
     ("each symbol its own class", &ACCEPTED, &SEARCHED_IN),
     ("symbols that share a class", &ACCEPTED, &SEARCHED_IN),
     ("another answer than without classes", &ACCEPTED, &SEARCHED_IN),
@@ -106,22 +106,57 @@ const KINDS: [(&str, &[Word], &[Call]); 59] = [
     ("an inner list without elements, spliced", &[Word::Bound], &SPLICES),
     ("255 elements when spliced", &[Word::Bound], &SPLICED_RECORDS),
     ("256 elements when spliced", &[Word::Long], &SPLICED_RECORDS),
-    ("an output of just the length", &[Word::Bound], &MOVES),
-    ("an output of one byte less", &[Word::Full], &MOVES),
+    ("an output of just the length", &[Word::Bound], &OUTPUTS),
+    ("an output of one byte less", &[Word::Full], &OUTPUTS),
+    ("a template of the rule's own names", &[Word::Bound], &REPLACES),
+    ("the rule as its own template", &[Word::Bound], &REPLACES),
+    ("a template's name that does not stand in the rule", &[Word::Loose], &REPLACES),
+    ("a template's name that stands within a complement only", &[Word::Loose], &REPLACES),
+    ("a complement in a template", &[Word::Loose], &REPLACES),
+    ("a result of 255 elements", &[Word::Bound], &REPLACES),
+    ("a result of 256 elements", &[Word::Outgrown], &REPLACES),
+    ("a result of 4,096 bytes", &[Word::Bound], &REPLACES),
+    ("a result of 4,097 bytes", &[Word::Outgrown], &REPLACES),
+    ("a result of nesting 32", &[Word::Bound], &REPLACES),
+    ("a result of nesting 33", &[Word::Outgrown], &REPLACES),
+    ("a result of 255 or 256 elements by splicing", &REPLACED, &REPLACES_IN),
 ];
 const SPENT: [Word; 1] = [Word::Spent];
 const ENDED: [Word; 2] = [Word::Bound, Word::None];
 const ACCEPTED: [Word; 3] = [Word::Bound, Word::None, Word::Spent];
+const REPLACED: [Word; 2] = [Word::Bound, Word::Outgrown];
 const SEARCHED: [Word; 4] = [Word::Bound, Word::None, Word::Spent, Word::Unknown];
 const PATTERNS: [Call; 6] =
     [Call::Match, Call::MatchIn, Call::Plain, Call::PlainIn, Call::Cost, Call::CostIn];
-const RECORDS: [Call; 6] =
-    [Call::Match, Call::MatchIn, Call::Next, Call::NextIn, Call::Plain, Call::PlainIn];
 const WITH_A_PATTERN: [Call; 6] =
     [Call::Match, Call::MatchIn, Call::Next, Call::NextIn, Call::Cost, Call::CostIn];
+const LONG_RECORDS: [Call; 10] = [
+    Call::Match,
+    Call::MatchIn,
+    Call::Next,
+    Call::NextIn,
+    Call::Plain,
+    Call::PlainIn,
+    Call::Apply,
+    Call::ApplyIn,
+    Call::Look,
+    Call::LookIn,
+];
+const REPLACES: [Call; 4] = [Call::Apply, Call::ApplyIn, Call::Look, Call::LookIn];
+const REPLACES_IN: [Call; 2] = [Call::ApplyIn, Call::LookIn];
 const PLAINS: [Call; 2] = [Call::Plain, Call::PlainIn];
 const NEXTS: [Call; 2] = [Call::Next, Call::NextIn];
 const SEARCHES: [Call; 4] = [Call::Match, Call::MatchIn, Call::Next, Call::NextIn];
+const COUNTED: [Call; 8] = [
+    Call::Match,
+    Call::MatchIn,
+    Call::Next,
+    Call::NextIn,
+    Call::Apply,
+    Call::ApplyIn,
+    Call::Look,
+    Call::LookIn,
+];
 const WITH_AN_ALLOWANCE: [Call; 6] =
     [Call::Match, Call::MatchIn, Call::Next, Call::NextIn, Call::Rules, Call::RulesIn];
 const WITH_AN_ANSWER: [Call; 8] = [
@@ -135,8 +170,10 @@ const WITH_AN_ANSWER: [Call; 8] = [
     Call::RulesIn,
 ];
 const MATCHES: [Call; 4] = [Call::Match, Call::MatchIn, Call::Rules, Call::RulesIn];
-const WITH_CLASSES: [Call; 3] = [Call::MatchIn, Call::NextIn, Call::RulesIn];
-const SEARCHED_IN: [Call; 4] = [Call::MatchIn, Call::NextIn, Call::PlainIn, Call::RulesIn];
+const WITH_CLASSES: [Call; 5] =
+    [Call::MatchIn, Call::NextIn, Call::RulesIn, Call::ApplyIn, Call::LookIn];
+const SEARCHED_IN: [Call; 6] =
+    [Call::MatchIn, Call::NextIn, Call::PlainIn, Call::RulesIn, Call::ApplyIn, Call::LookIn];
 const WRITERS: [Call; 2] = [Call::Write, Call::WriteIn];
 const RULES: [Call; 2] = [Call::CheckRules, Call::CheckRulesIn];
 const SPLICES: [Call; 4] =
@@ -144,7 +181,7 @@ const SPLICES: [Call; 4] =
 const SPLICES_IN: [Call; 2] = [Call::SpliceRecordIn, Call::SplicePatternIn];
 const SPLICED_RECORDS: [Call; 2] = [Call::SpliceRecord, Call::SpliceRecordIn];
 const RESTORES: [Call; 2] = [Call::Restore, Call::RestoreIn];
-const MOVES: [Call; 8] = [
+const OUTPUTS: [Call; 10] = [
     Call::Store,
     Call::StoreIn,
     Call::Restore,
@@ -153,8 +190,10 @@ const MOVES: [Call; 8] = [
     Call::SpliceRecordIn,
     Call::SplicePattern,
     Call::SplicePatternIn,
+    Call::Apply,
+    Call::ApplyIn,
 ];
-const TOLD: [Call; 7] = [
+const TOLD: [Call; 9] = [
     Call::MatchIn,
     Call::NextIn,
     Call::PlainIn,
@@ -162,6 +201,8 @@ const TOLD: [Call; 7] = [
     Call::CostIn,
     Call::StoreIn,
     Call::RestoreIn,
+    Call::ApplyIn,
+    Call::LookIn,
 ];
 /// The calls whose sheet tells the edition.
 const WITH_A_SHEET: [Call; 6] = [
@@ -173,7 +214,7 @@ const WITH_A_SHEET: [Call; 6] = [
     Call::CheckStatesIn,
 ];
 /// The calls that read records or patterns in edition 2.
-const READERS: [Call; 13] = [
+const READERS: [Call; 15] = [
     Call::MatchIn,
     Call::NextIn,
     Call::PlainIn,
@@ -187,8 +228,10 @@ const READERS: [Call; 13] = [
     Call::CostIn,
     Call::StoreIn,
     Call::RestoreIn,
+    Call::ApplyIn,
+    Call::LookIn,
 ];
-const MENDED: [Call; 7] = [
+const MENDED: [Call; 9] = [
     Call::MatchIn,
     Call::NextIn,
     Call::PlainIn,
@@ -196,9 +239,11 @@ const MENDED: [Call; 7] = [
     Call::RulesIn,
     Call::StoreIn,
     Call::RestoreIn,
+    Call::ApplyIn,
+    Call::LookIn,
 ];
 const BELOW: [Call; 5] = [Call::MatchIn, Call::NextIn, Call::Rules, Call::RulesIn, Call::CostIn];
-const BY_CLASS: [Call; 10] = [
+const BY_CLASS: [Call; 12] = [
     Call::MatchIn,
     Call::NextIn,
     Call::PlainIn,
@@ -209,6 +254,8 @@ const BY_CLASS: [Call; 10] = [
     Call::CostIn,
     Call::StoreIn,
     Call::RestoreIn,
+    Call::ApplyIn,
+    Call::LookIn,
 ];
 
 impl Histogram {
@@ -256,7 +303,8 @@ impl Histogram {
 fn sizes(case: &Case, count: u64) -> impl Iterator<Item = Kind> {
     let (pattern, record): (&[u8], &[u8]) = match (case.call, &case.inputs[..]) {
         (Call::Cost | Call::CostIn, [.., pattern]) => (pattern, &[]),
-        (call, [.., pattern, record]) if RECORDS.contains(&call) => (pattern, record),
+        (call, [.., pattern, _, record]) if REPLACES.contains(&call) => (pattern, record),
+        (call, [.., pattern, record]) if LONG_RECORDS.contains(&call) => (pattern, record),
         _ => (&[], &[]),
     };
     let complements = pattern.split(|&code| code != COMPLEMENT).any(|row| row.len() > 32);
@@ -268,27 +316,29 @@ fn sizes(case: &Case, count: u64) -> impl Iterator<Item = Kind> {
 
 /// Whether a call can give a word.
 fn can_give(call: Call, word: Word) -> bool {
+    let replaces = REPLACES.contains(&call);
     let reads_patterns = [&WITH_AN_ANSWER[..], &WITH_A_PATTERN, &RULES].concat().contains(&call)
+        || replaces
         || [Call::SplicePattern, Call::SplicePatternIn].contains(&call);
     let is_told = TOLD.contains(&call);
     match word {
         Word::Bound | Word::Long => true,
         Word::Table | Word::Short | Word::Spare | Word::Code | Word::Deep => call != Call::Entry,
         Word::Stray => reads_patterns,
-        Word::None => [&WITH_AN_ANSWER[..], &WITH_A_PATTERN].concat().contains(&call),
+        Word::None => replaces || [&WITH_AN_ANSWER[..], &WITH_A_PATTERN].concat().contains(&call),
         Word::Narrow => WITH_AN_ANSWER.contains(&call),
-        Word::Spent => WITH_AN_ALLOWANCE.contains(&call),
+        Word::Spent => replaces || WITH_AN_ALLOWANCE.contains(&call),
         Word::Directory => {
             is_told || call == Call::Entry || [&WITH_A_SHEET[..], &WRITERS].concat().contains(&call)
         }
-        Word::Full => [&MOVES[..], &WRITERS].concat().contains(&call),
+        Word::Full => [&OUTPUTS[..], &WRITERS].concat().contains(&call),
         Word::Class => call.brings(),
         Word::Unknown => NEXTS.contains(&call),
         Word::Unspliced => READERS.contains(&call),
         Word::Length => RESTORES.contains(&call),
         Word::NotPlain => PLAINS.contains(&call),
-        Word::Unread | Word::Loose | Word::Outgrown | Word::NoName => false,
-        Word::Shelf | Word::NoExample | Word::Turns => false,
+        Word::Loose | Word::Outgrown => replaces,
+        Word::Unread | Word::NoName | Word::Shelf | Word::NoExample | Word::Turns => false,
     }
 }
 

@@ -8,6 +8,7 @@ mod histogram;
 mod make;
 mod nexts;
 mod plains;
+mod replaces;
 mod rng;
 mod skips;
 mod splices;

@@ -46,17 +46,17 @@ pub fn kinds(table: &[u8], pattern: &[u8], record: &[u8], full: (Outcome, Answer
 
 /// A pattern without complements, each name and run name another; a list's second run name is a
 /// name. Bytes that are no pattern stay.
-struct Plain<'a> {
+pub struct Plain<'a> {
     table: &'a [u8],
-    codes: Vec<u8>,
+    pub codes: Vec<u8>,
     /// Where the names and run names stand.
-    variables: Vec<usize>,
+    pub variables: Vec<usize>,
     name: u8,
     run: u8,
 }
 
 impl<'a> Plain<'a> {
-    fn of(table: &'a [u8], pattern: &[u8]) -> Self {
+    pub fn of(table: &'a [u8], pattern: &[u8]) -> Self {
         let (codes, variables) = (Vec::new(), Vec::new());
         let mut plain = Plain { table, codes, variables, name: FIRST_NAME, run: FIRST_RUN };
         let mut bytes = pattern.iter().copied();

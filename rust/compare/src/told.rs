@@ -148,11 +148,16 @@ impl Told {
             return bytes;
         }
         let (at, symbol) = rng.pick(&lists);
-        let unlike = (0..=u8::MAX).find(|&other| other != symbol && self.is_same(symbol, other));
         bytes[at + 1] += 1;
-        let inner = [complements, &[unlike.unwrap_or(symbol), 0]].concat();
+        let inner = [complements, &[self.unlike_in_class(symbol), 0]].concat();
         bytes.splice(at + 2..at + 2, inner);
         bytes
+    }
+
+    /// Another symbol of a symbol's class, or itself where there is none.
+    pub fn unlike_in_class(&self, symbol: u8) -> u8 {
+        let mut others = (0..=u8::MAX).filter(|&other| other != symbol);
+        others.find(|&other| self.is_same(symbol, other)).unwrap_or(symbol)
     }
 
     /// The entries of a sheet, in edition 2 mostly mended.
@@ -180,7 +185,7 @@ impl Told {
 
     /// Adds an entry to those of an edition 2 sheet, now and then, that is unspliced.
     pub fn perhaps_last(&self, rng: &mut Rng, entries: &mut Vec<Vec<u8>>) -> Option<Kind> {
-        let wanted = self.edition == Edition::TWO && rng.chance(8);
+        let wanted = self.edition == Edition::TWO && rng.chance(14);
         let (entry, kind) = self.unspliced(rng, false).filter(|_| wanted)?;
         entries.push(entry);
         Some(kind)

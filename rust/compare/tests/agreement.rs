@@ -3,7 +3,7 @@
 #![cfg(feature = "link")]
 
 use compare::Cases;
-use interface::{Answer, Answers, Edition, Language, Library, Outcome, ABSENT, ANSWER};
+use interface::{Answer, Answers, Edition, Language, Library, Outcome, Written, ABSENT, ANSWER};
 use proved::Proved;
 use reference::{Reference, Shortcuts};
 
@@ -61,10 +61,13 @@ fn every_language() {
 /// A call with an answer and an output.
 type Called<'a> = dyn Fn(&mut [u16], &mut [u8]) -> Outcome + 'a;
 
+/// What a call shows, and the answer and the output after it.
+type Shown = (Outcome, Vec<u16>, Vec<u8>);
+
 /// What each call with a language shows and writes.
-fn shown_by(library: &dyn Library, l: Language, bytes: &[u8]) -> Vec<(Outcome, Vec<u16>, Vec<u8>)> {
+fn shown_by(library: &dyn Library, l: Language, bytes: &[u8]) -> Vec<Shown> {
     let sheet = interface::sheet_of(l.edition, &[bytes.to_vec()]);
-    let calls: [&Called; 12] = [
+    let calls: [&Called; 14] = [
         &|a, _| library.match_one(l, bytes, bytes, 99, a),
         &|a, _| library.next(l, bytes, bytes, &[], 99, a),
         &|a, _| library.match_plain(l, bytes, bytes, a),
@@ -77,10 +80,17 @@ fn shown_by(library: &dyn Library, l: Language, bytes: &[u8]) -> Vec<(Outcome, V
         &|_, o| library.restore(l, bytes, o),
         &|_, o| library.splice_record(l, bytes, o),
         &|_, o| library.splice_pattern(l, bytes, o),
+        &|_, o| as_outcome(library.apply(l, bytes, bytes, bytes, 99, o)),
+        &|_, _| as_outcome(library.look(l, bytes, bytes, bytes, 99)),
     ];
     let shown = calls.map(|call| {
         let (mut answer, mut output) = (vec![ABSENT; ANSWER], vec![7; 20]);
         (call(&mut answer, &mut output), answer, output)
     });
     shown.to_vec()
+}
+
+/// What a replacement shows, with its length as the index.
+fn as_outcome(written: Written) -> Outcome {
+    Outcome { number: written.number, index: written.length, count: written.count }
 }

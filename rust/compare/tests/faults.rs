@@ -1,14 +1,17 @@
 //! The comparison finds no difference where there is none, and finds small faults.
 
 use interface::{
-    Edition, Language, Library, Outcome, Part, Word, ABSENT, ANSWER, EDITION_MARK, ENTRY,
-    FIRST_NAME, LIST, NAMES,
+    Edition, Language, Library, Outcome, Part, Word, Written, ABSENT, ANSWER, COMPLEMENT,
+    EDITION_MARK, ENTRY, FIRST_NAME, LIST, NAMES, RECORD_LIMIT,
 };
 use reference::Reference;
 use std::slice::ChunksExactMut;
 
 /// What becomes of a class list that is brought with a table.
 type Brought = fn(&[u8], &[u8]) -> Vec<u8>;
+
+/// What becomes of a template.
+type Template = fn(&[u8]) -> Vec<u8>;
 
 /// What becomes of given run lengths.
 type Given = fn(&[u16]) -> Vec<u16>;
@@ -31,6 +34,13 @@ struct Faulty {
     splice: fn(&mut Outcome),
     /// Whether 16 is by the symbol instead of its class.
     by_symbol: bool,
+    template: Template,
+    /// Whether a result is measured before it is spliced.
+    early: bool,
+    /// What becomes of what a replacement shows, with an output of so many bytes.
+    written: fn(&mut Written, usize),
+    /// What becomes of its output.
+    result: fn(Language, &Written, &mut [u8]),
 }
 
 const SOUND: Faulty = Faulty {
@@ -48,6 +58,10 @@ const SOUND: Faulty = Faulty {
     unspliced: |_, bytes| bytes.to_vec(),
     splice: |_| (),
     by_symbol: false,
+    template: |template| template.to_vec(),
+    early: false,
+    written: |_, _| (),
+    result: |_, _, _| (),
 };
 
 impl Faulty {
@@ -137,6 +151,30 @@ impl Library for Faulty {
 
     fn write_sheet(&self, l: Language, r: &[u8], lengths: &[u16], output: &mut [u8]) -> Outcome {
         self.write(l, output, |l, output| Reference.write_sheet(l, r, lengths, output))
+    }
+
+    fn apply(
+        &self,
+        l: Language,
+        p: &[u8],
+        t: &[u8],
+        r: &[u8],
+        n: u32,
+        output: &mut [u8],
+    ) -> Written {
+        let mut written = Reference.apply(l, p, &(self.template)(t), r, n, output);
+        (self.result)(l, &written, output);
+        (self.written)(&mut written, output.len());
+        written
+    }
+
+    fn look(&self, l: Language, p: &[u8], t: &[u8], r: &[u8], n: u32) -> Written {
+        let mut written = Reference.look(l, p, &(self.template)(t), r, n);
+        if self.early && written.number == 0 {
+            written = Reference.look(l.in_edition(Edition::ONE), p, t, r, n);
+        }
+        (self.written)(&mut written, RECORD_LIMIT);
+        written
     }
 
     fn entry(&self, sheet: &[u8], index: u32) -> Part {
@@ -354,5 +392,62 @@ fn faults_of_the_converter_are_found() {
     let longer = |outcome: &mut Outcome| outcome.count += u64::from(outcome.number == 0);
     for (i, splice) in [full, longer].into_iter().enumerate() {
         assert!(differs(Faulty { splice, ..SOUND }), "fault {i}");
+    }
+}
+
+#[test]
+fn faults_of_templates_are_found() {
+    let faults: [Template; 3] = [
+        |template| template.iter().copied().filter(|&code| code != COMPLEMENT).collect(),
+        |template| template.iter().map(|&code| code.min(FIRST_NAME)).collect(),
+        |template| template[..template.len().min(256)].to_vec(),
+    ];
+    for (i, template) in faults.into_iter().enumerate() {
+        assert!(differs(Faulty { template, ..SOUND }), "fault {i}");
+    }
+    assert!(differs(Faulty { early: true, ..SOUND }));
+}
+
+#[test]
+fn faults_of_what_a_replacement_shows_are_found() {
+    let faults: [fn(&mut Written, usize); 6] = [
+        |written, _| written.number -= 14 * u32::from(written.number == 18),
+        |written, _| written.count += u64::from(written.number == 18),
+        |written, _| written.count += u64::from(written.number == 19),
+        |written, _| written.length += u32::from(written.number == 12),
+        |written, _| written.length += u32::from(written.number == 11),
+        // 12 before 19.
+        |written, room| {
+            written.number -= 7 * u32::from(written.number == 19 && room < RECORD_LIMIT)
+        },
+    ];
+    for (i, written) in faults.into_iter().enumerate() {
+        assert!(differs(Faulty { written, ..SOUND }), "fault {i}");
+    }
+}
+
+#[test]
+fn faults_of_results_are_found() {
+    let faults: [fn(Language, &Written, &mut [u8]); 5] = [
+        // Touched with 12, with 19, with none, and past the result.
+        |_, written, output| touch(written.number == 12, output, 0),
+        |_, written, output| touch(written.number == 19, output, 0),
+        |_, written, output| touch(written.number == 10, output, 0),
+        |_, written, output| touch(written.number == 0, output, written.length as usize),
+        // Each symbol's class in its place.
+        |language, written, output| {
+            let result = &mut output[..written.length as usize];
+            result.copy_from_slice(&merged(language, result));
+        },
+    ];
+    for (i, result) in faults.into_iter().enumerate() {
+        assert!(differs(Faulty { result, ..SOUND }), "fault {i}");
+    }
+}
+
+/// Changes a byte, if there is one.
+fn touch(wanted: bool, output: &mut [u8], at: usize) {
+    if let Some(byte) = output.get_mut(at).filter(|_| wanted) {
+        *byte ^= 1;
     }
 }

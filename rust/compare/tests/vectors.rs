@@ -3,12 +3,13 @@
 //! another folder.
 
 use interface::{
-    Edition, Language, Library, Outcome, Word, ABSENT, ANSWER, EDITION_MARK, ENTRY, NAMES, RUNS,
+    Edition, Language, Library, Outcome, Word, Written, ABSENT, ANSWER, EDITION_MARK, ENTRY, NAMES,
+    RUNS,
 };
 use reference::{Reference, Shortcuts};
 use std::{collections::BTreeMap, env, fs, path::PathBuf};
 
-const FILES: [&str; 11] = [
+const FILES: [&str; 12] = [
     "matches.txt",
     "classes.txt",
     "complements.txt",
@@ -20,6 +21,7 @@ const FILES: [&str; 11] = [
     "stored.txt",
     "editions.txt",
     "splices.txt",
+    "replacements.txt",
 ];
 
 #[test]
@@ -57,12 +59,16 @@ fn every_vector_by(library: &dyn Library) {
         }
     }
     let calls = [
+        "apply",
+        "apply_in",
         "check_rules",
         "check_rules_in",
         "check_states",
         "check_states_in",
         "cost_in",
         "cost_of",
+        "look",
+        "look_in",
         "match_in",
         "match_one",
         "match_plain",
@@ -153,6 +159,16 @@ fn outcome(library: &dyn Library, call: &str, fields: &[&str], stated: &str) -> 
                 _ => library.splice_pattern(language, &from, output),
             })
         }
+        ("apply", [rule, template, record, allowance, room]) => {
+            let (p, t, r) = (bytes(rule), bytes(template), bytes(record));
+            applied(number(room), stated, |output| {
+                library.apply(language, &p, &t, &r, number(allowance), output)
+            })
+        }
+        ("look", [rule, template, record, allowance]) => {
+            let (p, t, r) = (bytes(rule), bytes(template), bytes(record));
+            looked(library.look(language, &p, &t, &r, number(allowance)))
+        }
         _ => return found(library, &told),
     })
 }
@@ -226,8 +242,7 @@ fn checked(sheet: &[u8], check: impl Fn(&[u8]) -> Outcome) -> String {
     }
 }
 
-/// The outcome of a writing with so much room; that of a sheet's refusal shows an index. What is
-/// written is shown as stated where that stands for it.
+/// The outcome of a writing with so much room; that of a sheet's refusal shows an index.
 fn written(room: u32, sheet: bool, stated: &str, write: impl Fn(&mut [u8]) -> Outcome) -> String {
     let before = vec![250; room as usize];
     let mut output = before.clone();
@@ -238,9 +253,37 @@ fn written(room: u32, sheet: bool, stated: &str, write: impl Fn(&mut [u8]) -> Ou
         let index = if sheet { format!(" {}", outcome.index) } else { String::new() };
         return format!("refused {}{index}", outcome.number);
     }
-    let text = stated.rsplit(' ').next().unwrap();
-    let same = stated.starts_with("written") && bytes(text) == output[..size];
-    format!("written {size} {}", if same { text } else { "another output" })
+    as_stated(format!("written {size}"), &output[..size], stated)
+}
+
+/// The outcome of applying with so much room.
+fn applied(room: u32, stated: &str, apply: impl Fn(&mut [u8]) -> Written) -> String {
+    let before = vec![250; room as usize];
+    let mut output = before.clone();
+    let answer = apply(&mut output);
+    let size = answer.length as usize;
+    assert_eq!(output[size..], before[size..], "bytes that must stay");
+    match answer.number {
+        0 => as_stated(looked(answer), &output[..size], stated),
+        _ => looked(answer),
+    }
+}
+
+/// The outcome of a look.
+fn looked(answer: Written) -> String {
+    match answer.word().unwrap() {
+        Word::Bound => format!("bound {} {}", answer.count, answer.length),
+        word @ (Word::None | Word::Spent) => format!("{} {}", word.text(), answer.count),
+        word => format!("refused {}", word.number()),
+    }
+}
+
+/// The outcome with what is written after it, as stated where that stands for it.
+fn as_stated(outcome: String, output: &[u8], stated: &str) -> String {
+    match stated.strip_prefix(&format!("{outcome} ")) {
+        Some(text) if bytes(text) == output => format!("{outcome} {text}"),
+        _ => format!("{outcome} another output"),
+    }
 }
 
 fn number(text: &str) -> u32 {

@@ -213,6 +213,38 @@ impl Outcome {
     }
 }
 
+/// `qonveshir_written`: the number, the length of the result, which is 0 unless it is bound, and the
+/// count.
+#[repr(C)]
+#[derive(Clone, Copy, Debug, PartialEq, Eq)]
+pub struct Written {
+    pub number: u32,
+    pub length: u32,
+    pub count: u64,
+}
+
+impl Written {
+    /// A result of so many bytes.
+    pub fn bound(length: usize, count: u64) -> Self {
+        Written { number: Word::Bound.number(), length: length as u32, count }
+    }
+
+    /// None or spent, which show a count and no result.
+    pub fn unbound(word: Word, count: u64) -> Self {
+        Written { number: word.number(), length: 0, count }
+    }
+
+    /// A refusal, which shows no count.
+    pub fn refused(word: Word) -> Self {
+        Self::unbound(word, 0)
+    }
+
+    /// The word, if the number has one.
+    pub fn word(&self) -> Option<Word> {
+        Word::of(self.number)
+    }
+}
+
 /// `qonveshir_part`: where an entry lies in its sheet.
 #[repr(C)]
 #[derive(Clone, Copy, Debug, PartialEq, Eq)]
@@ -355,6 +387,44 @@ pub trait Library {
     /// Splices an edition 1 pattern.
     fn splice_pattern(&self, language: Language, pattern: &[u8], output: &mut [u8]) -> Outcome;
 
+    /// Writes a template with the first answer's parts put in, if the pattern is bound.
+    fn apply(
+        &self,
+        language: Language,
+        pattern: &[u8],
+        template: &[u8],
+        record: &[u8],
+        allowance: u32,
+        output: &mut [u8],
+    ) -> Written;
+
+    /// Shows what [`apply`](Self::apply) shows with an output of [`RECORD_LIMIT`] bytes, and writes
+    /// nothing.
+    fn look(
+        &self,
+        language: Language,
+        pattern: &[u8],
+        template: &[u8],
+        record: &[u8],
+        allowance: u32,
+    ) -> Written;
+
+    /// [`apply`](Self::apply) with a buffer of its own: what is written, which is empty unless it is
+    /// bound.
+    fn applied(
+        &self,
+        language: Language,
+        pattern: &[u8],
+        template: &[u8],
+        record: &[u8],
+        allowance: u32,
+    ) -> (Written, Vec<u8>) {
+        let mut output = vec![0; RECORD_LIMIT];
+        let written = self.apply(language, pattern, template, record, allowance, &mut output);
+        output.truncate(written.length as usize);
+        (written, output)
+    }
+
     /// [`match_one`](Self::match_one) with a buffer of its own, in which every name is absent
     /// unless the outcome is bound.
     fn find(
@@ -374,6 +444,12 @@ pub trait Library {
         let mut answer = Answer([ABSENT; ANSWER]);
         let outcome = self.match_plain(language, pattern, record, &mut answer.0);
         (outcome, answer)
+    }
+
+    /// Whether an accepted pattern is no template of an accepted one. The record's checks come after
+    /// 18, so an empty record tells it.
+    fn is_loose(&self, language: Language, pattern: &[u8], template: &[u8]) -> bool {
+        self.look(language, pattern, template, &[], 0).word() == Some(Word::Loose)
     }
 
     /// Whether an accepted pattern is plain. The record's checks come after 23, so an empty record

@@ -36,6 +36,7 @@ fn rattle() -> String {
         "stored",
         "splice",
         "rules",
+        "replace",
         "qonveshir",
     ];
     let code = crates.map(code_of).concat();
@@ -170,7 +171,11 @@ fn codes() {
 fn structs() {
     let header = read("include/qonveshir.h");
     let texts = ["rust/interface/src/lib.rs", "crates/qonveshir/src/lib.rt"].map(read);
-    for (c, name) in [("qonveshir_outcome", "Outcome"), ("qonveshir_part", "Part")] {
+    for (c, name) in [
+        ("qonveshir_outcome", "Outcome"),
+        ("qonveshir_written", "Written"),
+        ("qonveshir_part", "Part"),
+    ] {
         let fields = between(&header, "typedef struct { ", &format!("; }} {c};"))[0];
         let fields: Vec<String> = fields.split("; ").map(field).collect();
         for text in &texts {
@@ -182,9 +187,11 @@ fn structs() {
     }
 }
 
-/// A field or parameter of the header, `uint32_t index`, as `index: u32`.
+/// A field or parameter of the header, `uint32_t index`, as `index: u32`. A name that is a keyword of
+/// C++ has `_` behind it there.
 fn field(text: &str) -> String {
     let (kind, name) = text.rsplit_once(' ').unwrap();
+    let name = name.trim_end_matches('_');
     format!("{name}: {}", kind.replace("uint", "u").replace("_t", ""))
 }
 
@@ -194,7 +201,7 @@ type Call = (String, Vec<String>, String);
 #[test]
 fn calls() {
     let header = header_calls(&read("include/qonveshir.h"));
-    assert_eq!(header.len(), 25);
+    assert_eq!(header.len(), 29);
     assert_eq!(rattle_calls(&rattle()), header);
     let sorted = |mut calls: Vec<Call>| {
         calls.sort();
@@ -248,12 +255,13 @@ fn rattle_calls(code: &str) -> Vec<Call> {
     calls.collect()
 }
 
-/// Both forms of each `safe = NAME(edition; pattern: u8; allowance; output: u8);`, and the call
-/// without a table.
+/// Both forms of each `safe = NAME(edition; pattern: u8; allowance; output: u8) -> Outcome;`, and the
+/// call without a table.
 fn rust_calls(text: &str) -> Vec<Call> {
-    let declarations = between(text, " = qonveshir_", ");\n");
+    let declarations = between(text, " = qonveshir_", ";\n");
     let calls = declarations.into_iter().flat_map(|declaration| {
-        let (name, parameters) = declaration.split_once('(').unwrap();
+        let (call, shown) = declaration.rsplit_once(") -> ").unwrap();
+        let (name, parameters) = call.split_once('(').unwrap();
         let parts: Vec<Vec<&str>> = parameters
             .split(';')
             .map(|part| part.split(',').map(str::trim).filter(|text| !text.is_empty()).collect())
@@ -267,7 +275,7 @@ fn rust_calls(text: &str) -> Vec<Call> {
         let [table, classes] = ["table", "classes"].map(|name| vec![format!("{name}: const u8")]);
         let edition = parts[0].iter().map(number).collect();
         let call = |form: &str, first: Vec<Vec<String>>| {
-            (format!("qonveshir_{name}{form}"), first.concat(), "Outcome".to_owned())
+            (format!("qonveshir_{name}{form}"), first.concat(), shown.to_owned())
         };
         [
             call("", vec![table.clone(), rest.clone()]),

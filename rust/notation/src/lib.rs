@@ -26,14 +26,27 @@
 //! assert_eq!(symbols.classes(), [0, 1, 2, 1, 2]);
 //! ```
 //!
+//! A move has a rule and a template, which says what the state becomes:
+//!
+//! ```
+//! let symbols = notation::Symbols::parse("open shut gates/*").unwrap();
+//! let moved = symbols.parsed_move("gates(@0, shut) => gates(@0, open)").unwrap();
+//! assert_eq!((moved.rule.bytes, moved.template.bytes), (vec![2, 2, 232, 1], vec![2, 2, 232, 0]));
+//!
+//! let error = symbols.parsed_move("gates(@0) => gates(@0").unwrap_err();
+//! assert_eq!(error.to_string(), "column 22: expected , or ) within gates");
+//! ```
+//!
 //! Texts are read alike in both editions; [`Symbols::language`] is what a call is told of them.
 
 mod entries;
+mod moves;
 mod parse;
 mod show;
 mod symbols;
 
 pub use entries::{entries, Entry};
+pub use moves::{ParsedMove, ARROW};
 pub use parse::Parsed;
 pub use show::Shown;
 pub use symbols::Symbols;

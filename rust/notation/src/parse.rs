@@ -37,7 +37,12 @@ impl<'a> Parser<'a> {
         Parser { symbols, text, at: 0, pattern, bytes: Vec::new(), nodes: Vec::new() }
     }
 
-    /// Reads the whole text as one term or pattern.
+    /// The same from an offset of the text on.
+    pub fn from(self, at: usize) -> Self {
+        Parser { at, ..self }
+    }
+
+    /// Reads the rest of the text as one term or pattern.
     pub fn whole(mut self) -> Result<Parsed<'a>, Error> {
         self.node(1, false)?;
         self.blanks();
@@ -47,8 +52,9 @@ impl<'a> Parser<'a> {
         let (kind, limit) =
             if self.pattern { ("pattern", PATTERN_LIMIT) } else { ("record", RECORD_LIMIT) };
         if self.bytes.len() > limit {
-            let size = self.bytes.len();
-            return self.error(0, format!("the {kind} takes {size} bytes, its limit is {limit}"));
+            let (size, start) = (self.bytes.len(), self.nodes[0].1);
+            return self
+                .error(start, format!("the {kind} takes {size} bytes, its limit is {limit}"));
         }
         Ok(Parsed { bytes: self.bytes, text: self.text, nodes: self.nodes })
     }

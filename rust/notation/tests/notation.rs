@@ -252,3 +252,32 @@ fn texts_have_named_lines() {
     ];
     assert_eq!(found, expected.map(|(line, name, body)| (line, name, body.to_string())));
 }
+
+#[test]
+fn moves_read_and_print() {
+    let symbols = symbols();
+    let text = "gates(@0, !open, @1) => row(gates(@1), ?0)";
+    let parts = symbols.parsed_move(text).unwrap();
+    assert_eq!(parts.rule.bytes, [5, 3, 232, 248, 0, 233]);
+    assert_eq!(parts.template.bytes, [4, 5, 1, 233, 200]);
+    let shown = symbols.show_move(&parts.rule.bytes, &parts.template.bytes);
+    assert_eq!(shown.unwrap(), text);
+    assert!(symbols.parsed_move(" open=>open ").is_ok());
+    // Places are those of the whole text.
+    let column = |at: usize| parts.template.error(at, "here").to_string();
+    assert_eq!(column(0), "column 25: here");
+    assert_eq!(column(4), "column 40: here");
+    assert_eq!(parts.rule.error(4, "here").to_string(), "column 12: here");
+    let long = format!("open => gates({})", vec!["?0"; 255].join(", "));
+    for (text, error) in [
+        ("open", "column 5: expected => and a template"),
+        ("=> open", "column 1: expected a symbol, ?name, @run or !, found the end"),
+        ("open =>", "column 8: expected a symbol, ?name, @run or !, found the end"),
+        ("open => row(open)", "column 17: row takes 2 children, this is 1"),
+        ("@0 => open", "column 1: a run name may only be a direct child of a list"),
+        ("open => open => open", "column 14: expected the end, found '='"),
+        (&long, "column 9: the pattern takes 257 bytes, its limit is 256"),
+    ] {
+        assert_eq!(symbols.parsed_move(text).unwrap_err().to_string(), error, "{text}");
+    }
+}

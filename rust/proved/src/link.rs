@@ -8,22 +8,29 @@ macro_rules! library {
         #[derive(Clone, Copy, Debug, Default)]
         pub struct $name;
 
-        // The edition, where the form `_in` is told it; inputs; a number; what is written.
+        // The edition, where the form `_in` is told it; inputs; a number; an output; what is shown.
         $crate::calls! { $name, $prefix,
-            match_one = qonveshir_match(edition; pattern: u8, record: u8; allowance; answer: u16);
+            match_one = qonveshir_match(
+                edition; pattern: u8, record: u8; allowance; answer: u16) -> Outcome;
             next = qonveshir_next(
-                edition; pattern: u8, record: u8, given: u16; allowance; answer: u16);
-            match_plain = qonveshir_match_plain(edition; pattern: u8, record: u8; ; answer: u16);
-            match_rules = qonveshir_match_rules(; rules: u8, record: u8; allowance; answer: u16);
+                edition; pattern: u8, record: u8, given: u16; allowance; answer: u16) -> Outcome;
+            match_plain = qonveshir_match_plain(
+                edition; pattern: u8, record: u8; ; answer: u16) -> Outcome;
+            match_rules = qonveshir_match_rules(
+                ; rules: u8, record: u8; allowance; answer: u16) -> Outcome;
             write_sheet = qonveshir_write_sheet(
-                edition; records: u8, lengths: u16; ; output: u8);
-            check_rules = qonveshir_check_rules(; sheet: u8; ; );
-            check_states = qonveshir_check_states(; sheet: u8; ; );
-            cost = qonveshir_cost(edition; pattern: u8; ; );
-            store = qonveshir_store(edition; record: u8; ; output: u8);
-            restore = qonveshir_restore(edition; stored: u8; ; output: u8);
-            splice_record = qonveshir_splice_record(; record: u8; ; output: u8);
-            splice_pattern = qonveshir_splice_pattern(; pattern: u8; ; output: u8);
+                edition; records: u8, lengths: u16; ; output: u8) -> Outcome;
+            check_rules = qonveshir_check_rules(; sheet: u8; ; ) -> Outcome;
+            check_states = qonveshir_check_states(; sheet: u8; ; ) -> Outcome;
+            cost = qonveshir_cost(edition; pattern: u8; ; ) -> Outcome;
+            store = qonveshir_store(edition; record: u8; ; output: u8) -> Outcome;
+            restore = qonveshir_restore(edition; stored: u8; ; output: u8) -> Outcome;
+            splice_record = qonveshir_splice_record(; record: u8; ; output: u8) -> Outcome;
+            splice_pattern = qonveshir_splice_pattern(; pattern: u8; ; output: u8) -> Outcome;
+            apply = qonveshir_apply(
+                edition; pattern: u8, template: u8, record: u8; allowance; output: u8) -> Written;
+            look = qonveshir_look(
+                edition; pattern: u8, template: u8, record: u8; allowance; ) -> Written;
         }
     };
 }
@@ -37,9 +44,9 @@ macro_rules! calls {
     ($name:ident, $prefix:literal, $($safe:ident = $call:ident(
         $($edition:ident)?; $($input:ident: $element:ty),*; $($number:ident)?;
         $($output:ident: $written:ty)?
-    );)*) => {
+    ) -> $shown:ident;)*) => {
         const _: () = {
-            use ::interface::{Edition, Language, Library, Outcome, Part};
+            use ::interface::{Edition, Language, Library, Outcome, Part, Written};
 
             // SAFETY, for each call: a slice is a valid pointer to as many elements as its length
             // says, a `&mut` slice overlaps no other, and the library reads and writes within the
@@ -51,7 +58,7 @@ macro_rules! calls {
                     $($input: &[$element],)*
                     $($number: u32,)?
                     $($output: &mut [$written])?
-                ) -> Outcome {
+                ) -> $shown {
                     extern "C" {
                         #[link_name = concat!($prefix, stringify!($call))]
                         fn simple(
@@ -59,7 +66,7 @@ macro_rules! calls {
                             $($input: *const $element, _: usize,)*
                             $($number: u32,)?
                             $($output: *mut $written, _: usize)?
-                        ) -> Outcome;
+                        ) -> $shown;
                         #[link_name = concat!($prefix, stringify!($call), "_in")]
                         fn told(
                             $($edition: Edition,)?
@@ -68,7 +75,7 @@ macro_rules! calls {
                             $($input: *const $element, _: usize,)*
                             $($number: u32,)?
                             $($output: *mut $written, _: usize)?
-                        ) -> Outcome;
+                        ) -> $shown;
                     }
                     let table = language.table;
                     if language.classes.is_none() $(&& language.$edition == Edition::ONE)? {

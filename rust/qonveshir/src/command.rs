@@ -1,14 +1,16 @@
 //! The commands, and their help.
 
 use crate::{
-    check, cost, explain, matching, report, sheets, splice, stored, trouble, why, Console, Reply,
-    Stop,
+    check, cost, explain, matching, moves, report, sheets, splice, stored, trouble, why, Console,
+    Reply, Stop,
 };
 
 /// Every command, in the order in which the help has them.
 pub const COMMANDS: &[Command] = &[
     matching::MATCH,
     why::WHY,
+    moves::APPLY,
+    moves::LOOK,
     sheets::PACK,
     sheets::UNPACK,
     check::CHECK,
@@ -55,7 +57,7 @@ pub fn wrong_call<T>(name: &str) -> Result<T, Stop> {
 pub fn help() -> String {
     let usages: String = COMMANDS.iter().map(usage).collect();
     format!(
-        "qonveshir: matches rules against states\n\nusage:\n{usages}  \
+        "qonveshir: matches rules against states and makes moves\n\nusage:\n{usages}  \
          qonveshir COMMAND --help, qonveshir --help, qonveshir --version\n\n{TERMS}\n{STATUS}"
     )
 }
@@ -68,8 +70,9 @@ a symbol named before, of the same meaning and as many children. Symbols of one
 meaning count as the same in a match. Rules and states are written as in
 'gates(@0, !open, @1)' and 'gates(open, held)'. A TEXT file has one in each
 line, which may have a name before it, as in `one-shut: gates(@0, shut, @1)`; #
-starts a comment and empty lines are passed over. TABLE, CLASSES, SHEET and FILE
-are in bytes. docs/GUIDE.md says how to write rules.
+starts a comment and empty lines are passed over. A MOVE is a rule and a
+template, as in 'gates(@0, shut) => gates(@0, open)'. TABLE, CLASSES, SHEET,
+RULES, TEMPLATES and FILE are in bytes. docs/GUIDE.md says how to write rules.
 
 E is the edition of the rule language: 1, if not given, or 2, in which rules and
 states have no list directly inside a list of the same symbol or meaning;

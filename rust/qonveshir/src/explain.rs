@@ -4,8 +4,8 @@ use crate::command::{wrong_call, Command};
 use crate::{editions, read, trouble, Console, Reply, Stop};
 use interface::*;
 use reference::{
-    classes::Classes, fault::Fault, grammar::Grammar, pattern::Steps, record::Record, sheet::Sheet,
-    stored, Refusal,
+    classes::Classes, fault::Fault, grammar::Grammar, pattern::Steps, record::Record, replace,
+    sheet::Sheet, stored, Refusal,
 };
 
 /// What the proved program `codes` prints: a line for each code from 0 up, the code and its kind.
@@ -17,13 +17,14 @@ pub const EXPLAIN: Command = Command {
         (
             "explain [--edition E] TABLE [--KIND FILE]...",
             "say why a table is refused, or a file over it; KIND is classes, rules, states, \
-             pattern, record or stored",
+             pattern, template, record or stored",
         ),
         ("explain NUMBER", "say what a number means"),
         ("explain --code CODE", "say what kind a code of a pattern is"),
     ],
     help: "\
-A class list counts for the files named after it.
+A class list counts for the files named after it, and a pattern is the rule of
+the templates after it.
 ",
     run: explain,
 };
@@ -43,23 +44,30 @@ fn explain(arguments: &[&str], _: &mut Console) -> Reply {
 
 /// Checks a table, and inputs over it.
 fn explain_inputs(edition: Edition, path: &str, mut rest: &[&str]) -> Reply {
-    let (table, mut classes) = (read(path)?, None);
+    let (table, mut classes, mut rule) = (read(path)?, None, None);
     let simple = Language::simple(&table).in_edition(edition);
-    let mut text = input("table", path, &table, simple)?;
+    let mut text = input("table", path, &table, simple, None)?;
     while let [option, path, later @ ..] = rest {
         let kind = match *option {
             "--classes" => "classes",
             "--rules" => "rules",
             "--states" => "states",
             "--pattern" => "pattern",
+            "--template" if rule.is_none() => {
+                return trouble("--template: name its --pattern first")
+            }
+            "--template" => "template",
             "--record" => "record",
             "--stored" => "stored",
             _ => return trouble(format!("{option}: see qonveshir explain --help")),
         };
         let bytes = read(path)?;
-        text += &input(kind, path, &bytes, Language { classes: classes.as_deref(), ..simple })?;
-        if kind == "classes" {
-            classes = Some(bytes);
+        let language = Language { classes: classes.as_deref(), ..simple };
+        text += &input(kind, path, &bytes, language, rule.as_deref())?;
+        match kind {
+            "classes" => classes = Some(bytes),
+            "pattern" => rule = Some(bytes),
+            _ => {}
         }
         rest = later;
     }
@@ -106,10 +114,14 @@ fn kind(code: &str) -> Reply {
     }
 }
 
-/// Checks one input.
-fn input(kind: &str, path: &str, bytes: &[u8], language: Language) -> Reply {
+/// Checks one input; a template by its rule, which is accepted.
+fn input(kind: &str, path: &str, bytes: &[u8], language: Language, rule: Option<&[u8]>) -> Reply {
     let said = if kind == "rules" || kind == "states" { editions::said(bytes) } else { "" };
-    match check(kind, bytes, language) {
+    let checked = match (kind, rule) {
+        ("template", Some(rule)) => check_template(rule, bytes, language),
+        _ => check(kind, bytes, language),
+    };
+    match checked {
         Ok(()) => Ok(format!("{path}: accepted as {kind}{said}\n")),
         Err(refusal) => Err(Stop::No(refused(kind, path, bytes, language.table, refusal))),
     }
@@ -127,6 +139,15 @@ pub fn check(kind: &str, bytes: &[u8], language: Language) -> Result<(), Refusal
         _ => {}
     }
     Ok(())
+}
+
+/// Why a pattern is no template of an accepted rule.
+pub fn check_template(rule: &[u8], template: &[u8], language: Language) -> Result<(), Refusal> {
+    let (grammar, mut rule_steps, mut steps) =
+        (Grammar::read(language)?, Steps::new(), Steps::new());
+    let start = rule_steps.read(grammar, rule)?;
+    steps.read(grammar, template)?;
+    Ok(replace::check(steps.as_slice(), rule_steps.free(start))?)
 }
 
 /// Why the states of a report are refused, whose rules have the edition given.
@@ -178,7 +199,7 @@ fn expected(kind: &str, word: Word, in_entry: bool, at: usize) -> &'static str {
         Word::Short => "a further node, or a list's number of children",
         Word::Spare => "the end, since the last node ends before",
         Word::Deep => "nesting of at most 32, complements not counted",
-        Word::Long if kind == "pattern" || kind == "rules" && in_entry => "at most 256 bytes",
+        Word::Long if reads_pattern(kind) && (kind != "rules" || in_entry) => "at most 256 bytes",
         Word::Long if kind == "stored" && at == STORED_LIMIT => "at most 8,192 bytes",
         Word::Long if kind == "stored" => "an old form of at most 4,096 bytes",
         Word::Long if kind == "record" || in_entry => "at most 4,096 bytes",
@@ -186,6 +207,7 @@ fn expected(kind: &str, word: Word, in_entry: bool, at: usize) -> &'static str {
         Word::Long => "at most 32,768 bytes",
         Word::Length => "the length in bytes of the list's children, low byte first",
         Word::Stray => "a run name only as a direct child of a list",
+        Word::Loose => "no complement, and a name or run name only if it is free in the rule",
         Word::Unspliced => "this list's elements in its place, as qonveshir splice puts them",
         _ => word.meaning(),
     }
@@ -197,7 +219,11 @@ fn codes(kind: &str, symbols: usize) -> String {
         _ => format!("a symbol from 0 to {}", symbols - 1),
     };
     let more = ", a name 200 to 231, a run name 232 to 247 or the complement 248";
-    symbols + if kind == "pattern" || kind == "rules" { more } else { "" }
+    symbols + if reads_pattern(kind) { more } else { "" }
+}
+
+fn reads_pattern(kind: &str) -> bool {
+    matches!(kind, "pattern" | "template" | "rules")
 }
 
 /// What a class list should have at a place.

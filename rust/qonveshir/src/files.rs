@@ -3,7 +3,7 @@
 use crate::kind::Kind;
 use crate::{editions, trouble, Reply, Stop};
 use interface::SHEET_LIMIT;
-use notation::{Entry, Symbols};
+use notation::{Entry, Error, Symbols};
 use std::collections::HashSet;
 use std::fs::{self, File};
 use std::io::{self, Read};
@@ -57,24 +57,30 @@ pub fn read_symbols(given: &str) -> Result<Symbols, Stop> {
 }
 
 /// An entry of a text file: its line, its name, if it has one, its text and its bytes.
-pub struct Named {
+pub struct Named<T = Vec<u8>> {
     pub line: usize,
     pub name: Option<String>,
     pub body: String,
-    pub bytes: Vec<u8>,
+    pub bytes: T,
+}
+
+/// The rules or states of a text file.
+pub fn read_entries(path: &str, kind: Kind, symbols: &Symbols) -> Result<Vec<Named>, Stop> {
+    read_lines(path, |body| Ok(kind.parse(symbols, body)?.bytes))
 }
 
 /// The entries of a text file. No two have one name.
-pub fn read_entries(path: &str, kind: Kind, symbols: &Symbols) -> Result<Vec<Named>, Stop> {
+pub fn read_lines<T>(
+    path: &str,
+    read: impl Fn(&str) -> Result<T, Error>,
+) -> Result<Vec<Named<T>>, Stop> {
     let (text, mut names, mut entries) = (read_text(path)?, HashSet::new(), Vec::new());
     for Entry { line, name, body } in notation::entries(&text) {
         if let Some(name) = name.filter(|name| !names.insert(*name)) {
             return trouble(format!("{path}: line {line}: {name} names a line before"));
         }
-        let bytes = match kind.parse(symbols, &body) {
-            Ok(parsed) => parsed.bytes,
-            Err(error) => return trouble(format!("{path}: line {line}, {error}")),
-        };
+        let bytes =
+            read(&body).or_else(|error| trouble(format!("{path}: line {line}, {error}")))?;
         entries.push(Named { line, name: name.map(String::from), body, bytes });
     }
     Ok(entries)

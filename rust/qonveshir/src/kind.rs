@@ -82,8 +82,7 @@ impl Kind {
     }
 
     /// Where a text has a list that edition 2 refuses, if it has one.
-    pub fn unspliced(self, symbols: &Symbols, text: &str) -> Option<Error> {
-        let parsed = self.parse(symbols, text).ok()?;
+    pub fn unspliced(self, symbols: &Symbols, parsed: &Parsed) -> Option<Error> {
         let kind = if self == Kind::Rule { "pattern" } else { "record" };
         let language = symbols.language(Edition::TWO);
         let fault = explain::check(kind, &parsed.bytes, language).err()?.fault;

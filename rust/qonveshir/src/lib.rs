@@ -12,6 +12,8 @@ mod folder;
 mod kind;
 mod marks;
 mod matching;
+mod move_sheets;
+mod moves;
 mod progress;
 mod report;
 mod sheets;

@@ -169,7 +169,8 @@ impl<'a> Asked<'a> {
             Some(Word::Unspliced) => {
                 let mut texts = [Kind::Rule, Kind::State].into_iter().zip(self.texts);
                 let place = texts.find_map(|(kind, text)| {
-                    Some(format!(", {}, {}", kind.name(), kind.unspliced(&self.symbols, text)?))
+                    let parsed = kind.parse(&self.symbols, text).ok()?;
+                    Some(format!(", {}, {}", kind.name(), kind.unspliced(&self.symbols, &parsed)?))
                 });
                 numbered(Word::Unspliced) + &place.unwrap_or_default()
             }

@@ -1,11 +1,11 @@
 //! `pack` and `unpack`.
 
 use crate::command::{wrong_call, Command};
-use crate::editions;
 use crate::explain::{numbered, stop};
 use crate::files::{read_entries, write_sheet, Named};
 use crate::folder::{FILES, TEXTS};
 use crate::kind::Kind;
+use crate::{editions, move_sheets};
 use crate::{read, read_symbols, trouble, write, Console, Reply, Stop, ENGINE};
 use interface::{edition_of, Edition, Outcome, Part, Word};
 use notation::{Error, Symbols};
@@ -22,6 +22,11 @@ pub const PACK: Command = Command {
         (
             "pack states [--edition E] SYMBOLS TEXT OUT",
             "write a state sheet, a line of text for each state",
+        ),
+        (
+            "pack moves [--edition E] SYMBOLS TEXT RULES TEMPLATES",
+            "write the rules of moves and their templates as two sheets, a line of text for each \
+             move",
         ),
         (
             "pack folder [--edition E] FOLDER",
@@ -44,6 +49,7 @@ pub const UNPACK: Command = Command {
         ("unpack classes SYMBOLS CLASSES", "print the symbols with the classes of a class list"),
         ("unpack rules SYMBOLS SHEET", "print the rules of a sheet, a line for each"),
         ("unpack states SYMBOLS SHEET", "print the states of a sheet, a line for each"),
+        ("unpack moves SYMBOLS RULES TEMPLATES", "print the moves of two sheets, a line for each"),
     ],
     help: "",
     run: unpack,
@@ -57,6 +63,9 @@ fn pack(arguments: &[&str], _: &mut Console) -> Reply {
         (None, ["classes", symbols, out]) => pack_classes(symbols, out),
         (_, ["rules", symbols, text, out]) => pack_sheet(Kind::Rule, told, symbols, text, out),
         (_, ["states", symbols, text, out]) => pack_sheet(Kind::State, told, symbols, text, out),
+        (_, ["moves", symbols, text, rules, templates]) => {
+            move_sheets::pack(told, symbols, text, [rules, templates])
+        }
         (_, ["folder", folder]) => pack_folder(told, folder),
         _ => wrong_call("pack"),
     }
@@ -67,6 +76,7 @@ fn unpack(arguments: &[&str], _: &mut Console) -> Reply {
         ["classes", symbols, list] => unpack_classes(symbols, list),
         ["rules", symbols, sheet] => unpack_sheet(Kind::Rule, symbols, sheet),
         ["states", symbols, sheet] => unpack_sheet(Kind::State, symbols, sheet),
+        ["moves", symbols, rules, templates] => move_sheets::unpack(symbols, [rules, templates]),
         _ => wrong_call("unpack"),
     }
 }
@@ -88,21 +98,20 @@ fn sheet(kind: Kind, edition: Edition, symbols: &Symbols, text: &str) -> Result<
     let named = read_entries(text, kind, symbols)?;
     let entries: Vec<_> = named.iter().map(|entry| entry.bytes.clone()).collect();
     let sheet = kind.sheet(symbols.language(edition), &entries);
-    sheet.or_else(|refused| refuse_text(text, refused, kind, symbols, &named))
+    let unspliced = |body: &str| kind.unspliced(symbols, &kind.parse(symbols, body).ok()?);
+    sheet.or_else(|refused| refuse_line(text, refused, &named, unspliced))
 }
 
 /// Stops at a refusal of a text's entries; of an unspliced one the place in the text is told.
-fn refuse_text<T>(
+pub fn refuse_line<T, U>(
     path: &str,
     refused: Outcome,
-    kind: Kind,
-    symbols: &Symbols,
-    named: &[Named],
+    named: &[Named<U>],
+    unspliced: impl Fn(&str) -> Option<Error>,
 ) -> Result<T, Stop> {
     let entry =
         named.get(refused.index as usize).filter(|_| refused.word() == Some(Word::Unspliced));
-    let place = entry.and_then(|entry| Some((entry.line, kind.unspliced(symbols, &entry.body)?)));
-    match place {
+    match entry.and_then(|entry| Some((entry.line, unspliced(&entry.body)?))) {
         None => refuse(path, refused),
         Some((line, error)) => {
             Err(Stop::No(format!("{path}: {}, line {line}, {error}", numbered(Word::Unspliced))))

@@ -1,4 +1,5 @@
-//! `splice`: rules and states of edition 1 with lists within lists spliced, as edition 2 has them.
+//! `splice`: rules, states and moves of edition 1 with lists within lists spliced, as edition 2 has
+//! them.
 
 use crate::command::{wrong_call, Command};
 use crate::explain::stop;
@@ -7,13 +8,16 @@ use crate::kind::Kind;
 use crate::sheets::{accepted, parts, refuse};
 use crate::{read, read_symbols, trouble, write, Console, Reply, Stop};
 use interface::{Edition, Outcome, EDITION_MARK};
-use notation::{Entry, Symbols};
+use notation::{Entry, ParsedMove, Symbols, ARROW};
 
 pub const SPLICE: Command = Command {
     name: "splice",
     usage: &[
-        ("splice SYMBOLS RULE_OR_STATE", "print a rule or state spliced, given as text"),
-        ("splice text SYMBOLS TEXT OUT", "write a text of rules or states with each one spliced"),
+        ("splice SYMBOLS RULE_OR_STATE", "print a rule, state or move spliced, given as text"),
+        (
+            "splice text SYMBOLS TEXT OUT",
+            "write a text of rules, states or moves with each one spliced",
+        ),
         ("splice rules SYMBOLS SHEET OUT", "write the rules of a sheet as one of edition 2"),
         ("splice states SYMBOLS SHEET OUT", "write the states of a sheet as one of edition 2"),
         ("splice record SYMBOLS FILE OUT", "write a record spliced"),
@@ -42,7 +46,7 @@ fn splice(arguments: &[&str], _: &mut Console) -> Reply {
 /// Prints a rule or state spliced.
 fn splice_one(symbols: &str, text: &str) -> Reply {
     let symbols = read_symbols(symbols)?;
-    let name = Kind::of(text).name();
+    let name = if text.contains(ARROW) { "move" } else { Kind::of(text).name() };
     Ok(spliced(&symbols, text).or_else(|fault| fault.stop(name))?.1 + "\n")
 }
 
@@ -61,8 +65,11 @@ impl Fault {
     }
 }
 
-/// A rule or state given as text, spliced, and whether that changes it.
+/// A rule, state or move given as text, spliced, and whether that changes it.
 fn spliced(symbols: &Symbols, text: &str) -> Result<(bool, String), Fault> {
+    if text.contains(ARROW) {
+        return spliced_move(symbols, text);
+    }
     let kind = Kind::of(text);
     let bytes = kind.parse(symbols, text).map_err(Fault::Text)?.bytes;
     let language = symbols.language(Edition::ONE);
@@ -70,7 +77,17 @@ fn spliced(symbols: &Symbols, text: &str) -> Result<(bool, String), Fault> {
     Ok((spliced != bytes, kind.show(symbols, &spliced).map_err(Fault::Text)?))
 }
 
-/// Writes a text with each rule or state spliced.
+fn spliced_move(symbols: &Symbols, text: &str) -> Result<(bool, String), Fault> {
+    let ParsedMove { rule, template } = symbols.parsed_move(text).map_err(Fault::Text)?;
+    let splice = |bytes: &[u8]| Kind::Rule.spliced(symbols.language(Edition::ONE), bytes);
+    let [new_rule, new_template] = [&rule, &template].map(|part| splice(&part.bytes));
+    let (new_rule, new_template) =
+        (new_rule.map_err(Fault::Refused)?, new_template.map_err(Fault::Refused)?);
+    let changed = (&new_rule, &new_template) != (&rule.bytes, &template.bytes);
+    Ok((changed, symbols.show_move(&new_rule, &new_template).map_err(Fault::Text)?))
+}
+
+/// Writes a text with each rule, state or move spliced.
 fn splice_text(symbols: &str, path: &str, out: &str) -> Reply {
     let (symbols, text) = (read_symbols(symbols)?, read_text(path)?);
     let mut lines = String::new();

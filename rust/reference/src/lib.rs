@@ -5,7 +5,8 @@
 //! of run names. A record's bytes determine its term, so equal terms are equal bytes. Up to class
 //! the same search runs on a pattern and a record whose symbols are replaced by their classes
 //! ([`classes`]); where parts lie is not changed by that. In edition 2 the readers ask for spliced
-//! lists, and the search is the same. The search has two variants, with the same counts: one tries
+//! lists, and the search is the same. A replacement puts the record's own bytes into the template
+//! ([`replace`]). The search has two variants, with the same counts: one tries
 //! every length of a run name, one counts those that cannot hold without trying them.
 
 pub mod classes;
@@ -14,6 +15,7 @@ pub mod grammar;
 pub mod pattern;
 pub mod plain;
 pub mod record;
+pub mod replace;
 pub mod search;
 pub mod sheet;
 pub mod splice;
@@ -22,7 +24,10 @@ pub mod table;
 
 use fault::Fault;
 use grammar::Grammar;
-use interface::{edition_of, Language, Library, Outcome, Part, Word, ANSWER, SHEET_LIMIT};
+use interface::{
+    edition_of, Answer, Language, Library, Outcome, Part, Word, Written, ABSENT, ANSWER,
+    SHEET_LIMIT,
+};
 use pattern::Steps;
 use record::Record;
 use search::{Found, Search};
@@ -130,6 +135,31 @@ impl Library for Independent {
     fn splice_pattern(&self, language: Language, pattern: &[u8], output: &mut [u8]) -> Outcome {
         shown(splice::pattern(language, pattern, output))
     }
+
+    fn apply(
+        &self,
+        language: Language,
+        pattern: &[u8],
+        template: &[u8],
+        record: &[u8],
+        allowance: u32,
+        output: &mut [u8],
+    ) -> Written {
+        let replaced = replaced(*self, language, pattern, template, record, allowance);
+        written(replaced.and_then(|replaced| replaced.write(output)))
+    }
+
+    fn look(
+        &self,
+        language: Language,
+        pattern: &[u8],
+        template: &[u8],
+        record: &[u8],
+        allowance: u32,
+    ) -> Written {
+        let replaced = replaced(*self, language, pattern, template, record, allowance);
+        written(replaced.map(|replaced| replaced.look()))
+    }
 }
 
 /// Why a call refuses: the fault and the index of the entry that it lies in, if any.
@@ -221,7 +251,7 @@ fn match_one(
     let (answer, grammar) = told(language, answer)?;
     let mut steps = Steps::new();
     let start = steps.read(grammar, pattern)?;
-    with_search(variant, grammar, steps, record, |search| {
+    with_search(variant, grammar, steps, record, |search, _| {
         first_of(search, &[start], allowance, answer)
     })
 }
@@ -241,7 +271,7 @@ fn next(
     let start = steps.read(grammar, pattern)?;
     let runs = steps.free_runs(start);
     let unknown = Fault::new(Word::Unknown, 0);
-    with_search(variant, grammar, steps, record, |search| {
+    with_search(variant, grammar, steps, record, |search, _| {
         if given.len() != runs.len() {
             return Err(unknown.into());
         }
@@ -269,6 +299,56 @@ fn match_plain(
     Ok(plain::run(grammar, &rule, record, answer))
 }
 
+/// What a match comes to, and the result, which is empty unless it is bound.
+struct Replaced {
+    found: Found,
+    count: u64,
+    bytes: Vec<u8>,
+}
+
+impl Replaced {
+    fn look(&self) -> Written {
+        match self.found {
+            Found::Bound => Written::bound(self.bytes.len(), self.count),
+            _ => Written::unbound(self.found.word(), self.count),
+        }
+    }
+
+    /// Writes the result, if there is one: number 12, or what the look shows.
+    fn write(&self, output: &mut [u8]) -> Result<Written, Refusal> {
+        let output = output.get_mut(..self.bytes.len()).ok_or(Fault::new(Word::Full, 0))?;
+        output.copy_from_slice(&self.bytes);
+        Ok(self.look())
+    }
+}
+
+/// Matches one pattern, and puts the first answer's parts into a template.
+fn replaced(
+    variant: Independent,
+    language: Language,
+    pattern: &[u8],
+    template: &[u8],
+    record: &[u8],
+    allowance: u32,
+) -> Result<Replaced, Refusal> {
+    let grammar = Grammar::read(language)?;
+    let (mut steps, mut template_steps) = (Steps::new(), Steps::new());
+    let start = steps.read(grammar, pattern)?;
+    template_steps.read(grammar, template)?;
+    replace::check(template_steps.as_slice(), steps.free(start))?;
+    with_search(variant, grammar, steps, record, |search, record| {
+        let (found, count) = search.run(start, allowance);
+        let mut bytes = Vec::new();
+        if found == Found::Bound {
+            let mut answer = Answer([ABSENT; ANSWER]);
+            search.answer(&mut answer.0);
+            bytes = replace::filled(grammar, template, record, &answer)
+                .map_err(|outgrown| Fault::new(Word::Outgrown, outgrown.at))?;
+        }
+        Ok(Replaced { found, count, bytes })
+    })
+}
+
 /// Tries the patterns of a sheet, in its edition, on a record in the same.
 #[inline(always)]
 fn match_rules(
@@ -282,7 +362,7 @@ fn match_rules(
     let (answer, grammar) = told(in_sheet(language, rules), answer)?;
     let mut steps = Steps::new();
     let starts = read_rules(grammar, rules, &mut steps)?;
-    with_search(variant, grammar, steps, record, |search| {
+    with_search(variant, grammar, steps, record, |search, _| {
         first_of(search, &starts, allowance, answer)
     })
 }
@@ -309,24 +389,25 @@ fn first_of(
     Ok(Outcome::counted(Word::None, 0, sum))
 }
 
-/// Reads a record, and does something with a search of it by these patterns.
+/// Reads a record, and does something with it and a search of it by these patterns.
 #[inline(always)]
-fn with_search(
+fn with_search<T>(
     variant: Independent,
     grammar: Grammar,
     mut steps: Steps,
     record: &[u8],
-    run: impl FnOnce(&mut Search) -> Result<Outcome, Refusal>,
-) -> Result<Outcome, Refusal> {
+    run: impl FnOnce(&mut Search, Record) -> Result<T, Refusal>,
+) -> Result<T, Refusal> {
     let ends = &mut Vec::new();
-    let mut record = Record::read(grammar, record, ends)?;
+    let record = Record::read(grammar, record, ends)?;
+    let mut searched = record;
     let merged;
     if let Some(classes) = grammar.classes {
         steps.merge(classes);
         merged = classes.merged(record.bytes);
-        record.bytes = &merged;
+        searched.bytes = &merged;
     }
-    run(&mut Search::new(variant, &steps, record))
+    run(&mut Search::new(variant, &steps, searched), record)
 }
 
 /// Reads the patterns of a rule sheet, and gives the step at which each starts.
@@ -347,6 +428,11 @@ fn told<'a, 'b>(
     grammar::check_edition(language.edition)?;
     let answer = answer.first_chunk_mut().ok_or(Fault::new(Word::Narrow, 0))?;
     Ok((answer, Grammar::read(language)?))
+}
+
+/// The answer of a replacement that may be refused.
+fn written(result: Result<Written, Refusal>) -> Written {
+    result.unwrap_or_else(|refusal| Written::refused(refusal.fault.word))
 }
 
 /// The outcome of a call that may be refused.

@@ -64,16 +64,37 @@ impl Steps {
     /// The free run names of the pattern that starts at a step, by their places in the answer, in
     /// order of their first places outside complements.
     pub fn free_runs(&self, start: usize) -> Vec<u8> {
-        let (mut runs, mut step) = (Vec::new(), start);
-        loop {
-            match self.0[step] {
+        let mut runs = Vec::new();
+        for step in self.outside_complements(start) {
+            match step {
                 Step::Run { place, .. } if !runs.contains(&place) => runs.push(place),
+                _ => {}
+            }
+        }
+        runs
+    }
+
+    /// The free names and run names of the pattern that starts at a step, a bit for each place in
+    /// the answer.
+    pub fn free(&self, start: usize) -> u64 {
+        self.outside_complements(start).fold(0, |free, step| match step {
+            Step::Name { place, .. } | Step::Run { place, .. } => free | 1 << place,
+            _ => free,
+        })
+    }
+
+    /// The steps of the pattern that starts at a step, without the insides of complements.
+    fn outside_complements(&self, mut step: usize) -> impl Iterator<Item = Step> + '_ {
+        std::iter::from_fn(move || {
+            let found = self.0[step];
+            match found {
+                Step::Done => return None,
                 Step::Complement { skip, .. } => step = skip.into(),
-                Step::Done => return runs,
                 _ => {}
             }
             step += 1;
-        }
+            Some(found)
+        })
     }
 
     /// The number of nodes of all patterns read so far, unless one has run names.
