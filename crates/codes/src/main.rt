@@ -1,4 +1,6 @@
 // The list of the codes, to standard output.
+#![tactic(auto)]
+
 use libc::STDOUT_FILENO;
 
 fn main() {

@@ -1,5 +1,7 @@
 // The report on three files: opens and reads them, and writes what `report_lines` makes of their bytes. What is read and written no
 // contract can say.
+#![tactic(auto)]
+
 ghost use Rattle.std.specs.Prelude.{◌≡◌, ◌+◌, ◌≤◌, length, take};
 ghost use Rattle.term.specs.Moment.{old, new};
 ghost use Rattle.report_lines.specs.Report.{front};

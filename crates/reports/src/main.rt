@@ -1,6 +1,8 @@
 // Reports on files that are accepted, on files that are refused, and on the largest ones. Each takes four arguments: its label, and the
 // names of its files. stated.txt has for each report, in the same order, its label, the text that it must have, and an empty line.
 // files.txt says what each file holds.
+#![tactic(auto)]
+
 ghost use Rattle.std.specs.Prelude.{◌≤◌, length};
 ghost use Rattle.term.specs.Moment.{old};
 

@@ -1,5 +1,7 @@
 // Runs the files of vectors that its arguments name; data/format.txt says what a line holds. For each file it prints the lines that differ
 // from what is answered or can't be read, and how many agree and differ.
+#![tactic(auto)]
+
 mod calls;
 mod matches;
 
