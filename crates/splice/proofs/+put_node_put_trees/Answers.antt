@@ -17,20 +17,17 @@ put_node-shape_of-out-then-kids-eq0 t c = c.close_node.auto.out ∙ c.store.auto
 
 pub put_node-returns-then-kids-eq0-clause-is : goal.put_node-returns-then-kids-eq0-clause-is
 put_node-returns-then-kids-eq0-clause-is t c = let a = c.args in
-    let pre = (c.requires.is, c.requires.within) in
-    (leaf_answered a.table.now a.classes.now a.s.now a.at a.out.now a.head pre.0 pre.1.0 pre.1.1
+    (leaf_answered a.table.now a.classes.now a.s.now a.at a.out.now a.head c.requires.is c.requires.within.0 c.requires.within.1
     _ c.store.ensures c.if-kids-eq0.true _ _ (c.close_node.ensures.is, c.close_node.ensures.stores)).0
 
 pub put_node-returns-then-kids-eq0-clause-within : goal.put_node-returns-then-kids-eq0-clause-within
 put_node-returns-then-kids-eq0-clause-within t c = let a = c.args in
-    let pre = (c.requires.is, c.requires.within) in
-    (leaf_answered a.table.now a.classes.now a.s.now a.at a.out.now a.head pre.0 pre.1.0 pre.1.1
+    (leaf_answered a.table.now a.classes.now a.s.now a.at a.out.now a.head c.requires.is c.requires.within.0 c.requires.within.1
     _ c.store.ensures c.if-kids-eq0.true _ _ (c.close_node.ensures.is, c.close_node.ensures.stores)).1.0
 
 pub put_node-returns-then-kids-eq0-clause-stores : goal.put_node-returns-then-kids-eq0-clause-stores
 put_node-returns-then-kids-eq0-clause-stores t c = let a = c.args in
-    let pre = (c.requires.is, c.requires.within) in
-    (leaf_answered a.table.now a.classes.now a.s.now a.at a.out.now a.head pre.0 pre.1.0 pre.1.1
+    (leaf_answered a.table.now a.classes.now a.s.now a.at a.out.now a.head c.requires.is c.requires.within.0 c.requires.within.1
     _ c.store.ensures c.if-kids-eq0.true _ _ (c.close_node.ensures.is, c.close_node.ensures.stores)).1.1
 
 pub put_node-slice_bounds-put_trees-count : goal.put_node-slice_bounds-put_trees-count
@@ -60,22 +57,19 @@ put_node-shape_of-out t c = c.close_node-2.auto.out ∙ c.put_trees-inside.auto.
 
 pub put_node-returns-clause-is : goal.put_node-returns-clause-is
 put_node-returns-clause-is t c = let a = c.args in
-    let pre = (c.requires.is, c.requires.within) in
-    (node_answered a.table.now a.classes.now a.s.now a.at a.out.now a.head pre.0 pre.1.0 pre.1.1
+    (node_answered a.table.now a.classes.now a.s.now a.at a.out.now a.head c.requires.is c.requires.within.0 c.requires.within.1
     (c.put_trees-inside.result) c.store.new.out (c.put_trees-inside.new.out) c.store.ensures ((c.put_trees-inside.ensures.is, (c.put_trees-inside.ensures.within, c.put_trees-inside.ensures.stores)))
     _ _ (c.close_node-2.ensures.is, c.close_node-2.ensures.stores)).0
 
 pub put_node-returns-clause-within : goal.put_node-returns-clause-within
 put_node-returns-clause-within t c = let a = c.args in
-    let pre = (c.requires.is, c.requires.within) in
-    (node_answered a.table.now a.classes.now a.s.now a.at a.out.now a.head pre.0 pre.1.0 pre.1.1
+    (node_answered a.table.now a.classes.now a.s.now a.at a.out.now a.head c.requires.is c.requires.within.0 c.requires.within.1
     (c.put_trees-inside.result) c.store.new.out (c.put_trees-inside.new.out) c.store.ensures ((c.put_trees-inside.ensures.is, (c.put_trees-inside.ensures.within, c.put_trees-inside.ensures.stores)))
     _ _ (c.close_node-2.ensures.is, c.close_node-2.ensures.stores)).1.0
 
 pub put_node-returns-clause-stores : goal.put_node-returns-clause-stores
 put_node-returns-clause-stores t c = let a = c.args in
-    let pre = (c.requires.is, c.requires.within) in
-    (node_answered a.table.now a.classes.now a.s.now a.at a.out.now a.head pre.0 pre.1.0 pre.1.1
+    (node_answered a.table.now a.classes.now a.s.now a.at a.out.now a.head c.requires.is c.requires.within.0 c.requires.within.1
     (c.put_trees-inside.result) c.store.new.out (c.put_trees-inside.new.out) c.store.ensures ((c.put_trees-inside.ensures.is, (c.put_trees-inside.ensures.within, c.put_trees-inside.ensures.stores)))
     _ _ (c.close_node-2.ensures.is, c.close_node-2.ensures.stores)).1.1
 

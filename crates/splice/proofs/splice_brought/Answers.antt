@@ -44,19 +44,22 @@ pub returns-clause-answer : goal.returns-clause-answer
 returns-clause-answer c = let args = c.args in
     let list = list_if args.brings args.classes.now in
     let e = call_converted args.records args.table.now list args.bytes.now (length args.output.now) (sym c.check_table.ensures ∙ c.if-not-check_table.false) (sym c.accepts_list.ensures ∙ c.if-not-accepts_list.false) in
-    let done = rw c.brought_list-list.ensures at (c.splice_checked.ensures.answer, c.splice_checked.ensures.contents) in
-    (is_done args.records args.table.now list args.bytes.now args.output.now (λ i. omega (arith, c.type_inv.bytes i)) _ _ (rw e done.0) (rw e done.1)).0
+    let done_first = rw c.brought_list-list.ensures at c.splice_checked.ensures.answer in
+    let done_second = rw c.brought_list-list.ensures at c.splice_checked.ensures.contents in
+    (is_done args.records args.table.now list args.bytes.now args.output.now (λ i. omega (arith, c.type_inv.bytes i)) c.splice_checked.result c.splice_checked.new.output (rw e done_first) (rw e done_second)).0
 
 pub returns-clause-contents : goal.returns-clause-contents
 returns-clause-contents c = let args = c.args in
     let list = list_if args.brings args.classes.now in
     let e = call_converted args.records args.table.now list args.bytes.now (length args.output.now) (sym c.check_table.ensures ∙ c.if-not-check_table.false) (sym c.accepts_list.ensures ∙ c.if-not-accepts_list.false) in
-    let done = rw c.brought_list-list.ensures at (c.splice_checked.ensures.answer, c.splice_checked.ensures.contents) in
-    (is_done args.records args.table.now list args.bytes.now args.output.now (λ i. omega (arith, c.type_inv.bytes i)) _ _ (rw e done.0) (rw e done.1)).1.0
+    let done_first = rw c.brought_list-list.ensures at c.splice_checked.ensures.answer in
+    let done_second = rw c.brought_list-list.ensures at c.splice_checked.ensures.contents in
+    (is_done args.records args.table.now list args.bytes.now args.output.now (λ i. omega (arith, c.type_inv.bytes i)) c.splice_checked.result c.splice_checked.new.output (rw e done_first) (rw e done_second)).1.0
 
 pub returns-clause-demand : goal.returns-clause-demand
 returns-clause-demand c = let args = c.args in
     let list = list_if args.brings args.classes.now in
     let e = call_converted args.records args.table.now list args.bytes.now (length args.output.now) (sym c.check_table.ensures ∙ c.if-not-check_table.false) (sym c.accepts_list.ensures ∙ c.if-not-accepts_list.false) in
-    let done = rw c.brought_list-list.ensures at (c.splice_checked.ensures.answer, c.splice_checked.ensures.contents) in
-    (is_done args.records args.table.now list args.bytes.now args.output.now (λ i. omega (arith, c.type_inv.bytes i)) _ _ (rw e done.0) (rw e done.1)).1.1
+    let done_first = rw c.brought_list-list.ensures at c.splice_checked.ensures.answer in
+    let done_second = rw c.brought_list-list.ensures at c.splice_checked.ensures.contents in
+    (is_done args.records args.table.now list args.bytes.now args.output.now (λ i. omega (arith, c.type_inv.bytes i)) c.splice_checked.result c.splice_checked.new.output (rw e done_first) (rw e done_second)).1.1

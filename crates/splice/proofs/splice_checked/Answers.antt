@@ -9,14 +9,12 @@ use Rattle.splice.proofs.splice_checked.Goals as goal
 
 pub returns-in-Refused-clause-answer : goal.returns-in-Refused-clause-answer
 returns-in-Refused-clause-answer c = let args = c.args in
-    let ok = c.requires in
-    let e = call_refused args.records args.table.now args.classes.now args.bytes.now ok (length args.output.now) c.in-Refused.r (sym c.read_entry-entry.ensures ∙ c.in-Refused.is) in
+    let e = call_refused args.records args.table.now args.classes.now args.bytes.now c.requires (length args.output.now) c.in-Refused.r (sym c.read_entry-entry.ensures ∙ c.in-Refused.is) in
     rw e refl
 
 pub returns-in-Refused-clause-contents : goal.returns-in-Refused-clause-contents
 returns-in-Refused-clause-contents c = let args = c.args in
-    let ok = c.requires in
-    let e = call_refused args.records args.table.now args.classes.now args.bytes.now ok (length args.output.now) c.in-Refused.r (sym c.read_entry-entry.ensures ∙ c.in-Refused.is) in
+    let e = call_refused args.records args.table.now args.classes.now args.bytes.now c.requires (length args.output.now) c.in-Refused.r (sym c.read_entry-entry.ensures ∙ c.in-Refused.is) in
     rw e refl
 
 pub measure-plan-requires : goal.measure-plan-requires
