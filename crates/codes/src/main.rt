@@ -1,8 +1,10 @@
 // The list of the codes, to standard output.
-use libc::STDOUT_FILENO;
+#![tactic(auto)]
 
-fn main() {
+use std::io;
+
+fn main(rt: HostRuntime) -> io::Result<()> {
     let mut text = [0u8; kinds::CODES_ROOM];
     kinds::put_codes(&mut text);
-    io::write_all(STDOUT_FILENO, &text);
+    rt.write_all(&text)
 }

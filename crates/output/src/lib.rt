@@ -1,4 +1,6 @@
 // Bytes, fields and numbers in decimal, put into a lent buffer from a place on: whole, or not at all where the buffer has no room for them.
+#![tactic(auto)]
+
 ghost use Rattle.std.specs.Prelude.{◌≡◌, ◌+◌, ◌≤◌, leb, length};
 ghost use Rattle.std.proofs.lemmas.List.Edits.{sets};
 ghost use Rattle.term.specs.Moment.{old, new};

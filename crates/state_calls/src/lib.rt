@@ -3,6 +3,8 @@
 //
 // An outcome in the simple form must be that with the list of single classes, and one of edition 1 that of edition 2 where the call is the
 // same there.
+#![tactic(auto)]
+
 mod examples;
 mod games;
 mod replacements;
