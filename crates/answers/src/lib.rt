@@ -1,5 +1,7 @@
 // What a match answers, with the numbers of documents 01 and 02: refusals, parts of a record, the answers of a pattern, of a rule sheet, of
 // the cost, of a template and of the game of loader and sender.
+#![tactic(auto)]
+
 ghost use Rattle.std.specs.Prelude.{◌≡◌};
 ghost use Rattle.answers.specs.Refusal.{number_of};
 ghost use Rattle.answers.specs.Part.{is_absent, bound_part};

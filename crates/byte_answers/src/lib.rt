@@ -1,5 +1,7 @@
 // What reading and writing bytes answers, with document 01's numbers: a record or pattern that is read, a sheet that is checked or written, the
 // place of an entry, a move to the stored form or back, a change of a station.
+#![tactic(auto)]
+
 ghost use Rattle.std.specs.Prelude.{◌≡◌};
 ghost use Rattle.byte_answers.specs.Answers.{read_number, read_length, checked_number, checked_index, checked_count, place_number, place_offset, place_length, writing_number, writing_index, writing_length, move_number, move_length, change_number};
 

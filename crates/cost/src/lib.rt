@@ -1,4 +1,6 @@
 // What a rule can cost at most: the number of its nodes, unless it has run names.
+#![tactic(auto)]
+
 ghost use Rattle.std.specs.Prelude.{◌≡◌, false, ◌≤◌, length};
 ghost use Rattle.term.specs.Moment.{old};
 ghost use Rattle.term.specs.Limits.{longest_pattern};

@@ -1,4 +1,6 @@
 // The least example of a pattern: the accepted records of at most six bytes in order, without those that need no search.
+#![tactic(auto)]
+
 ghost use Rattle.std.specs.Prelude.{◌≡◌, suc, ◌≤◌, length, take, replicate};
 ghost use Rattle.term.specs.Moment.{old, new};
 ghost use Rattle.term.specs.Table.{largest_table};

@@ -1,4 +1,6 @@
 // Loader and sender: what the loader can bring about in so many turns.
+#![tactic(auto)]
+
 ghost use Rattle.std.specs.Prelude.{◌≡◌, take};
 ghost use Rattle.term.specs.Moment.{old};
 ghost use Rattle.parts.specs.Shown.{answer_width};

@@ -1,4 +1,6 @@
 // The kind of every code, as one constant: the list that rule editors are given. And its text.
+#![tactic(auto)]
+
 ghost use Rattle.std.specs.Prelude.{◌≡◌, ◌+◌, ◌≤◌, length};
 ghost use Rattle.std.proofs.lemmas.List.Edits.{sets};
 ghost use Rattle.term.specs.Code.{decode_of};

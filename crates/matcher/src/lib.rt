@@ -1,4 +1,6 @@
 // The match of one pattern against one record: the checks, the search, and the answer in the caller's buffer.
+#![tactic(auto)]
+
 ghost use Rattle.std.specs.Prelude.{◌≡◌, [], ◌≤◌, length};
 ghost use Rattle.term.specs.Moment.{old, new};
 ghost use Rattle.reader.specs.Brought.{simply, bringing, list_if, brought_by, or_empty};

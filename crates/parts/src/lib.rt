@@ -1,4 +1,6 @@
 // What a search keeps of the variables, a bit and a number for each, and what it shows of them in an answer buffer.
+#![tactic(auto)]
+
 ghost use Rattle.std.specs.Prelude.{◌≡◌, ◌++◌, ◌%◌, ◌^◌, ◌≤◌, ◌<◌, length, drop, replicate};
 ghost use Rattle.answers.specs.Part.{absent};
 ghost use Rattle.term.specs.Moment.{old, new};

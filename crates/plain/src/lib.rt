@@ -1,5 +1,7 @@
 // The plain tier: rules without complements, with no name or run name twice and at most one run name in a list. One loop over the pattern's bytes
 // beside a place in the record; nothing is tried twice.
+#![tactic(auto)]
+
 mod check;
 mod runs;
 mod tier;

@@ -1,4 +1,6 @@
 // The C interface, `include/qonveshir.h`: the library's calls, with their answers as numbers.
+#![tactic(auto)]
+
 mod example_calls;
 mod game_calls;
 mod stations;

@@ -1,4 +1,6 @@
 // The checks of a node, and the readers of records and patterns: which bytes are accepted, and where what they stand for ends.
+#![tactic(auto)]
+
 ghost use Rattle.std.specs.Prelude.{◌≡◌, true, false, ◌-◌};
 ghost use Rattle.term.specs.Moment.{old};
 ghost use Rattle.term.specs.Code.{code_in};

@@ -1,4 +1,6 @@
 // A rule sheet against one record: its rules are tried in order, up to the first that is bound or spent.
+#![tactic(auto)]
+
 ghost use Rattle.std.specs.Prelude.{◌≡◌, ◌+◌, length};
 ghost use Rattle.std.proofs.Math.Option.{none, some};
 ghost use Rattle.term.specs.Moment.{old, new};

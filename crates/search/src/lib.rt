@@ -3,6 +3,8 @@
 // `place` and `marks` say where a level stands and what of the stack is in use. `walk` takes the pairs that leave no choice, `skip` passes over
 // lengths that can't hold, `first` decides by a level's first pair, `halt` reports where a level stops. `level` is the cycle of levels, lengths
 // and complements. `given` goes on after a given answer, `show` writes what is found.
+#![tactic(auto)]
+
 mod first;
 mod given;
 mod halt;

@@ -1,4 +1,6 @@
 // Sheets of patterns or of records: how they are checked, and read entry by entry.
+#![tactic(auto)]
+
 ghost use Rattle.std.specs.Prelude.{◌≡◌, true, ◌+◌, ◌≤◌, ◌<◌, length};
 ghost use Rattle.std.proofs.Math.Option.{none, some};
 ghost use Rattle.byte_answers.specs.Answers.{checked_number, checked_count, place_offset};

@@ -1,4 +1,6 @@
 // Elements of a list that are passed over together: those that do not start with given symbols or bytes.
+#![tactic(auto)]
+
 ghost use Rattle.std.specs.Prelude.{◌≡◌, ◌*◌, ◌≤◌, ◌<◌, length};
 ghost use Rattle.term.specs.Moment.{old};
 ghost use Rattle.term.specs.Code.{decode_of};

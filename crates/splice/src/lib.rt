@@ -1,4 +1,6 @@
 // The converter to edition 2: an edition 1 record or pattern, spliced.
+#![tactic(auto)]
+
 ghost use Rattle.std.specs.Prelude.{◌≡◌, true, false, ◌+◌, ◌≤◌, ◌<◌, length, set};
 ghost use Rattle.std.proofs.Math.Option.{none, some};
 ghost use Rattle.byte_answers.specs.Answers.{move_number, move_length};

@@ -1,5 +1,7 @@
 // A station: its current record and eight kept ones. The small struct is lent to each call, and so are the bytes of the records.
 // Each thin function takes the struct by `&mut`, has a function change a copy, and stores that back.
+#![tactic(auto)]
+
 ghost use Rattle.std.specs.Prelude.{◌≡◌, ◌+◌, ◌*◌, ◌≤◌, ◌<◌, length, take, drop};
 ghost use Rattle.std.proofs.lemmas.List.Edits.{sets};
 ghost use Rattle.term.specs.Moment.{old, new};

@@ -1,4 +1,6 @@
 // One turn of the search on bytes: what comes of the next pair of pattern and record.
+#![tactic(auto)]
+
 ghost use Rattle.std.specs.Prelude.{◌≡◌, ◌≤◌, ◌<◌, length, drop};
 ghost use Rattle.term.specs.Moment.{old};
 ghost use Rattle.steps.specs.Turn.{stands_of, over_step, symbol_step, assigned_step, name_step, run_step};

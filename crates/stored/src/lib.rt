@@ -1,4 +1,6 @@
 // The stored form of records, in which lists tell their length: the move from the old form to it and back.
+#![tactic(auto)]
+
 ghost use Rattle.std.specs.Prelude.{◌≡◌, false, ◌+◌, ◌≤◌, length, set};
 ghost use Rattle.std.proofs.lemmas.List.Edits.{sets};
 ghost use Rattle.byte_answers.specs.Answers.{move_number, move_length};

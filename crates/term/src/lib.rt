@@ -1,4 +1,6 @@
 // Symbol tables, class lists and codes: what they stand for, which are accepted, where a term ends, and when two parts are the same.
+#![tactic(auto)]
+
 ghost use Rattle.std.specs.Prelude.{◌≡◌, true, false, [], ◌≤◌, ◌<◌, length};
 ghost use Rattle.term.specs.Moment.{old};
 ghost use Rattle.term.specs.Table.{entry_accepted, table_accepted};

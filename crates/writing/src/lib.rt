@@ -1,4 +1,6 @@
 // The writer of sheets: records that come joined, with their lengths, are checked and put as a sheet to the front of a lent output.
+#![tactic(auto)]
+
 ghost use Rattle.std.specs.Prelude.{◌≡◌, true, ◌+◌, ◌≤◌, ◌<◌, leb, length};
 ghost use Rattle.std.proofs.lemmas.List.Edits.{sets};
 ghost use Rattle.byte_answers.specs.Answers.{writing_number, writing_length};
