@@ -11,7 +11,7 @@ ghost use Rattle.answers.specs.Answers.{cost_number, cost_count, answer_number, 
 const NOWHERE: u16 = 65535;
 
 // Why an input is refused.
-#[derive(Drop)]
+#[derive(Clone, Copy)]
 pub enum Refusal {
     Table,
     Short,
@@ -70,7 +70,7 @@ impl Refusal {
 }
 
 // A part of a record: offset and length in bytes, and the number of its elements.
-#[derive(Drop)]
+#[derive(Clone, Copy)]
 pub struct Part {
     pub offset: u16,
     pub length: u16,
@@ -104,7 +104,7 @@ impl Part {
 }
 
 // The number of the pattern's nodes, which bounds every count; that it has run names, and no such bound; or why it is refused.
-#[derive(Drop)]
+#[derive(Clone, Copy)]
 pub enum Cost {
     AtMost(u32),
     NoBound,
@@ -136,7 +136,7 @@ impl Cost {
 }
 
 // Bound, none or spent, with the count; or why the input is refused.
-#[derive(Drop)]
+#[derive(Clone, Copy)]
 pub enum Answer {
     Bound(u32),
     None(u32),
@@ -172,7 +172,7 @@ impl Answer {
 
 // Bound at a rule, none, or spent at a rule, with the sum of counts so far; or why the input is refused, with the index of the entry, 0
 // where no entry is meant.
-#[derive(Drop)]
+#[derive(Clone, Copy)]
 pub enum RuleAnswer {
     Bound(usize, u64),
     None(u64),
@@ -219,7 +219,7 @@ impl RuleAnswer {
 }
 
 // Bound, with the count and the length of the result; none or spent, with the count; or why the input or the result is refused.
-#[derive(Drop)]
+#[derive(Clone, Copy)]
 pub enum Applied {
     Bound(u32, usize),
     None(u32),
@@ -272,7 +272,7 @@ pub const PASS: usize = 65;
 
 // Forced, where no move is needed, by the loader's first rule of an index, or by a pass; none; spent, with the allowance; or why the input is
 // refused, with the index of the entry, 0 where no entry is meant.
-#[derive(Drop)]
+#[derive(Clone, Copy)]
 pub enum Played {
     Unneeded,
     ByRule(usize),

@@ -8,7 +8,7 @@ ghost use Rattle.byte_answers.specs.Answers.{read_number, read_length, checked_n
 use answers::Refusal;
 
 // A tree that was read ends after so many bytes.
-#[derive(Drop)]
+#[derive(Clone, Copy)]
 pub enum Read {
     Ends(usize),
     Refused(Refusal),
@@ -37,7 +37,7 @@ impl Read {
 }
 
 // What a check shows: the number of entries, or a refusal with the entry's index, 0 where no entry is meant.
-#[derive(Drop)]
+#[derive(Clone, Copy)]
 pub enum Checked {
     Accepted(usize),
     Refused(Refusal, usize),
@@ -76,7 +76,7 @@ impl Checked {
 }
 
 // Where an entry lies in its sheet: offset and length in bytes, or why sheet or index is refused.
-#[derive(Drop)]
+#[derive(Clone, Copy)]
 pub enum EntryPlace {
     At(u16, u16),
     Refused(Refusal),
@@ -113,7 +113,7 @@ impl EntryPlace {
 }
 
 // What a writing shows: the sheet's length, or a refusal with the record's index, 0 where no record is meant.
-#[derive(Drop)]
+#[derive(Clone, Copy)]
 pub enum Writing {
     Written(usize),
     Refused(Refusal, usize),
@@ -150,7 +150,7 @@ impl Writing {
 }
 
 // What a move shows: the length of what was written, or why it is refused.
-#[derive(Drop)]
+#[derive(Clone, Copy)]
 pub enum Move {
     Written(usize),
     Refused(Refusal),
@@ -179,7 +179,7 @@ impl Move {
 }
 
 // What a change of a station shows: that it is done, or why it is refused.
-#[derive(Drop)]
+#[derive(Clone, Copy)]
 pub enum Change {
     Done,
     Refused(Refusal),

@@ -2,7 +2,6 @@
 #![tactic(auto)]
 
 ghost use Rattle.std.specs.Prelude.{◌≡◌, false, ◌≤◌, length};
-ghost use Rattle.term.specs.Moment.{old};
 ghost use Rattle.term.specs.Limits.{longest_pattern};
 ghost use Rattle.reader.specs.Brought.{simply, bringing, brought_by};
 ghost use Rattle.cost.specs.Call.{cost_of};
@@ -30,7 +29,7 @@ fn is_run(code: Code) -> bool
 
 // The bytes of a node's own: its code's and, for a list, its number of children.
 fn own_bytes(table: &[u8], b: u8) -> usize
-    ensures { result ≡ own_bytes (old table) b }
+    ensures { result ≡ own_bytes table.now b }
 {
     if term::entry_of(table, b) == term::LIST {
         return 2;
@@ -41,7 +40,7 @@ fn own_bytes(table: &[u8], b: u8) -> usize
 // The nodes of a pattern that passed its checks.
 fn count_nodes(table: &[u8], pattern: &[u8]) -> Cost
     requires { length pattern.now ≤ longest_pattern }
-    ensures { result ≡ tally (old table) (old pattern) false 0 }
+    ensures { result ≡ tally table.now pattern.now false 0 }
 {
     let mut nodes: u32 = 0;
     let mut at: usize = 0;
@@ -65,8 +64,8 @@ fn cost_brought(
     classes: &[u8],
     pattern: &[u8],
 ) -> Cost
-    ensures is { result ≡ cost_of (brought_by edition (old table) brings (old classes)) (old pattern) }
-    ensures demand { Demanded (brought_by edition (old table) brings (old classes)) (old pattern) result }
+    ensures is { result ≡ cost_of (brought_by edition table.now brings classes.now) pattern.now }
+    ensures demand { Demanded (brought_by edition table.now brings classes.now) pattern.now result }
 {
     if !term::check_table(table) {
         return Cost::Refused(Refusal::Table);
@@ -88,16 +87,16 @@ fn cost_brought(
 
 // In edition 1, without a class list.
 pub fn cost_of(table: &[u8], pattern: &[u8]) -> Cost
-    ensures is { result ≡ cost_of (simply (old table)) (old pattern) }
-    ensures demand { Demanded (simply (old table)) (old pattern) result }
+    ensures is { result ≡ cost_of (simply table.now) pattern.now }
+    ensures demand { Demanded (simply table.now) pattern.now result }
 {
     cost_brought(Edition::One, table, false, &table[..0], pattern)
 }
 
 // In an edition, with a class list.
 pub fn cost_in(edition: Edition, table: &[u8], classes: &[u8], pattern: &[u8]) -> Cost
-    ensures is { result ≡ cost_of (bringing edition (old table) (old classes)) (old pattern) }
-    ensures demand { Demanded (bringing edition (old table) (old classes)) (old pattern) result }
+    ensures is { result ≡ cost_of (bringing edition table.now classes.now) pattern.now }
+    ensures demand { Demanded (bringing edition table.now classes.now) pattern.now result }
 {
     cost_brought(edition, table, true, classes, pattern)
 }

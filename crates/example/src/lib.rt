@@ -2,7 +2,6 @@
 #![tactic(auto)]
 
 ghost use Rattle.std.specs.Prelude.{◌≡◌, suc, ◌≤◌, length, take, replicate};
-ghost use Rattle.term.specs.Moment.{old, new};
 ghost use Rattle.term.specs.Table.{largest_table};
 ghost use Rattle.example.specs.Call.{largest_size, example_by, output_by, example_of, output_of};
 ghost use Rattle.example.specs.Inner.{DownBy, FrontAt, Marks, IsFree, Standing, FindsTwins, NeedlessBy, LooksAt, Cleared, TriesOne, TriesNext, TriesLength, TriesSizes, ShowsExample};
@@ -32,14 +31,14 @@ const FIRST_NAME: u8 = 200;
 const MARK: u8 = 1;
 
 // What a look at a string tells: nothing; or that every record from it on which begins with its first k bytes can be passed over.
-#[derive(Drop)]
+#[derive(Clone, Copy)]
 enum Probe {
     Open,
     Dead(usize),
 }
 
 // What trying candidates comes to: one is bound, with its count; one is spent; all are over and neither.
-#[derive(Drop)]
+#[derive(Clone, Copy)]
 enum Tried {
     Bound(u32),
     Spent,
@@ -55,8 +54,8 @@ fn wide(x: u8) -> usize
 // Marks each byte of the pattern, by its class.
 fn keep_symbols(classes: &[u8], pattern: &[u8], kept: &mut [u8])
     requires { length kept.old ≡ 256 }
-    ensures marks { Marks (old classes) (old pattern) (new kept) }
-    ensures kept_len { length (new kept) ≡ 256 }
+    ensures marks { Marks classes.now pattern.now kept.new }
+    ensures kept_len { length kept.new ≡ 256 }
 {
     let mut i: usize = 0;
     while i < pattern.len() {
@@ -69,7 +68,7 @@ fn keep_symbols(classes: &[u8], pattern: &[u8], kept: &mut [u8])
 // Whether a symbol is its own class and not marked.
 fn is_free(classes: &[u8], kept: &[u8], s: u8) -> bool
     requires { length kept.now ≡ 256 }
-    ensures { IsFree (old classes) (old kept) s result }
+    ensures { IsFree classes.now kept.now s result }
 {
     if term::class_of(classes, s) != s {
         return false;
@@ -83,7 +82,7 @@ fn note_twin(table: &[u8], classes: &[u8], kept: &[u8], s: u8, last: &mut [u8], 
     requires s_bound { suc s ≤ largest_table }
     requires kept_len { length kept.now ≡ 256 }
     requires standing { Standing table.now classes.now kept.now s last.old lower.old }
-    ensures { Standing (old table) (old classes) (old kept) (suc s) (new last) (new lower) }
+    ensures { Standing table.now classes.now kept.now (suc s) last.new lower.new }
 {
     if !is_free(classes, kept, s) {
         return;
@@ -99,8 +98,8 @@ fn find_twins(table: &[u8], classes: &[u8], kept: &[u8], lower: &mut [u8])
     requires table_len_bound { length table.now ≤ largest_table }
     requires kept_len { length kept.now ≡ 256 }
     requires lower_value { lower.old ≡ replicate 256 0 }
-    ensures finds_twins { FindsTwins (old table) (old classes) (old kept) (new lower) }
-    ensures lower_len { length (new lower) ≡ 256 }
+    ensures finds_twins { FindsTwins table.now classes.now kept.now lower.new }
+    ensures lower_len { length lower.new ≡ 256 }
 {
     let mut last = [0u8; BYTES];
     let mut s: u8 = 0;
@@ -114,7 +113,7 @@ fn find_twins(table: &[u8], classes: &[u8], kept: &[u8], lower: &mut [u8])
 fn is_needless(classes: &[u8], lower: &[u8], seen: &[u8], b: u8) -> bool
     requires lower_len { length lower.now ≡ 256 }
     requires seen_len { length seen.now ≡ 256 }
-    ensures { NeedlessBy (old classes) (old lower) (old seen) b result }
+    ensures { NeedlessBy classes.now lower.now seen.now b result }
 {
     if term::class_of(classes, b) != b {
         return true;
@@ -134,7 +133,7 @@ fn is_needless(classes: &[u8], lower: &[u8], seen: &[u8], b: u8) -> bool
 }
 
 // After a node of which so many trees are still to come: where the next one stands, or that the bytes left are too few.
-#[derive(Drop)]
+#[derive(Clone, Copy)]
 enum Step {
     On(usize, usize),
     Stuck,
@@ -155,7 +154,7 @@ fn step_over(table: &[u8], s: &[u8], at: usize, trees: usize) -> Step
     requires at_in_bounds { suc at ≤ length s.now }
     requires le_trees { 1 ≤ trees }
     requires trees_bound { trees ≤ suc (length s.now) }
-    ensures { result ≡ step_of (old table) (old s) at trees }
+    ensures { result ≡ step_of table.now s.now at trees }
 {
     let entry = term::entry_of(table, s[at]);
     if entry == term::LIST {
@@ -170,8 +169,8 @@ fn step_over(table: &[u8], s: &[u8], at: usize, trees: usize) -> Step
 // The node at each place in turn, and the symbols seen before it: whether a record can begin so, and whether one that does is needed.
 fn look_at(table: &[u8], classes: &[u8], lower: &[u8], s: &[u8]) -> Probe
     requires { length lower.now ≡ 256 }
-    ensures looks_at { LooksAt (old table) (old classes) (old lower) (old s) result }
-    ensures probed_within { ProbedWithin (length (old s)) result }
+    ensures looks_at { LooksAt table.now classes.now lower.now s.now result }
+    ensures probed_within { ProbedWithin (length s.now) result }
 {
     let mut seen = [0u8; BYTES];
     let mut at: usize = 0;
@@ -212,7 +211,7 @@ fn rises(i: usize, k: usize, b: u8) -> bool
 // The next string that differs within its first k bytes; false where there is none, and then all bytes are 0.
 fn advance(s: &mut [u8], k: usize) -> bool
     requires { k ≤ length s.old }
-    ensures { Advances (old s) k result (new s) }
+    ensures { Advances s.old k result s.new }
 {
     let mut i = s.len();
     while 0 < i {
@@ -236,7 +235,7 @@ fn try_one(
     s: &[u8],
     allowance: u32,
 ) -> Tried
-    ensures { TriesOne (language edition (old table) (old classes)) (old pattern) (old s) allowance result }
+    ensures { TriesOne (language edition table.now classes.now) pattern.now s.now allowance result }
 {
     let read = reader::read_record_in(edition, table, classes, s);
     if let Read::Refused(_) = read {
@@ -253,7 +252,7 @@ fn try_one(
 }
 
 // Whether a node of the pattern and one of the record both have a first child, and how many bytes on these stand.
-#[derive(Drop)]
+#[derive(Clone, Copy)]
 enum Down {
     No,
     One,
@@ -263,7 +262,7 @@ enum Down {
 fn down_from(table: &[u8], pattern: &[u8], i: usize, s: &[u8], at: usize) -> Down
     requires i_in_bounds { suc i ≤ length pattern.now }
     requires at_in_bounds { suc at ≤ length s.now }
-    ensures { DownBy (old table) (old pattern) i (old s) at result }
+    ensures { DownBy table.now pattern.now i s.now at result }
 {
     let b = wide(pattern[i]);
     if table.len() <= b {
@@ -294,8 +293,8 @@ fn down_from(table: &[u8], pattern: &[u8], i: usize, s: &[u8], at: usize) -> Dow
 // Pattern and record, gone down by first children as far as they are of like classes: where they are not, every record with these bytes fails
 // with that pair, if the allowance has it.
 fn front_at(table: &[u8], classes: &[u8], pattern: &[u8], s: &[u8], allowance: u32) -> Probe
-    ensures front_at { FrontAt (old table) (old classes) (old pattern) (old s) allowance result }
-    ensures probed_within { ProbedWithin (length (old s)) result }
+    ensures front_at { FrontAt table.now classes.now pattern.now s.now allowance result }
+    ensures probed_within { ProbedWithin (length s.now) result }
 {
     let mut i: usize = 0;
     let mut at: usize = 0;
@@ -332,14 +331,14 @@ fn front_at(table: &[u8], classes: &[u8], pattern: &[u8], s: &[u8], allowance: u
 }
 
 // What a turn comes to, and how many bytes the strings that it is done with share.
-#[derive(Drop)]
+#[derive(Clone, Copy)]
 struct Turn {
     tried: Tried,
     shared: usize,
 }
 
 // Where the candidates stop: what the last one comes to, and its length.
-#[derive(Drop)]
+#[derive(Clone, Copy)]
 struct Stop {
     tried: Tried,
     length: usize,
@@ -356,8 +355,8 @@ fn try_next(
     allowance: u32,
 ) -> Turn
     requires { length lower.now ≡ 256 }
-    ensures tries_next { TriesNext (language edition (old table) (old classes)) (old lower) (old pattern) (old s) allowance result.tried result.shared }
-    ensures shared_in_bounds { result.shared ≤ length (old s) }
+    ensures tries_next { TriesNext (language edition table.now classes.now) lower.now pattern.now s.now allowance result.tried result.shared }
+    ensures shared_in_bounds { result.shared ≤ length s.now }
 {
     let front = front_at(table, classes, pattern, s, allowance);
     if let Probe::Dead(k) = front {
@@ -391,8 +390,8 @@ fn try_length(
 ) -> Tried
     requires lower_len { length lower.now ≡ 256 }
     requires s_value { s.old ≡ replicate (length s.old) 0 }
-    ensures tries_length { TriesLength (language edition (old table) (old classes)) (old lower) (old pattern) allowance (length (old s)) result (new s) }
-    ensures cleared { Cleared result (new s) }
+    ensures tries_length { TriesLength (language edition table.now classes.now) lower.now pattern.now allowance (length s.old) result s.new }
+    ensures cleared { Cleared result s.new }
 {
     loop {
         let turn = try_next(edition, table, classes, lower, pattern, s, allowance);
@@ -424,7 +423,7 @@ fn try_sizes(
     requires lower_len { length lower.now ≡ 256 }
     requires s_value { s.old ≡ replicate largest_size 0 }
     requires size_le_largest_size { size ≤ largest_size }
-    ensures tries_sizes { TriesSizes (language edition (old table) (old classes)) (old lower) (old pattern) allowance size result.tried (take result.length (new s)) }
+    ensures tries_sizes { TriesSizes (language edition table.now classes.now) lower.now pattern.now allowance size result.tried (take result.length s.new) }
     ensures length_le_size { result.length ≤ size }
 {
     let mut n: usize = 1;
@@ -464,8 +463,8 @@ fn try_sizes(
 
 // A record to the front of the output, if it has the room.
 fn put_example(s: &[u8], count: u32, output: &mut [u8]) -> Applied
-    ensures value { result ≡ example_by (shows (old s) count) (length (old output)) }
-    ensures output_value { new output ≡ output_by (shows (old s) count) (old output) }
+    ensures value { result ≡ example_by (shows s.now count) (length output.old) }
+    ensures output_value { output.new ≡ output_by (shows s.now count) output.old }
 {
     let n = s.len();
     if output.len() < n {
@@ -487,7 +486,7 @@ fn example_checked(
 ) -> Applied
     requires table_len_bound { length table.now ≤ largest_table }
     requires size_le_largest_size { size ≤ largest_size }
-    ensures { ShowsExample (language edition (old table) (old classes)) (old pattern) size allowance (old output) result (new output) }
+    ensures { ShowsExample (language edition table.now classes.now) pattern.now size allowance output.old result output.new }
 {
     let mut kept = [0u8; BYTES];
     keep_symbols(classes, pattern, &mut kept);
@@ -517,7 +516,7 @@ fn example_brought(
     allowance: u32,
     output: &mut [u8],
 ) -> Applied
-    ensures { Called (brought_by edition (old table) brings (old classes)) (old pattern) size allowance (old output) result (new output) }
+    ensures { Called (brought_by edition table.now brings classes.now) pattern.now size allowance output.old result output.new }
 {
     let most = size as usize;
     if LARGEST_SIZE < most {
@@ -546,9 +545,9 @@ pub fn example(
     allowance: u32,
     output: &mut [u8],
 ) -> Applied
-    ensures is { result ≡ example_of (simply (old table)) (old pattern) size allowance (length (old output)) }
-    ensures contents { new output ≡ output_of (simply (old table)) (old pattern) size allowance (old output) }
-    ensures demand { Demanded (simply (old table)) (old pattern) size allowance (old output) result (new output) }
+    ensures is { result ≡ example_of (simply table.now) pattern.now size allowance (length output.old) }
+    ensures contents { output.new ≡ output_of (simply table.now) pattern.now size allowance output.old }
+    ensures demand { Demanded (simply table.now) pattern.now size allowance output.old result output.new }
 {
     example_brought(
         Edition::One,
@@ -572,9 +571,9 @@ pub fn example_in(
     allowance: u32,
     output: &mut [u8],
 ) -> Applied
-    ensures is { result ≡ example_of (bringing edition (old table) (old classes)) (old pattern) size allowance (length (old output)) }
-    ensures contents { new output ≡ output_of (bringing edition (old table) (old classes)) (old pattern) size allowance (old output) }
-    ensures demand { Demanded (bringing edition (old table) (old classes)) (old pattern) size allowance (old output) result (new output) }
+    ensures is { result ≡ example_of (bringing edition table.now classes.now) pattern.now size allowance (length output.old) }
+    ensures contents { output.new ≡ output_of (bringing edition table.now classes.now) pattern.now size allowance output.old }
+    ensures demand { Demanded (bringing edition table.now classes.now) pattern.now size allowance output.old result output.new }
 {
     example_brought(
         edition, table, true, classes, pattern, size, allowance, output,

@@ -2,7 +2,6 @@
 #![tactic(auto)]
 
 ghost use Rattle.std.specs.Prelude.{◌≡◌, take};
-ghost use Rattle.term.specs.Moment.{old};
 ghost use Rattle.parts.specs.Shown.{answer_width};
 ghost use Rattle.matcher.specs.Call.{answer_on_bytes};
 ghost use Rattle.term.specs.Language.{language};
@@ -22,7 +21,7 @@ use term::{Edition, LONGEST_RECORD};
 const MOST_TURNS: u32 = 6;
 
 // What a turn, or a rule that is followed, leaves: the goal forced, unforced, or a spent search; a rule may be no move.
-#[derive(Drop)]
+#[derive(Clone, Copy)]
 enum Left {
     Forced,
     Unforced,
@@ -46,7 +45,7 @@ fn left_by(p: Played) -> Left
 
 // The first n bytes, or all where there are fewer.
 fn front(s: &[u8], n: usize) -> &[u8]
-    ensures { result.now ≡ take n (old s) }
+    ensures { result.now ≡ take n s.now }
 {
     if s.len() < n {
         return s;
@@ -56,7 +55,7 @@ fn front(s: &[u8], n: usize) -> &[u8]
 
 // Whether the goal holds of a state.
 fn goal_at(table: &[u8], classes: &[u8], goal: &[u8], state: &[u8], allowance: u32) -> Answer
-    ensures { result ≡ answer_on_bytes (old table) (old classes) (old goal) (old state) allowance answer_width }
+    ensures { result ≡ answer_on_bytes table.now classes.now goal.now state.now allowance answer_width }
 {
     let mut answer = [0u16; ANSWER_WIDTH];
     matcher::match_checked(table, classes, goal, state, allowance, &mut answer)
@@ -76,7 +75,7 @@ fn loader_turn(
     state: &[u8],
     allowance: u32,
 ) -> Played
-    ensures { LoaderTurns (spoken loader table classes) (sheets loader loader_templates sender sender_templates goal) allowance left (old state) result }
+    ensures { LoaderTurns (spoken loader table classes) (sheets loader loader_templates sender sender_templates goal) allowance left state.now result }
 {
     let reached = goal_at(table, classes, goal, state, allowance);
     match reached {
@@ -112,7 +111,7 @@ fn loader_moves(
     state: &[u8],
     allowance: u32,
 ) -> Played
-    ensures { LoaderMoves (spoken loader table classes) (sheets loader loader_templates sender sender_templates goal) allowance left (old state) result }
+    ensures { LoaderMoves (spoken loader table classes) (sheets loader loader_templates sender sender_templates goal) allowance left state.now result }
 {
     if left == 0 {
         return Played::None;
@@ -177,7 +176,7 @@ fn loader_pass(
     state: &[u8],
     allowance: u32,
 ) -> Played
-    ensures { LoaderPass (spoken loader table classes) (sheets loader loader_templates sender sender_templates goal) allowance left (old state) result }
+    ensures { LoaderPass (spoken loader table classes) (sheets loader loader_templates sender sender_templates goal) allowance left state.now result }
 {
     if left == 0 {
         return Played::None;
@@ -217,7 +216,7 @@ fn loader_rule(
     state: &[u8],
     allowance: u32,
 ) -> Left
-    ensures { LoaderRule (spoken loader table classes) (sheets loader loader_templates sender sender_templates goal) allowance left i (old state) result }
+    ensures { LoaderRule (spoken loader table classes) (sheets loader loader_templates sender sender_templates goal) allowance left i state.now result }
 {
     if left == 0 {
         return Left::NoMove;
@@ -268,7 +267,7 @@ fn sender_turn(
     state: &[u8],
     allowance: u32,
 ) -> Left
-    ensures { SenderTurns (spoken loader table classes) (sheets loader loader_templates sender sender_templates goal) allowance left (old state) result }
+    ensures { SenderTurns (spoken loader table classes) (sheets loader loader_templates sender sender_templates goal) allowance left state.now result }
 {
     let reached = goal_at(table, classes, goal, state, allowance);
     match reached {
@@ -304,7 +303,7 @@ fn sender_moves(
     state: &[u8],
     allowance: u32,
 ) -> Left
-    ensures { SenderMoves (spoken loader table classes) (sheets loader loader_templates sender sender_templates goal) allowance left (old state) result }
+    ensures { SenderMoves (spoken loader table classes) (sheets loader loader_templates sender sender_templates goal) allowance left state.now result }
 {
     if left == 0 {
         return Left::Unforced;
@@ -370,7 +369,7 @@ fn sender_rule(
     state: &[u8],
     allowance: u32,
 ) -> Left
-    ensures { SenderRule (spoken loader table classes) (sheets loader loader_templates sender sender_templates goal) allowance left i (old state) result }
+    ensures { SenderRule (spoken loader table classes) (sheets loader loader_templates sender sender_templates goal) allowance left i state.now result }
 {
     if left == 0 {
         return Left::NoMove;
@@ -421,7 +420,7 @@ pub fn play_checked(
     state: &[u8],
     allowance: u32,
 ) -> Played
-    ensures { Plays (spoken loader table classes) (sheets loader loader_templates sender sender_templates goal) allowance turns (old state) result }
+    ensures { Plays (spoken loader table classes) (sheets loader loader_templates sender sender_templates goal) allowance turns state.now result }
 {
     loader_turn(
         turns,
@@ -438,7 +437,7 @@ pub fn play_checked(
 }
 
 // Whether every check is passed, or why not, with the index of the entry.
-#[derive(Drop)]
+#[derive(Clone, Copy)]
 enum Check {
     Passed,
     Failed(Refusal, usize),
@@ -452,7 +451,7 @@ fn check_templates(
     rules: &[u8],
     templates: &[u8],
 ) -> Check
-    ensures { ChecksTemplates (language edition (old table) (old classes)) (old rules) (old templates) result }
+    ensures { ChecksTemplates (language edition table.now classes.now) rules.now templates.now result }
 {
     let n = sheet::count(templates) as usize;
     let mut i: usize = 0;
@@ -480,7 +479,7 @@ fn check_side(
     rules: &[u8],
     templates: &[u8],
 ) -> Check
-    ensures { result ≡ check_of (side (brought_by edition (old table) brings (old classes)) (old rules) (old templates)) }
+    ensures { result ≡ check_of (side (brought_by edition table.now brings classes.now) rules.now templates.now) }
 {
     let own = sheet::check_contents(
         false,
@@ -516,7 +515,7 @@ fn check_trees(
     goal: &[u8],
     state: &[u8],
 ) -> Check
-    ensures { result ≡ check_of (trees (handed_if table brings classes loader loader_templates sender sender_templates goal) (old state)) }
+    ensures { result ≡ check_of (trees (handed_if table brings classes loader loader_templates sender sender_templates goal) state.now) }
 {
     let edition = sheet::edition_of(loader);
     let first = check_side(edition, table, brings, classes, loader, loader_templates);
@@ -552,7 +551,7 @@ fn check_input(
     goal: &[u8],
     state: &[u8],
 ) -> Check
-    ensures { result ≡ check_of (checked turns (handed_if table brings classes loader loader_templates sender sender_templates goal) (old state)) }
+    ensures { result ≡ check_of (checked turns (handed_if table brings classes loader loader_templates sender sender_templates goal) state.now) }
 {
     if MOST_TURNS < turns {
         return Check::Failed(Refusal::Turns, 0);
@@ -591,7 +590,7 @@ fn play_brought(
     allowance: u32,
 ) -> Played
     requires { classes.now ≡ or_empty (list_if brings classes.now) }
-    ensures { Called turns (handed_if table brings classes loader loader_templates sender sender_templates goal) (old state) allowance result }
+    ensures { Called turns (handed_if table brings classes loader loader_templates sender sender_templates goal) state.now allowance result }
 {
     let checks = check_input(
         turns,
@@ -634,8 +633,8 @@ pub fn play(
     state: &[u8],
     allowance: u32,
 ) -> Played
-    ensures is { result ≡ play_of turns (handed table loader loader_templates sender sender_templates goal) (old state) allowance }
-    ensures demand { Demanded turns (handed table loader loader_templates sender sender_templates goal) (old state) allowance result }
+    ensures is { result ≡ play_of turns (handed table loader loader_templates sender sender_templates goal) state.now allowance }
+    ensures demand { Demanded turns (handed table loader loader_templates sender sender_templates goal) state.now allowance result }
 {
     play_brought(
         turns,
@@ -665,8 +664,8 @@ pub fn play_in(
     state: &[u8],
     allowance: u32,
 ) -> Played
-    ensures is { result ≡ play_of turns (handed_in table classes loader loader_templates sender sender_templates goal) (old state) allowance }
-    ensures demand { Demanded turns (handed_in table classes loader loader_templates sender sender_templates goal) (old state) allowance result }
+    ensures is { result ≡ play_of turns (handed_in table classes loader loader_templates sender sender_templates goal) state.now allowance }
+    ensures demand { Demanded turns (handed_in table classes loader loader_templates sender sender_templates goal) state.now allowance result }
 {
     play_brought(
         turns,

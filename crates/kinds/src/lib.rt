@@ -4,7 +4,6 @@
 ghost use Rattle.std.specs.Prelude.{◌≡◌, ◌+◌, ◌≤◌, length};
 ghost use Rattle.std.proofs.lemmas.List.Edits.{sets};
 ghost use Rattle.term.specs.Code.{decode_of};
-ghost use Rattle.term.specs.Moment.{old, new};
 ghost use Rattle.output.specs.Field.{field};
 ghost use Rattle.output.specs.Puts.{puts, past};
 ghost use Rattle.kinds.specs.Kind.{range_kind, kind_of};
@@ -67,8 +66,8 @@ pub fn kind_of(code: u8) -> u8
 
 // Puts the word of a kind, which ends its line, and answers where it ends.
 fn put_kind(out: &mut [u8], at: usize, kind: u8) -> usize
-    ensures out_value { new out ≡ puts (old out) at (field (kind_word kind) 10) }
-    ensures value { result ≡ past (old out) at (field (kind_word kind) 10) }
+    ensures out_value { out.new ≡ puts out.old at (field (kind_word kind) 10) }
+    ensures value { result ≡ past out.old at (field (kind_word kind) 10) }
 {
     match kind {
         SYMBOL => output::put_field(out, at, b"symbol", b'\n'),
@@ -82,7 +81,7 @@ fn put_kind(out: &mut [u8], at: usize, kind: u8) -> usize
 // Puts the line of a code, the code and its kind, and answers where it ends.
 fn put_code(out: &mut [u8], at: usize, code: u8) -> usize
     requires { at + length (code_line code) ≤ length out.old }
-    ensures out_value { new out ≡ sets (old out) at (code_line code) }
+    ensures out_value { out.new ≡ sets out.old at (code_line code) }
     ensures value { result ≡ at + length (code_line code) }
 {
     let kind = kind_of(code);
@@ -93,7 +92,7 @@ fn put_code(out: &mut [u8], at: usize, code: u8) -> usize
 // Puts the lines of all codes, from code 0 up.
 fn put_each_code(out: &mut [u8])
     requires { length out.old ≡ codes_room }
-    ensures { new out ≡ sets (old out) 0 code_list }
+    ensures { out.new ≡ sets out.old 0 code_list }
 {
     let mut at: usize = 0;
     let mut code: usize = 0;
@@ -105,7 +104,7 @@ fn put_each_code(out: &mut [u8])
 
 // Puts the list of the codes, which fills the output.
 pub fn put_codes(out: &mut [u8; CODES_ROOM])
-    ensures { new out ≡ code_list }
+    ensures { out.new ≡ code_list }
 {
     put_each_code(out);
 }

@@ -2,7 +2,6 @@
 #![tactic(auto)]
 
 ghost use Rattle.std.specs.Prelude.{◌≡◌, [], ◌≤◌, length};
-ghost use Rattle.term.specs.Moment.{old, new};
 ghost use Rattle.reader.specs.Brought.{simply, bringing, list_if, brought_by, or_empty};
 ghost use Rattle.link.specs.OnBytes.{replied_by, following_on_bytes};
 ghost use Rattle.matcher.specs.Call.{rule_checked, checked, check_of, answer_of, buffer_of, answer_on_bytes, buffer_on_bytes, told};
@@ -19,7 +18,7 @@ use term::Edition;
 pub const ANSWER_WIDTH: usize = parts::ANSWER_WIDTH;
 
 // Whether every check is passed, or why not.
-#[derive(Drop)]
+#[derive(Clone, Copy)]
 pub enum Check {
     Passed,
     Failed(Refusal),
@@ -34,7 +33,7 @@ pub fn check_rule(
     pattern: &[u8],
     width: usize,
 ) -> Check
-    ensures { result ≡ check_of (rule_checked (brought_by edition (old table) brings (old classes)) (old pattern) width) }
+    ensures { result ≡ check_of (rule_checked (brought_by edition table.now brings classes.now) pattern.now width) }
 {
     if width < ANSWER_WIDTH {
         return Check::Failed(Refusal::Narrow);
@@ -63,7 +62,7 @@ fn check_input(
     record: &[u8],
     width: usize,
 ) -> Check
-    ensures { result ≡ check_of (checked (brought_by edition (old table) brings (old classes)) (old pattern) (old «record») width) }
+    ensures { result ≡ check_of (checked (brought_by edition table.now brings classes.now) pattern.now «record».now width) }
 {
     let rule = check_rule(edition, table, brings, classes, pattern, width);
     if let Check::Failed(r) = rule {
@@ -99,9 +98,9 @@ pub fn match_checked(
     allowance: u32,
     answer: &mut [u16],
 ) -> Answer
-    ensures is { result ≡ answer_on_bytes (old table) (old classes) (old pattern) (old «record») allowance (length (old answer)) }
-    ensures buffer { new answer ≡ buffer_on_bytes (old table) (old classes) (old pattern) (old «record») allowance (old answer) }
-    ensures demand { AsChecked (old table) (old classes) (old pattern) (old «record») (old answer) allowance result (new answer) }
+    ensures is { result ≡ answer_on_bytes table.now classes.now pattern.now «record».now allowance (length answer.old) }
+    ensures buffer { answer.new ≡ buffer_on_bytes table.now classes.now pattern.now «record».now allowance answer.old }
+    ensures demand { AsChecked table.now classes.now pattern.now «record».now answer.old allowance result answer.new }
 {
     if answer.len() < ANSWER_WIDTH {
         return Answer::Refused(Refusal::Narrow);
@@ -120,9 +119,9 @@ pub fn match_one(
     allowance: u32,
     answer: &mut [u16],
 ) -> Answer
-    ensures is { result ≡ answer_of (simply (old table)) (old pattern) (old «record») allowance (length (old answer)) }
-    ensures buffer { new answer ≡ buffer_of (simply (old table)) (old pattern) (old «record») allowance (old answer) }
-    ensures demand { Demanded (simply (old table)) (old pattern) (old «record») (old answer) allowance result (new answer) }
+    ensures is { result ≡ answer_of (simply table.now) pattern.now «record».now allowance (length answer.old) }
+    ensures buffer { answer.new ≡ buffer_of (simply table.now) pattern.now «record».now allowance answer.old }
+    ensures demand { Demanded (simply table.now) pattern.now «record».now answer.old allowance result answer.new }
 {
     let classes = &table[..0];
     let checks = check_input(
@@ -150,9 +149,9 @@ pub fn match_in(
     allowance: u32,
     answer: &mut [u16],
 ) -> Answer
-    ensures is { result ≡ answer_of (bringing edition (old table) (old classes)) (old pattern) (old «record») allowance (length (old answer)) }
-    ensures buffer { new answer ≡ buffer_of (bringing edition (old table) (old classes)) (old pattern) (old «record») allowance (old answer) }
-    ensures demand { Demanded (bringing edition (old table) (old classes)) (old pattern) (old «record») (old answer) allowance result (new answer) }
+    ensures is { result ≡ answer_of (bringing edition table.now classes.now) pattern.now «record».now allowance (length answer.old) }
+    ensures buffer { answer.new ≡ buffer_of (bringing edition table.now classes.now) pattern.now «record».now allowance answer.old }
+    ensures demand { Demanded (bringing edition table.now classes.now) pattern.now «record».now answer.old allowance result answer.new }
 {
     let checks = check_input(edition, table, true, classes, pattern, record, answer.len());
     match checks {
@@ -171,8 +170,8 @@ fn next_checked(
     allowance: u32,
     answer: &mut [u16],
 ) -> Answer
-    ensures is { result ≡ told_next (following_on_bytes (old table) (old classes) (old pattern) (old «record») (old given) allowance) }
-    ensures buffer { new answer ≡ shown_pass (next_pass (old table) (old classes) (old pattern) (old «record») (old given) allowance) (old answer) }
+    ensures is { result ≡ told_next (following_on_bytes table.now classes.now pattern.now «record».now given.now allowance) }
+    ensures buffer { answer.new ≡ shown_pass (next_pass table.now classes.now pattern.now «record».now given.now allowance) answer.old }
 {
     let end = search::search_next(table, classes, pattern, record, given, allowance, answer);
     let known = end.known;
@@ -196,7 +195,7 @@ fn next_brought(
     answer: &mut [u16],
 ) -> Answer
     requires { classes.now ≡ or_empty (list_if brings classes.now) }
-    ensures { NextCalled (brought_by edition (old table) brings (old classes)) (old pattern) (old «record») (old given) (old answer) allowance result (new answer) }
+    ensures { NextCalled (brought_by edition table.now brings classes.now) pattern.now «record».now given.now answer.old allowance result answer.new }
 {
     let checks = check_input(
         edition,
@@ -223,9 +222,9 @@ pub fn next(
     allowance: u32,
     answer: &mut [u16],
 ) -> Answer
-    ensures is { result ≡ next_of (simply (old table)) (old pattern) (old «record») (old given) allowance (length (old answer)) }
-    ensures buffer { new answer ≡ next_buffer_of (simply (old table)) (old pattern) (old «record») (old given) allowance (old answer) }
-    ensures demand { NextDemanded (simply (old table)) (old pattern) (old «record») (old given) (old answer) allowance result (new answer) }
+    ensures is { result ≡ next_of (simply table.now) pattern.now «record».now given.now allowance (length answer.old) }
+    ensures buffer { answer.new ≡ next_buffer_of (simply table.now) pattern.now «record».now given.now allowance answer.old }
+    ensures demand { NextDemanded (simply table.now) pattern.now «record».now given.now answer.old allowance result answer.new }
 {
     next_brought(
         Edition::One,
@@ -251,9 +250,9 @@ pub fn next_in(
     allowance: u32,
     answer: &mut [u16],
 ) -> Answer
-    ensures is { result ≡ next_of (bringing edition (old table) (old classes)) (old pattern) (old «record») (old given) allowance (length (old answer)) }
-    ensures buffer { new answer ≡ next_buffer_of (bringing edition (old table) (old classes)) (old pattern) (old «record») (old given) allowance (old answer) }
-    ensures demand { NextDemanded (bringing edition (old table) (old classes)) (old pattern) (old «record») (old given) (old answer) allowance result (new answer) }
+    ensures is { result ≡ next_of (bringing edition table.now classes.now) pattern.now «record».now given.now allowance (length answer.old) }
+    ensures buffer { answer.new ≡ next_buffer_of (bringing edition table.now classes.now) pattern.now «record».now given.now allowance answer.old }
+    ensures demand { NextDemanded (bringing edition table.now classes.now) pattern.now «record».now given.now answer.old allowance result answer.new }
 {
     next_brought(
         edition, table, true, classes, pattern, record, given, allowance, answer,

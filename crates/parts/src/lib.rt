@@ -3,7 +3,6 @@
 
 ghost use Rattle.std.specs.Prelude.{◌≡◌, ◌++◌, ◌%◌, ◌^◌, ◌≤◌, ◌<◌, length, drop, replicate};
 ghost use Rattle.answers.specs.Part.{absent};
-ghost use Rattle.term.specs.Moment.{old, new};
 ghost use Rattle.term.specs.Code.{variables};
 ghost use Rattle.parts.specs.Packed.{bit, packed, unpacked, part_of, parts_in};
 ghost use Rattle.parts.specs.Shown.{answer_width, numbers, set_entry, shown_parts};
@@ -64,7 +63,7 @@ pub fn unpacked(x: u64) -> Part
 
 // What the variable v is assigned. The compiler drops the test of v where it is the variable of a code.
 pub fn part_of(parts: &[u64; PARTS], assigned: u64, v: u8) -> Part
-    ensures { result ≡ part_of assigned (old parts) v }
+    ensures { result ≡ part_of assigned parts.now v }
 {
     let i = wide(v);
     if VARIABLES <= i {
@@ -80,7 +79,7 @@ pub fn part_of(parts: &[u64; PARTS], assigned: u64, v: u8) -> Part
 fn put_entry(p: Part, v: usize, answer: &mut [u16])
     requires v_lt_variables { v < variables }
     requires answer_width_in_bounds { answer_width ≤ length answer.old }
-    ensures { new answer ≡ set_entry (old answer) v p }
+    ensures { answer.new ≡ set_entry answer.old v p }
 {
     let at = ENTRY_WIDTH * v;
     answer[at] = p.offset;
@@ -91,7 +90,7 @@ fn put_entry(p: Part, v: usize, answer: &mut [u16])
 // Absent marks for every name and run name.
 fn clear(answer: &mut [u16])
     requires { answer_width ≤ length answer.old }
-    ensures { new answer ≡ numbers (replicate variables absent) ++ drop answer_width (old answer) }
+    ensures { answer.new ≡ numbers (replicate variables absent) ++ drop answer_width answer.old }
 {
     let mut v: usize = 0;
     while v < VARIABLES {
@@ -106,7 +105,7 @@ fn show_from(parts: &[u64; PARTS], assigned: u64, first: u8, answer: &mut [u16])
     requires first_le_variables { first ≤ variables }
     requires answer_width_in_bounds { answer_width ≤ length answer.old }
     requires answer_value { answer.old ≡ numbers (parts_in (assigned % 2 ^ first) parts.now 0 variables) ++ drop answer_width answer.old }
-    ensures { new answer ≡ numbers (parts_in assigned (old parts) 0 variables) ++ drop answer_width (old answer) }
+    ensures { answer.new ≡ numbers (parts_in assigned parts.now 0 variables) ++ drop answer_width answer.old }
 {
     let mut i = first;
     while 0 < assigned >> i {
@@ -117,7 +116,7 @@ fn show_from(parts: &[u64; PARTS], assigned: u64, first: u8, answer: &mut [u16])
 
 // Absent marks in a buffer of `ANSWER_WIDTH` numbers or more. All else stays.
 pub fn show_absent(answer: &mut [u16])
-    ensures { new answer ≡ shown_parts (replicate variables absent) (old answer) }
+    ensures { answer.new ≡ shown_parts (replicate variables absent) answer.old }
 {
     if answer.len() < ANSWER_WIDTH {
         return;
@@ -128,7 +127,7 @@ pub fn show_absent(answer: &mut [u16])
 // An entry for each name and run name in a buffer of `ANSWER_WIDTH` numbers or more, absent marks for those that are not assigned. All else
 // stays.
 pub fn show(parts: &[u64; PARTS], assigned: u64, answer: &mut [u16])
-    ensures { new answer ≡ shown_parts (parts_in assigned (old parts) 0 variables) (old answer) }
+    ensures { answer.new ≡ shown_parts (parts_in assigned parts.now 0 variables) answer.old }
 {
     if answer.len() < ANSWER_WIDTH {
         return;

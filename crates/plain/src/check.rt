@@ -1,7 +1,6 @@
 // The check for plain rules.
 ghost use Rattle.std.specs.Prelude.{◌≡◌, false, ◌^◌, ◌<◌, ◌≤◌, length};
 ghost use Rattle.std.specs.Int.Bits.{bit_or};
-ghost use Rattle.term.specs.Moment.{old};
 ghost use Rattle.term.specs.Code.{variables, VariableBelow};
 ghost use Rattle.term.specs.Limits.{longest_pattern};
 ghost use Rattle.plain.specs.Bytes.{run_code, SurelyPlain, weight_of, weights_of, root_bytes, look_variable, look_byte, look_list, look_symbol, look_of, LookWithin, plain_from};
@@ -11,7 +10,7 @@ use parts::is_assigned;
 use term::{Code, LIST, LONGEST_PATTERN};
 
 // What the check finds at one node: the variables seen after it, by mask, and the bytes of its own.
-#[derive(Drop)]
+#[derive(Clone, Copy)]
 pub enum Look {
     NotPlain,
     Passes(u64, usize),
@@ -39,8 +38,8 @@ fn run_here(code: Code) -> usize
 
 // A list whose bytes start q: it has at most one run name.
 fn look_list(table: &[u8], q: &[u8], seen: u64) -> Look
-    ensures is { result ≡ look_list (old table) (old q) seen }
-    ensures within { LookWithin (old q) result }
+    ensures is { result ≡ look_list table.now q.now seen }
+    ensures within { LookWithin q.now result }
 {
     if q.len() < 2 {
         return Look::NotPlain;
@@ -54,8 +53,8 @@ fn look_list(table: &[u8], q: &[u8], seen: u64) -> Look
 
 fn look_symbol(table: &[u8], q: &[u8], seen: u64, b: u8) -> Look
     requires { 0 < length q.now }
-    ensures is { result ≡ look_symbol (old table) (old q) seen b }
-    ensures within { LookWithin (old q) result }
+    ensures is { result ≡ look_symbol table.now q.now seen b }
+    ensures within { LookWithin q.now result }
 {
     if term::entry_of(table, b) == LIST {
         return look_list(table, q, seen);
@@ -77,8 +76,8 @@ fn look_variable(seen: u64, v: u8) -> Look
 // The pattern node that starts q.
 fn look_at(table: &[u8], q: &[u8], seen: u64) -> Look
     requires { 0 < length q.now }
-    ensures is { result ≡ look_of (old table) (old q) seen }
-    ensures within { LookWithin (old q) result }
+    ensures is { result ≡ look_of table.now q.now seen }
+    ensures within { LookWithin q.now result }
 {
     let code = term::decode(q[0]);
     match code {
@@ -105,7 +104,7 @@ fn weight(code: Code) -> u16
 // The weights of all bytes of s, whether codes or numbers of children: the compiler takes many at a time.
 fn weights(s: &[u8]) -> u16
     requires { length s.now ≤ longest_pattern }
-    ensures { result ≡ weights_of (old s) }
+    ensures { result ≡ weights_of s.now }
 {
     let mut found: u16 = 0;
     let mut at: usize = 0;
@@ -117,7 +116,7 @@ fn weights(s: &[u8]) -> u16
 }
 
 fn list_bytes(table: &[u8], b: u8) -> usize
-    ensures { result ≡ root_bytes (old table) (Code.Symbol b) }
+    ensures { result ≡ root_bytes table.now (Code.Symbol b) }
 {
     if term::entry_of(table, b) == LIST {
         return 2;
@@ -126,7 +125,7 @@ fn list_bytes(table: &[u8], b: u8) -> usize
 }
 
 fn root_bytes(table: &[u8], code: Code) -> usize
-    ensures { result ≡ root_bytes (old table) code }
+    ensures { result ≡ root_bytes table.now code }
 {
     match code {
         Code::Symbol(b) => list_bytes(table, b),
@@ -139,7 +138,7 @@ fn root_bytes(table: &[u8], code: Code) -> usize
 
 // A pattern of no complement and one variable at most, by its bytes alone. The number of a list at the root, often a large one, is left out.
 fn is_light(table: &[u8], pattern: &[u8]) -> bool
-    ensures { SurelyPlain (old table) (old pattern) result }
+    ensures { SurelyPlain table.now pattern.now result }
 {
     let n = pattern.len();
     if n == 0 {
@@ -171,7 +170,7 @@ fn look_byte(code: Code, seen: u64) -> Look
 
 // A pattern of no complement and one run name at most, with no variable twice, by its bytes alone: no list has two run names.
 fn is_distinct(table: &[u8], pattern: &[u8]) -> bool
-    ensures { SurelyPlain (old table) (old pattern) result }
+    ensures { SurelyPlain table.now pattern.now result }
 {
     let n = pattern.len();
     if n == 0 {
@@ -198,7 +197,7 @@ fn is_distinct(table: &[u8], pattern: &[u8]) -> bool
 
 // Whether a pattern that passed its checks is plain.
 pub(crate) fn is_plain(table: &[u8], pattern: &[u8]) -> bool
-    ensures { result ≡ plain_from (old table) (old pattern) false 0 }
+    ensures { result ≡ plain_from table.now pattern.now false 0 }
 {
     if is_light(table, pattern) {
         return true;

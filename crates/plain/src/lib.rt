@@ -7,7 +7,6 @@ mod runs;
 mod tier;
 
 ghost use Rattle.std.specs.Prelude.{◌≡◌, ◌≤◌, length};
-ghost use Rattle.term.specs.Moment.{old, new};
 ghost use Rattle.term.specs.Limits.{longest_pattern};
 ghost use Rattle.reader.specs.Brought.{simply, bringing, list_if, brought_by, or_empty};
 ghost use Rattle.plain.specs.Bytes.{may_hold, root_may_hold, tier_on, no_parts, told_ending, shown_ending};
@@ -24,7 +23,7 @@ use term::{Code, Edition};
 
 // A symbol may hold where it is the record's; any other code may hold.
 fn may_hold(classes: &[u8], code: Code, r: u8) -> bool
-    ensures { result ≡ may_hold (old classes) code r }
+    ensures { result ≡ may_hold classes.now code r }
 {
     match code {
         Code::Symbol(b) => term::same_symbol(classes, b, r),
@@ -37,7 +36,7 @@ fn may_hold(classes: &[u8], code: Code, r: u8) -> bool
 
 // Whether the first node may hold, by its code alone.
 fn root_may_hold(classes: &[u8], pattern: &[u8], record: &[u8]) -> bool
-    ensures { result ≡ root_may_hold (old classes) (old pattern) (old «record») }
+    ensures { result ≡ root_may_hold classes.now pattern.now «record».now }
 {
     if pattern.len() == 0 {
         return true;
@@ -57,8 +56,8 @@ fn match_checked(
     answer: &mut [u16],
 ) -> Answer
     requires { length pattern.now ≤ longest_pattern }
-    ensures is { result ≡ told_ending (tier_on (old table) (old classes) (old pattern) (old «record») no_parts) }
-    ensures buffer { new answer ≡ shown_ending (tier_on (old table) (old classes) (old pattern) (old «record») no_parts) (old answer) }
+    ensures is { result ≡ told_ending (tier_on table.now classes.now pattern.now «record».now no_parts) }
+    ensures buffer { answer.new ≡ shown_ending (tier_on table.now classes.now pattern.now «record».now no_parts) answer.old }
 {
     let mut parts = [0u64; PARTS];
     let end = tier(table, classes, pattern, record, &mut parts);
@@ -81,7 +80,7 @@ fn match_plain_brought(
     answer: &mut [u16],
 ) -> Answer
     requires { classes.now ≡ or_empty (list_if brings classes.now) }
-    ensures { PlainCalled (brought_by edition (old table) brings (old classes)) (old pattern) (old «record») (old answer) result (new answer) }
+    ensures { PlainCalled (brought_by edition table.now brings classes.now) pattern.now «record».now answer.old result answer.new }
 {
     let checks = check_rule(edition, table, brings, classes, pattern, answer.len());
     match checks {
@@ -104,9 +103,9 @@ fn match_plain_brought(
 
 // The match of a plain pattern against a record.
 pub fn match_plain(table: &[u8], pattern: &[u8], record: &[u8], answer: &mut [u16]) -> Answer
-    ensures is { result ≡ plain_of (simply (old table)) (old pattern) (old «record») (length (old answer)) }
-    ensures buffer { new answer ≡ plain_buffer_of (simply (old table)) (old pattern) (old «record») (old answer) }
-    ensures demand { PlainDemanded (simply (old table)) (old pattern) (old «record») (old answer) result (new answer) }
+    ensures is { result ≡ plain_of (simply table.now) pattern.now «record».now (length answer.old) }
+    ensures buffer { answer.new ≡ plain_buffer_of (simply table.now) pattern.now «record».now answer.old }
+    ensures demand { PlainDemanded (simply table.now) pattern.now «record».now answer.old result answer.new }
 {
     match_plain_brought(
         Edition::One,
@@ -128,9 +127,9 @@ pub fn match_plain_in(
     record: &[u8],
     answer: &mut [u16],
 ) -> Answer
-    ensures is { result ≡ plain_of (bringing edition (old table) (old classes)) (old pattern) (old «record») (length (old answer)) }
-    ensures buffer { new answer ≡ plain_buffer_of (bringing edition (old table) (old classes)) (old pattern) (old «record») (old answer) }
-    ensures demand { PlainDemanded (bringing edition (old table) (old classes)) (old pattern) (old «record») (old answer) result (new answer) }
+    ensures is { result ≡ plain_of (bringing edition table.now classes.now) pattern.now «record».now (length answer.old) }
+    ensures buffer { answer.new ≡ plain_buffer_of (bringing edition table.now classes.now) pattern.now «record».now answer.old }
+    ensures demand { PlainDemanded (bringing edition table.now classes.now) pattern.now «record».now answer.old result answer.new }
 {
     match_plain_brought(edition, table, true, classes, pattern, record, answer)
 }

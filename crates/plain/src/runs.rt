@@ -1,6 +1,5 @@
 // The run names of a list.
 ghost use Rattle.std.specs.Prelude.{◌≡◌, ◌<◌, ◌≤◌, length};
-ghost use Rattle.term.specs.Moment.{old};
 ghost use Rattle.term.specs.Code.{variables};
 ghost use Rattle.term.specs.Extent.{extent_of};
 ghost use Rattle.plain.specs.Bytes.{also_run, runs_among, no_runs, is_leaf};
@@ -8,7 +7,7 @@ ghost use Rattle.plain.specs.Bytes.{also_run, runs_among, no_runs, is_leaf};
 use term::Code;
 
 // How many run names there are, and the variable of the last of them.
-#[derive(Drop)]
+#[derive(Clone, Copy)]
 pub struct Runs {
     pub number: u8,
     pub variable: u8,
@@ -34,8 +33,8 @@ fn also_run(code: Code, found: Runs) -> Runs
 // The bytes of the tree that starts s; most children are one byte.
 fn tree_bytes(table: &[u8], s: &[u8]) -> usize
     requires { 0 < length s.now }
-    ensures is { result ≡ extent_of (old table) (old s) }
-    ensures within { result ≤ length (old s) }
+    ensures is { result ≡ extent_of table.now s.now }
+    ensures within { result ≤ length s.now }
 {
     if term::entry_of(table, s[0]) == 0 {
         return 1;
@@ -45,7 +44,7 @@ fn tree_bytes(table: &[u8], s: &[u8]) -> usize
 
 // Whether a code is a symbol without children.
 pub(crate) fn is_leaf(table: &[u8], code: Code) -> bool
-    ensures { result ≡ is_leaf (old table) code }
+    ensures { result ≡ is_leaf table.now code }
 {
     match code {
         Code::Symbol(b) => term::entry_of(table, b) == 0,
@@ -58,7 +57,7 @@ pub(crate) fn is_leaf(table: &[u8], code: Code) -> bool
 
 // The run names among the first n trees of s, which are children of one node.
 pub(crate) fn runs_among(table: &[u8], s: &[u8], n: u8) -> Runs
-    ensures is { result ≡ runs_among (old table) (old s) n no_runs }
+    ensures is { result ≡ runs_among table.now s.now n no_runs }
     ensures few { (result.number ≤ n) × (result.variable < variables) }
 {
     let mut found = Runs {

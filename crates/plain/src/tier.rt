@@ -2,7 +2,6 @@
 ghost use Rattle.std.specs.Prelude.{◌≡◌, ◌^◌, ◌<◌, ◌≤◌, length, set};
 ghost use Rattle.std.specs.Int.Bits.{bit_or};
 ghost use Rattle.answers.specs.Part.{bound_part};
-ghost use Rattle.term.specs.Moment.{old, new};
 ghost use Rattle.term.specs.Code.{variables};
 ghost use Rattle.term.specs.Limits.{longest_pattern};
 ghost use Rattle.parts.specs.Packed.{packed};
@@ -16,7 +15,7 @@ use term::{Code, LIST, VARIABLES, extents};
 
 // What one turn of the tier does: a node fails, its children are entered, a list's run name has its length noted, a name takes the node of so many
 // bytes, a run name takes its run.
-#[derive(Drop)]
+#[derive(Clone, Copy)]
 pub enum Turn {
     Fails,
     Enters(usize),
@@ -26,7 +25,7 @@ pub enum Turn {
 }
 
 // Whether all nodes of the pattern hold, the count, and which variables are assigned.
-#[derive(Drop)]
+#[derive(Clone, Copy)]
 pub struct Tiering {
     pub fits: bool,
     pub count: u32,
@@ -41,8 +40,8 @@ fn wide(b: u8) -> usize
 
 // A list against a list: where the numbers of children differ, a run name takes what its other child patterns leave.
 fn list_step(table: &[u8], q: &[u8], r: &[u8]) -> Turn
-    ensures is { result ≡ list_of (old table) (old q) (old r) }
-    ensures within { TurnWithin (old q) (old r) result }
+    ensures is { result ≡ list_of table.now q.now r.now }
+    ensures within { TurnWithin q.now r.now result }
 {
     if q.len() < 2 {
         return Turn::Fails;
@@ -68,8 +67,8 @@ fn list_step(table: &[u8], q: &[u8], r: &[u8]) -> Turn
 // A symbol: its children are entered. Pattern and record start at the pair in q and r.
 fn symbol_step(table: &[u8], classes: &[u8], q: &[u8], r: &[u8], b: u8) -> Turn
     requires { 0 < length q.now }
-    ensures is { result ≡ symbol_of (old table) (old classes) (old q) (old r) b }
-    ensures within { TurnWithin (old q) (old r) result }
+    ensures is { result ≡ symbol_of table.now classes.now q.now r.now b }
+    ensures within { TurnWithin q.now r.now result }
 {
     if r.len() == 0 {
         return Turn::Fails;
@@ -86,8 +85,8 @@ fn symbol_step(table: &[u8], classes: &[u8], q: &[u8], r: &[u8], b: u8) -> Turn
 // The pattern node that starts q, set against the record's bytes r.
 fn step_at(table: &[u8], classes: &[u8], q: &[u8], r: &[u8]) -> Turn
     requires { 0 < length q.now }
-    ensures is { result ≡ turn_of (old table) (old classes) (old q) (old r) }
-    ensures within { TurnWithin (old q) (old r) result }
+    ensures is { result ≡ turn_of table.now classes.now q.now r.now }
+    ensures within { TurnWithin q.now r.now result }
 {
     let code = term::decode(q[0]);
     match code {
@@ -102,7 +101,7 @@ fn step_at(table: &[u8], classes: &[u8], q: &[u8], r: &[u8]) -> Turn
 // The variable v takes n elements of so many bytes.
 fn take(parts: &mut [u64; PARTS], assigned: u64, v: u8, node: usize, size: usize, n: u8) -> u64
     requires { v < variables }
-    ensures { (result ≡ bit_or assigned (2 ^ v)) × (new parts ≡ set (old parts) v (packed (bound_part node size n))) }
+    ensures { (result ≡ bit_or assigned (2 ^ v)) × (parts.new ≡ set parts.old v (packed (bound_part node size n))) }
 {
     let i = wide(v);
     parts[i] = parts::packed(Part::bound(node, size, n));
@@ -111,8 +110,8 @@ fn take(parts: &mut [u64; PARTS], assigned: u64, v: u8, node: usize, size: usize
 
 // How many nodes at the start of q are symbols without children that hold, each against the byte of r at its place.
 fn leaves(table: &[u8], classes: &[u8], q: &[u8], r: &[u8]) -> usize
-    ensures is { result ≡ leaves_of (old table) (old classes) (old q) (old r) }
-    ensures within { (result ≤ length (old q)) × (result ≤ length (old r)) }
+    ensures is { result ≡ leaves_of table.now classes.now q.now r.now }
+    ensures within { (result ≤ length q.now) × (result ≤ length r.now) }
 {
     let mut n: usize = 0;
     while n < q.len() {
@@ -139,8 +138,8 @@ pub(crate) fn tier(
     parts: &mut [u64; PARTS],
 ) -> Tiering
     requires { length pattern.now ≤ longest_pattern }
-    ensures is { result ≡ tiering_of (tier_on (old table) (old classes) (old pattern) (old «record») (old parts)) }
-    ensures parts { new parts ≡ (tier_on (old table) (old classes) (old pattern) (old «record») (old parts)).parts }
+    ensures is { result ≡ tiering_of (tier_on table.now classes.now pattern.now «record».now parts.old) }
+    ensures parts { parts.new ≡ (tier_on table.now classes.now pattern.now «record».now parts.old).parts }
 {
     let mut lengths = [1u8; VARIABLES];
     let mut at: usize = 0;

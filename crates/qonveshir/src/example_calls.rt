@@ -1,6 +1,5 @@
 // The least example.
 ghost use Rattle.std.specs.Prelude.{◌≡◌, length};
-ghost use Rattle.term.specs.Moment.{old, new};
 ghost use Rattle.reader.specs.Brought.{simply};
 ghost use Rattle.example.specs.Call.{example_of, output_of};
 ghost use Rattle.example.specs.Demands.{DemandedOf};
@@ -18,9 +17,9 @@ pub extern "C" fn qonveshir_example(
     allowance: u32,
     output: &mut [u8],
 ) -> Written
-    ensures is { result ≡ applied_shown (example_of (simply (old table)) (old pattern) size allowance (length (old output))) }
-    ensures contents { new output ≡ output_of (simply (old table)) (old pattern) size allowance (old output) }
-    ensures demand { DemandedOf (simply (old table)) (old pattern) size allowance (old output) (new output) }
+    ensures is { result ≡ applied_shown (example_of (simply table.now) pattern.now size allowance (length output.old)) }
+    ensures contents { output.new ≡ output_of (simply table.now) pattern.now size allowance output.old }
+    ensures demand { DemandedOf (simply table.now) pattern.now size allowance output.old output.new }
 {
     let a = example::example(table, pattern, size, allowance, output);
     applied_shown(a)
@@ -37,9 +36,9 @@ pub extern "C" fn qonveshir_example_in(
     allowance: u32,
     output: &mut [u8],
 ) -> Written
-    ensures is { result ≡ example_in edition (old table) (old classes) (old pattern) size allowance (length (old output)) }
-    ensures contents { new output ≡ example_left edition (old table) (old classes) (old pattern) size allowance (old output) }
-    ensures demand { ExampleDemandedIn edition (old table) (old classes) (old pattern) size allowance (old output) (new output) }
+    ensures is { result ≡ example_in edition table.now classes.now pattern.now size allowance (length output.old) }
+    ensures contents { output.new ≡ example_left edition table.now classes.now pattern.now size allowance output.old }
+    ensures demand { ExampleDemandedIn edition table.now classes.now pattern.now size allowance output.old output.new }
 {
     let t = edition_of(edition);
     let Told::In(e) = t else {

@@ -9,7 +9,6 @@ ghost use Rattle.std.specs.Prelude.{◌≡◌, true, false, ◌≤◌, length};
 ghost use Rattle.std.proofs.Math.Option.{none, some};
 ghost use Rattle.answers.specs.Answers.{rule_index, applied_length};
 ghost use Rattle.byte_answers.specs.Answers.{checked_index, writing_index};
-ghost use Rattle.term.specs.Moment.{old, new};
 ghost use Rattle.reader.specs.Brought.{simply};
 ghost use Rattle.cost.specs.Call.{cost_of};
 ghost use Rattle.cost.specs.Demands.{Demanded as CostDemanded};
@@ -45,7 +44,7 @@ use term::Edition;
 
 // Document 01's number, 0 where nothing is refused; the index of the rule shown or of the entry at fault, else 0; and the count.
 #[repr(C)]
-#[derive(Drop)]
+#[derive(Clone, Copy)]
 pub struct Outcome {
     pub number: u32,
     pub index: u32,
@@ -53,7 +52,7 @@ pub struct Outcome {
 }
 
 // What a number tells of the edition.
-#[derive(Drop)]
+#[derive(Clone, Copy)]
 enum Told {
     In(Edition),
     Nothing,
@@ -61,7 +60,7 @@ enum Told {
 
 // Where an entry lies in its sheet, or the number of the refusal.
 #[repr(C)]
-#[derive(Drop)]
+#[derive(Clone, Copy)]
 pub struct Part {
     pub number: u32,
     pub offset: u32,
@@ -70,7 +69,7 @@ pub struct Part {
 
 // Document 01's number, 0 where nothing is refused; the length of the result, 0 unless bound; and the count.
 #[repr(C)]
-#[derive(Drop)]
+#[derive(Clone, Copy)]
 pub struct Written {
     pub number: u32,
     pub length: u32,
@@ -191,9 +190,9 @@ pub extern "C" fn qonveshir_match(
     allowance: u32,
     answer: &mut [u16],
 ) -> Outcome
-    ensures is { result ≡ answer_shown (answer_of (simply (old table)) (old pattern) (old «record») allowance (length (old answer))) }
-    ensures buffer { new answer ≡ buffer_of (simply (old table)) (old pattern) (old «record») allowance (old answer) }
-    ensures demand { DemandedOf (simply (old table)) (old pattern) (old «record») (old answer) allowance (new answer) }
+    ensures is { result ≡ answer_shown (answer_of (simply table.now) pattern.now «record».now allowance (length answer.old)) }
+    ensures buffer { answer.new ≡ buffer_of (simply table.now) pattern.now «record».now allowance answer.old }
+    ensures demand { DemandedOf (simply table.now) pattern.now «record».now answer.old allowance answer.new }
 {
     let a = matcher::match_one(table, pattern, record, allowance, answer);
     answer_shown(a)
@@ -210,9 +209,9 @@ pub extern "C" fn qonveshir_match_in(
     allowance: u32,
     answer: &mut [u16],
 ) -> Outcome
-    ensures is { result ≡ match_in edition (old table) (old classes) (old pattern) (old «record») allowance (length (old answer)) }
-    ensures buffer { new answer ≡ match_left edition (old table) (old classes) (old pattern) (old «record») allowance (old answer) }
-    ensures demand { MatchDemandedIn edition (old table) (old classes) (old pattern) (old «record») (old answer) allowance (new answer) }
+    ensures is { result ≡ match_in edition table.now classes.now pattern.now «record».now allowance (length answer.old) }
+    ensures buffer { answer.new ≡ match_left edition table.now classes.now pattern.now «record».now allowance answer.old }
+    ensures demand { MatchDemandedIn edition table.now classes.now pattern.now «record».now answer.old allowance answer.new }
 {
     let t = edition_of(edition);
     let Told::In(e) = t else {
@@ -232,9 +231,9 @@ pub extern "C" fn qonveshir_next(
     allowance: u32,
     answer: &mut [u16],
 ) -> Outcome
-    ensures is { result ≡ answer_shown (next_of (simply (old table)) (old pattern) (old «record») (old given) allowance (length (old answer))) }
-    ensures buffer { new answer ≡ next_buffer_of (simply (old table)) (old pattern) (old «record») (old given) allowance (old answer) }
-    ensures demand { NextDemandedOf (simply (old table)) (old pattern) (old «record») (old given) (old answer) allowance (new answer) }
+    ensures is { result ≡ answer_shown (next_of (simply table.now) pattern.now «record».now given.now allowance (length answer.old)) }
+    ensures buffer { answer.new ≡ next_buffer_of (simply table.now) pattern.now «record».now given.now allowance answer.old }
+    ensures demand { NextDemandedOf (simply table.now) pattern.now «record».now given.now answer.old allowance answer.new }
 {
     let a = matcher::next(table, pattern, record, given, allowance, answer);
     answer_shown(a)
@@ -252,9 +251,9 @@ pub extern "C" fn qonveshir_next_in(
     allowance: u32,
     answer: &mut [u16],
 ) -> Outcome
-    ensures is { result ≡ next_in edition (old table) (old classes) (old pattern) (old «record») (old given) allowance (length (old answer)) }
-    ensures buffer { new answer ≡ next_left edition (old table) (old classes) (old pattern) (old «record») (old given) allowance (old answer) }
-    ensures demand { NextDemandedIn edition (old table) (old classes) (old pattern) (old «record») (old given) (old answer) allowance (new answer) }
+    ensures is { result ≡ next_in edition table.now classes.now pattern.now «record».now given.now allowance (length answer.old) }
+    ensures buffer { answer.new ≡ next_left edition table.now classes.now pattern.now «record».now given.now allowance answer.old }
+    ensures demand { NextDemandedIn edition table.now classes.now pattern.now «record».now given.now answer.old allowance answer.new }
 {
     let t = edition_of(edition);
     let Told::In(e) = t else {
@@ -272,9 +271,9 @@ pub extern "C" fn qonveshir_match_plain(
     record: &[u8],
     answer: &mut [u16],
 ) -> Outcome
-    ensures is { result ≡ answer_shown (plain_of (simply (old table)) (old pattern) (old «record») (length (old answer))) }
-    ensures buffer { new answer ≡ plain_buffer_of (simply (old table)) (old pattern) (old «record») (old answer) }
-    ensures demand { PlainDemandedOf (simply (old table)) (old pattern) (old «record») (old answer) (new answer) }
+    ensures is { result ≡ answer_shown (plain_of (simply table.now) pattern.now «record».now (length answer.old)) }
+    ensures buffer { answer.new ≡ plain_buffer_of (simply table.now) pattern.now «record».now answer.old }
+    ensures demand { PlainDemandedOf (simply table.now) pattern.now «record».now answer.old answer.new }
 {
     let a = plain::match_plain(table, pattern, record, answer);
     answer_shown(a)
@@ -290,9 +289,9 @@ pub extern "C" fn qonveshir_match_plain_in(
     record: &[u8],
     answer: &mut [u16],
 ) -> Outcome
-    ensures is { result ≡ plain_in edition (old table) (old classes) (old pattern) (old «record») (length (old answer)) }
-    ensures buffer { new answer ≡ plain_left edition (old table) (old classes) (old pattern) (old «record») (old answer) }
-    ensures demand { PlainDemandedIn edition (old table) (old classes) (old pattern) (old «record») (old answer) (new answer) }
+    ensures is { result ≡ plain_in edition table.now classes.now pattern.now «record».now (length answer.old) }
+    ensures buffer { answer.new ≡ plain_left edition table.now classes.now pattern.now «record».now answer.old }
+    ensures demand { PlainDemandedIn edition table.now classes.now pattern.now «record».now answer.old answer.new }
 {
     let t = edition_of(edition);
     let Told::In(e) = t else {
@@ -311,9 +310,9 @@ pub extern "C" fn qonveshir_match_rules(
     allowance: u32,
     answer: &mut [u16],
 ) -> Outcome
-    ensures is { result ≡ rules_shown (rulesAnswer (in_sheet (old rules) (old table) none) (old rules) (old «record») allowance (length (old answer))) }
-    ensures buffer { new answer ≡ rulesBuffer (in_sheet (old rules) (old table) none) (old rules) (old «record») allowance (old answer) }
-    ensures demand { RulesDemandedOf (in_sheet (old rules) (old table) none) (old rules) (old «record») (old answer) allowance (new answer) }
+    ensures is { result ≡ rules_shown (rulesAnswer (in_sheet rules.now table.now none) rules.now «record».now allowance (length answer.old)) }
+    ensures buffer { answer.new ≡ rulesBuffer (in_sheet rules.now table.now none) rules.now «record».now allowance answer.old }
+    ensures demand { RulesDemandedOf (in_sheet rules.now table.now none) rules.now «record».now answer.old allowance answer.new }
 {
     let a = rules::match_rules(table, rules, record, allowance, answer);
     rules_shown(a)
@@ -329,9 +328,9 @@ pub extern "C" fn qonveshir_match_rules_in(
     allowance: u32,
     answer: &mut [u16],
 ) -> Outcome
-    ensures is { result ≡ rules_shown (rulesAnswer (in_sheet (old rules) (old table) (some (old classes))) (old rules) (old «record») allowance (length (old answer))) }
-    ensures buffer { new answer ≡ rulesBuffer (in_sheet (old rules) (old table) (some (old classes))) (old rules) (old «record») allowance (old answer) }
-    ensures demand { RulesDemandedOf (in_sheet (old rules) (old table) (some (old classes))) (old rules) (old «record») (old answer) allowance (new answer) }
+    ensures is { result ≡ rules_shown (rulesAnswer (in_sheet rules.now table.now (some classes.now)) rules.now «record».now allowance (length answer.old)) }
+    ensures buffer { answer.new ≡ rulesBuffer (in_sheet rules.now table.now (some classes.now)) rules.now «record».now allowance answer.old }
+    ensures demand { RulesDemandedOf (in_sheet rules.now table.now (some classes.now)) rules.now «record».now answer.old allowance answer.new }
 {
     let a = rules::match_rules_in(table, classes, rules, record, allowance, answer);
     rules_shown(a)
@@ -345,9 +344,9 @@ pub extern "C" fn qonveshir_write_sheet(
     lengths: &[u16],
     output: &mut [u8],
 ) -> Outcome
-    ensures is { result ≡ writing_shown (writing (simply (old table)) (old records) (old lengths) (length (old output))) }
-    ensures contents { new output ≡ output_after (simply (old table)) (old records) (old lengths) (old output) }
-    ensures demand { SheetDemanded (simply (old table)) (old records) (old lengths) (old output) result.number result.count (new output) }
+    ensures is { result ≡ writing_shown (writing (simply table.now) records.now lengths.now (length output.old)) }
+    ensures contents { output.new ≡ output_after (simply table.now) records.now lengths.now output.old }
+    ensures demand { SheetDemanded (simply table.now) records.now lengths.now output.old result.number result.count output.new }
 {
     let w = writing::write_sheet(table, records, lengths, output);
     writing_shown(w)
@@ -363,9 +362,9 @@ pub extern "C" fn qonveshir_write_sheet_in(
     lengths: &[u16],
     output: &mut [u8],
 ) -> Outcome
-    ensures is { result ≡ write_in edition (old table) (old classes) (old records) (old lengths) (length (old output)) }
-    ensures contents { new output ≡ write_left edition (old table) (old classes) (old records) (old lengths) (old output) }
-    ensures demand { WriteDemandedIn edition (old table) (old classes) (old records) (old lengths) (old output) result.number result.count (new output) }
+    ensures is { result ≡ write_in edition table.now classes.now records.now lengths.now (length output.old) }
+    ensures contents { output.new ≡ write_left edition table.now classes.now records.now lengths.now output.old }
+    ensures demand { WriteDemandedIn edition table.now classes.now records.now lengths.now output.old result.number result.count output.new }
 {
     let t = edition_of(edition);
     let Told::In(e) = t else {
@@ -378,7 +377,7 @@ pub extern "C" fn qonveshir_write_sheet_in(
 // Where an entry lies in its sheet.
 #[unsafe(no_mangle)]
 pub extern "C" fn qonveshir_entry(sheet: &[u8], index: u32) -> Part
-    ensures { result ≡ place_shown (place_of (old sheet) index) }
+    ensures { result ≡ place_shown (place_of sheet.now index) }
 {
     let place = sheet::place_of(sheet, index as usize);
     part_shown(place.number(), place.offset(), place.length())
@@ -387,7 +386,7 @@ pub extern "C" fn qonveshir_entry(sheet: &[u8], index: u32) -> Part
 // Checks a sheet of at most 64 patterns.
 #[unsafe(no_mangle)]
 pub extern "C" fn qonveshir_check_rules(table: &[u8], sheet: &[u8]) -> Outcome
-    ensures { result ≡ check_shown (check_rules (old table) none (old sheet)) }
+    ensures { result ≡ check_shown (check_rules table.now none sheet.now) }
 {
     check_shown(sheet::check_rules(table, sheet))
 }
@@ -395,7 +394,7 @@ pub extern "C" fn qonveshir_check_rules(table: &[u8], sheet: &[u8]) -> Outcome
 // The same with a class list.
 #[unsafe(no_mangle)]
 pub extern "C" fn qonveshir_check_rules_in(table: &[u8], classes: &[u8], sheet: &[u8]) -> Outcome
-    ensures { result ≡ check_shown (check_rules (old table) (some (old classes)) (old sheet)) }
+    ensures { result ≡ check_shown (check_rules table.now (some classes.now) sheet.now) }
 {
     check_shown(sheet::check_rules_in(table, classes, sheet))
 }
@@ -403,7 +402,7 @@ pub extern "C" fn qonveshir_check_rules_in(table: &[u8], classes: &[u8], sheet: 
 // Checks a sheet of records.
 #[unsafe(no_mangle)]
 pub extern "C" fn qonveshir_check_states(table: &[u8], sheet: &[u8]) -> Outcome
-    ensures { result ≡ check_shown (check_states (old table) none (old sheet)) }
+    ensures { result ≡ check_shown (check_states table.now none sheet.now) }
 {
     check_shown(sheet::check_states(table, sheet))
 }
@@ -411,7 +410,7 @@ pub extern "C" fn qonveshir_check_states(table: &[u8], sheet: &[u8]) -> Outcome
 // The same with a class list.
 #[unsafe(no_mangle)]
 pub extern "C" fn qonveshir_check_states_in(table: &[u8], classes: &[u8], sheet: &[u8]) -> Outcome
-    ensures { result ≡ check_shown (check_states (old table) (some (old classes)) (old sheet)) }
+    ensures { result ≡ check_shown (check_states table.now (some classes.now) sheet.now) }
 {
     check_shown(sheet::check_states_in(table, classes, sheet))
 }
@@ -419,8 +418,8 @@ pub extern "C" fn qonveshir_check_states_in(table: &[u8], classes: &[u8], sheet:
 // What a pattern can cost at most.
 #[unsafe(no_mangle)]
 pub extern "C" fn qonveshir_cost(table: &[u8], pattern: &[u8]) -> Outcome
-    ensures is { result ≡ cost_shown (cost_of (simply (old table)) (old pattern)) }
-    ensures demand { CostDemanded (simply (old table)) (old pattern) (cost_of (simply (old table)) (old pattern)) }
+    ensures is { result ≡ cost_shown (cost_of (simply table.now) pattern.now) }
+    ensures demand { CostDemanded (simply table.now) pattern.now (cost_of (simply table.now) pattern.now) }
 {
     let c = cost::cost_of(table, pattern);
     cost_shown(c)
@@ -434,8 +433,8 @@ pub extern "C" fn qonveshir_cost_in(
     classes: &[u8],
     pattern: &[u8],
 ) -> Outcome
-    ensures is { result ≡ cost_in edition (old table) (old classes) (old pattern) }
-    ensures demand { CostDemandedIn edition (old table) (old classes) (old pattern) }
+    ensures is { result ≡ cost_in edition table.now classes.now pattern.now }
+    ensures demand { CostDemandedIn edition table.now classes.now pattern.now }
 {
     let t = edition_of(edition);
     let Told::In(e) = t else {
@@ -448,9 +447,9 @@ pub extern "C" fn qonveshir_cost_in(
 // Writes the stored form of a record.
 #[unsafe(no_mangle)]
 pub extern "C" fn qonveshir_store(table: &[u8], record: &[u8], output: &mut [u8]) -> Outcome
-    ensures shown { result ≡ move_shown (moved (storing (simply (old table)) (old «record»)) (length (old output))) }
-    ensures contents { new output ≡ outputMoved (storing (simply (old table)) (old «record»)) (old output) }
-    ensures demand { StoreDemanded (simply (old table)) (old «record») (old output) result.number result.count (new output) }
+    ensures shown { result ≡ move_shown (moved (storing (simply table.now) «record».now) (length output.old)) }
+    ensures contents { output.new ≡ outputMoved (storing (simply table.now) «record».now) output.old }
+    ensures demand { StoreDemanded (simply table.now) «record».now output.old result.number result.count output.new }
 {
     let m = stored::store(table, record, output);
     move_shown(m)
@@ -465,9 +464,9 @@ pub extern "C" fn qonveshir_store_in(
     record: &[u8],
     output: &mut [u8],
 ) -> Outcome
-    ensures shown { result ≡ store_in edition (old table) (old classes) (old «record») (length (old output)) }
-    ensures contents { new output ≡ store_left edition (old table) (old classes) (old «record») (old output) }
-    ensures demand { StoreDemandedIn edition (old table) (old classes) (old «record») (old output) result.number result.count (new output) }
+    ensures shown { result ≡ store_in edition table.now classes.now «record».now (length output.old) }
+    ensures contents { output.new ≡ store_left edition table.now classes.now «record».now output.old }
+    ensures demand { StoreDemandedIn edition table.now classes.now «record».now output.old result.number result.count output.new }
 {
     let t = edition_of(edition);
     let Told::In(e) = t else {
@@ -480,9 +479,9 @@ pub extern "C" fn qonveshir_store_in(
 // Writes the old form of a stored record.
 #[unsafe(no_mangle)]
 pub extern "C" fn qonveshir_restore(table: &[u8], stored: &[u8], output: &mut [u8]) -> Outcome
-    ensures shown { result ≡ move_shown (moved (restoring (simply (old table)) (old stored)) (length (old output))) }
-    ensures contents { new output ≡ outputMoved (restoring (simply (old table)) (old stored)) (old output) }
-    ensures demand { RestoreDemanded (simply (old table)) (old stored) (old output) result.number result.count (new output) }
+    ensures shown { result ≡ move_shown (moved (restoring (simply table.now) stored.now) (length output.old)) }
+    ensures contents { output.new ≡ outputMoved (restoring (simply table.now) stored.now) output.old }
+    ensures demand { RestoreDemanded (simply table.now) stored.now output.old result.number result.count output.new }
 {
     let m = stored::restore(table, stored, output);
     move_shown(m)
@@ -497,9 +496,9 @@ pub extern "C" fn qonveshir_restore_in(
     stored: &[u8],
     output: &mut [u8],
 ) -> Outcome
-    ensures shown { result ≡ restore_in edition (old table) (old classes) (old stored) (length (old output)) }
-    ensures contents { new output ≡ restore_left edition (old table) (old classes) (old stored) (old output) }
-    ensures demand { RestoreDemandedIn edition (old table) (old classes) (old stored) (old output) result.number result.count (new output) }
+    ensures shown { result ≡ restore_in edition table.now classes.now stored.now (length output.old) }
+    ensures contents { output.new ≡ restore_left edition table.now classes.now stored.now output.old }
+    ensures demand { RestoreDemandedIn edition table.now classes.now stored.now output.old result.number result.count output.new }
 {
     let t = edition_of(edition);
     let Told::In(e) = t else {
@@ -512,9 +511,9 @@ pub extern "C" fn qonveshir_restore_in(
 // Splices an edition 1 record.
 #[unsafe(no_mangle)]
 pub extern "C" fn qonveshir_splice_record(table: &[u8], record: &[u8], output: &mut [u8]) -> Outcome
-    ensures shown { result ≡ move_shown (shown_of (call true (old table) none (length (old output)) (old «record»))) }
-    ensures contents { new output ≡ outputSpliced (old output) (call true (old table) none (length (old output)) (old «record»)) }
-    ensures demand { SpliceDemanded true (old table) none (old «record») (old output) result.number result.count (new output) }
+    ensures shown { result ≡ move_shown (shown_of (call true table.now none (length output.old) «record».now)) }
+    ensures contents { output.new ≡ outputSpliced output.old (call true table.now none (length output.old) «record».now) }
+    ensures demand { SpliceDemanded true table.now none «record».now output.old result.number result.count output.new }
 {
     let m = splice::splice_record(table, record, output);
     move_shown(m)
@@ -528,9 +527,9 @@ pub extern "C" fn qonveshir_splice_record_in(
     record: &[u8],
     output: &mut [u8],
 ) -> Outcome
-    ensures shown { result ≡ move_shown (shown_of (call true (old table) (some (old classes)) (length (old output)) (old «record»))) }
-    ensures contents { new output ≡ outputSpliced (old output) (call true (old table) (some (old classes)) (length (old output)) (old «record»)) }
-    ensures demand { SpliceDemanded true (old table) (some (old classes)) (old «record») (old output) result.number result.count (new output) }
+    ensures shown { result ≡ move_shown (shown_of (call true table.now (some classes.now) (length output.old) «record».now)) }
+    ensures contents { output.new ≡ outputSpliced output.old (call true table.now (some classes.now) (length output.old) «record».now) }
+    ensures demand { SpliceDemanded true table.now (some classes.now) «record».now output.old result.number result.count output.new }
 {
     let m = splice::splice_record_in(table, classes, record, output);
     move_shown(m)
@@ -543,9 +542,9 @@ pub extern "C" fn qonveshir_splice_pattern(
     pattern: &[u8],
     output: &mut [u8],
 ) -> Outcome
-    ensures shown { result ≡ move_shown (shown_of (call false (old table) none (length (old output)) (old pattern))) }
-    ensures contents { new output ≡ outputSpliced (old output) (call false (old table) none (length (old output)) (old pattern)) }
-    ensures demand { SpliceDemanded false (old table) none (old pattern) (old output) result.number result.count (new output) }
+    ensures shown { result ≡ move_shown (shown_of (call false table.now none (length output.old) pattern.now)) }
+    ensures contents { output.new ≡ outputSpliced output.old (call false table.now none (length output.old) pattern.now) }
+    ensures demand { SpliceDemanded false table.now none pattern.now output.old result.number result.count output.new }
 {
     let m = splice::splice_pattern(table, pattern, output);
     move_shown(m)
@@ -559,9 +558,9 @@ pub extern "C" fn qonveshir_splice_pattern_in(
     pattern: &[u8],
     output: &mut [u8],
 ) -> Outcome
-    ensures shown { result ≡ move_shown (shown_of (call false (old table) (some (old classes)) (length (old output)) (old pattern))) }
-    ensures contents { new output ≡ outputSpliced (old output) (call false (old table) (some (old classes)) (length (old output)) (old pattern)) }
-    ensures demand { SpliceDemanded false (old table) (some (old classes)) (old pattern) (old output) result.number result.count (new output) }
+    ensures shown { result ≡ move_shown (shown_of (call false table.now (some classes.now) (length output.old) pattern.now)) }
+    ensures contents { output.new ≡ outputSpliced output.old (call false table.now (some classes.now) (length output.old) pattern.now) }
+    ensures demand { SpliceDemanded false table.now (some classes.now) pattern.now output.old result.number result.count output.new }
 {
     let m = splice::splice_pattern_in(table, classes, pattern, output);
     move_shown(m)
@@ -577,9 +576,9 @@ pub extern "C" fn qonveshir_apply(
     allowance: u32,
     output: &mut [u8],
 ) -> Written
-    ensures is { result ≡ applied_shown (apply_of (simply (old table)) (old pattern) (old template) (old «record») allowance (length (old output))) }
-    ensures contents { new output ≡ output_of (simply (old table)) (old pattern) (old template) (old «record») allowance (old output) }
-    ensures demand { ApplyDemandedOf (simply (old table)) (old pattern) (old template) (old «record») (old output) allowance (new output) }
+    ensures is { result ≡ applied_shown (apply_of (simply table.now) pattern.now template.now «record».now allowance (length output.old)) }
+    ensures contents { output.new ≡ output_of (simply table.now) pattern.now template.now «record».now allowance output.old }
+    ensures demand { ApplyDemandedOf (simply table.now) pattern.now template.now «record».now output.old allowance output.new }
 {
     let a = replace::apply(table, pattern, template, record, allowance, output);
     applied_shown(a)
@@ -597,9 +596,9 @@ pub extern "C" fn qonveshir_apply_in(
     allowance: u32,
     output: &mut [u8],
 ) -> Written
-    ensures is { result ≡ apply_in edition (old table) (old classes) (old pattern) (old template) (old «record») allowance (length (old output)) }
-    ensures contents { new output ≡ apply_left edition (old table) (old classes) (old pattern) (old template) (old «record») allowance (old output) }
-    ensures demand { ApplyDemandedIn edition (old table) (old classes) (old pattern) (old template) (old «record») (old output) allowance (new output) }
+    ensures is { result ≡ apply_in edition table.now classes.now pattern.now template.now «record».now allowance (length output.old) }
+    ensures contents { output.new ≡ apply_left edition table.now classes.now pattern.now template.now «record».now allowance output.old }
+    ensures demand { ApplyDemandedIn edition table.now classes.now pattern.now template.now «record».now output.old allowance output.new }
 {
     let t = edition_of(edition);
     let Told::In(e) = t else {
@@ -620,8 +619,8 @@ pub extern "C" fn qonveshir_look(
     record: &[u8],
     allowance: u32,
 ) -> Written
-    ensures is { result ≡ applied_shown (look_of (simply (old table)) (old pattern) (old template) (old «record») allowance) }
-    ensures demand { LookDemandedOf (simply (old table)) (old pattern) (old template) (old «record») allowance }
+    ensures is { result ≡ applied_shown (look_of (simply table.now) pattern.now template.now «record».now allowance) }
+    ensures demand { LookDemandedOf (simply table.now) pattern.now template.now «record».now allowance }
 {
     let a = replace::look(table, pattern, template, record, allowance);
     applied_shown(a)
@@ -638,8 +637,8 @@ pub extern "C" fn qonveshir_look_in(
     record: &[u8],
     allowance: u32,
 ) -> Written
-    ensures is { result ≡ look_in edition (old table) (old classes) (old pattern) (old template) (old «record») allowance }
-    ensures demand { LookDemandedIn edition (old table) (old classes) (old pattern) (old template) (old «record») allowance }
+    ensures is { result ≡ look_in edition table.now classes.now pattern.now template.now «record».now allowance }
+    ensures demand { LookDemandedIn edition table.now classes.now pattern.now template.now «record».now allowance }
 {
     let t = edition_of(edition);
     let Told::In(e) = t else {

@@ -1,6 +1,5 @@
 // The calls on a station. Each takes the station's struct by `&mut`, has a function change a copy, and stores that back.
 ghost use Rattle.std.specs.Prelude.{◌≡◌};
-ghost use Rattle.term.specs.Moment.{old, new};
 ghost use Rattle.reader.specs.Brought.{simply};
 ghost use Rattle.qonveshir.specs.Station.{change_shown, NewShown, NewShownIn, KeepShown, ReturnShown, ApplyShown, ApplyShownIn};
 
@@ -9,14 +8,14 @@ use byte_answers::Change;
 use station::Station;
 
 // A station as a call leaves it, with the answer as it is shown.
-#[derive(Drop)]
+#[derive(Clone, Copy)]
 pub struct Changed {
     pub answer: Outcome,
     pub station: Station,
 }
 
 // The same after an apply.
-#[derive(Drop)]
+#[derive(Clone, Copy)]
 pub struct Replaced {
     pub answer: Written,
     pub station: Station,
@@ -29,7 +28,7 @@ fn change_shown(c: Change) -> Outcome
 }
 
 fn new_shown(table: &[u8], record: &[u8], station: Station, records: &mut [u8]) -> Changed
-    ensures { NewShown (simply (old table)) (old «record») station (old records) result.answer result.station (new records) }
+    ensures { NewShown (simply table.now) «record».now station records.old result.answer result.station records.new }
 {
     let changed = station::new_by_value(table, record, station, records);
     let answer = changed.answer;
@@ -48,7 +47,7 @@ fn new_shown_in(
     station: Station,
     records: &mut [u8],
 ) -> Changed
-    ensures { NewShownIn edition (old table) (old classes) (old «record») station (old records) result.answer result.station (new records) }
+    ensures { NewShownIn edition table.now classes.now «record».now station records.old result.answer result.station records.new }
 {
     let t = edition_of(edition);
     let Told::In(e) = t else {
@@ -67,7 +66,7 @@ fn new_shown_in(
 }
 
 fn keep_shown(name: u16, station: Station, records: &mut [u8]) -> Changed
-    ensures { KeepShown name station (old records) result.answer result.station (new records) }
+    ensures { KeepShown name station records.old result.answer result.station records.new }
 {
     let changed = station::keep_by_value(name, station, records);
     let answer = changed.answer;
@@ -79,7 +78,7 @@ fn keep_shown(name: u16, station: Station, records: &mut [u8]) -> Changed
 }
 
 fn return_shown(name: u16, station: Station, records: &mut [u8]) -> Changed
-    ensures { ReturnShown name station (old records) result.answer result.station (new records) }
+    ensures { ReturnShown name station records.old result.answer result.station records.new }
 {
     let changed = station::return_by_value(name, station, records);
     let answer = changed.answer;
@@ -98,7 +97,7 @@ fn apply_shown(
     station: Station,
     records: &mut [u8],
 ) -> Replaced
-    ensures { ApplyShown (simply (old table)) (old pattern) (old template) allowance station (old records) result.answer result.station (new records) }
+    ensures { ApplyShown (simply table.now) pattern.now template.now allowance station records.old result.answer result.station records.new }
 {
     let replaced = station::apply_by_value(table, pattern, template, allowance, station, records);
     let answer = replaced.answer;
@@ -119,7 +118,7 @@ fn apply_shown_in(
     station: Station,
     records: &mut [u8],
 ) -> Replaced
-    ensures { ApplyShownIn edition (old table) (old classes) (old pattern) (old template) allowance station (old records) result.answer result.station (new records) }
+    ensures { ApplyShownIn edition table.now classes.now pattern.now template.now allowance station records.old result.answer result.station records.new }
 {
     let t = edition_of(edition);
     let Told::In(e) = t else {
@@ -147,7 +146,7 @@ pub extern "C" fn qonveshir_station_new(
     station: &mut Station,
     records: &mut [u8],
 ) -> Outcome
-    ensures { NewShown (simply (old table)) (old «record») (old station) (old records) result (new station) (new records) }
+    ensures { NewShown (simply table.now) «record».now station.old records.old result station.new records.new }
 {
     let before = *station;
     let changed = new_shown(table, record, before, records);
@@ -165,7 +164,7 @@ pub extern "C" fn qonveshir_station_new_in(
     station: &mut Station,
     records: &mut [u8],
 ) -> Outcome
-    ensures { NewShownIn edition (old table) (old classes) (old «record») (old station) (old records) result (new station) (new records) }
+    ensures { NewShownIn edition table.now classes.now «record».now station.old records.old result station.new records.new }
 {
     let before = *station;
     let changed = new_shown_in(edition, table, classes, record, before, records);
@@ -180,7 +179,7 @@ pub extern "C" fn qonveshir_station_keep(
     station: &mut Station,
     records: &mut [u8],
 ) -> Outcome
-    ensures { KeepShown name (old station) (old records) result (new station) (new records) }
+    ensures { KeepShown name station.old records.old result station.new records.new }
 {
     let before = *station;
     let changed = keep_shown(name, before, records);
@@ -195,7 +194,7 @@ pub extern "C" fn qonveshir_station_return(
     station: &mut Station,
     records: &mut [u8],
 ) -> Outcome
-    ensures { ReturnShown name (old station) (old records) result (new station) (new records) }
+    ensures { ReturnShown name station.old records.old result station.new records.new }
 {
     let before = *station;
     let changed = return_shown(name, before, records);
@@ -213,7 +212,7 @@ pub extern "C" fn qonveshir_station_apply(
     station: &mut Station,
     records: &mut [u8],
 ) -> Written
-    ensures { ApplyShown (simply (old table)) (old pattern) (old template) allowance (old station) (old records) result (new station) (new records) }
+    ensures { ApplyShown (simply table.now) pattern.now template.now allowance station.old records.old result station.new records.new }
 {
     let before = *station;
     let changed = apply_shown(table, pattern, template, allowance, before, records);
@@ -233,7 +232,7 @@ pub extern "C" fn qonveshir_station_apply_in(
     station: &mut Station,
     records: &mut [u8],
 ) -> Written
-    ensures { ApplyShownIn edition (old table) (old classes) (old pattern) (old template) allowance (old station) (old records) result (new station) (new records) }
+    ensures { ApplyShownIn edition table.now classes.now pattern.now template.now allowance station.old records.old result station.new records.new }
 {
     let before = *station;
     let changed = apply_shown_in(

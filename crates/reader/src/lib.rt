@@ -2,7 +2,6 @@
 #![tactic(auto)]
 
 ghost use Rattle.std.specs.Prelude.{◌≡◌, true, false, ◌-◌};
-ghost use Rattle.term.specs.Moment.{old};
 ghost use Rattle.term.specs.Code.{code_in};
 ghost use Rattle.term.specs.Language.{language, simple};
 ghost use Rattle.term.specs.Limits.{nesting, longest};
@@ -24,7 +23,7 @@ pub const FRAMES: usize = NESTING as usize;
 const FEW_PARENTS: u8 = NESTING - 1;
 
 // The checks of one node: its own bytes, its number of children, where these stand, and the nesting left for them.
-#[derive(Drop)]
+#[derive(Clone, Copy)]
 pub enum Node {
     Open {
         size: usize,
@@ -36,7 +35,7 @@ pub enum Node {
 }
 
 // Trees that are still to be read: how many, the nesting left for them, and where they stand.
-#[derive(Drop)]
+#[derive(Clone, Copy)]
 pub struct Frame {
     pub count: u8,
     pub left: u8,
@@ -107,7 +106,7 @@ pub fn in_list(stand: Stand) -> bool
 
 // Whether a list of symbol b stands directly in a list of the same symbol, up to class.
 fn is_direct(classes: &[u8], stand: Stand, b: u8) -> bool
-    ensures { result ≡ directly (old classes) stand (Stand.InList b) }
+    ensures { result ≡ directly classes.now stand (Stand.InList b) }
 {
     match stand {
         Stand::InList(s) => term::same_symbol(classes, s, b),
@@ -117,7 +116,7 @@ fn is_direct(classes: &[u8], stand: Stand, b: u8) -> bool
 
 // Whether a list of symbol b is to be spliced there.
 fn is_unspliced(edition: Edition, classes: &[u8], stand: Stand, b: u8) -> bool
-    ensures { result ≡ unspliced edition (old classes) stand (Stand.InList b) }
+    ensures { result ≡ unspliced edition classes.now stand (Stand.InList b) }
 {
     match edition {
         Edition::One => false,
@@ -127,7 +126,7 @@ fn is_unspliced(edition: Edition, classes: &[u8], stand: Stand, b: u8) -> bool
 
 // The node of a list symbol, which is to be spliced there or not.
 fn list_node(s: &[u8], left: u8, b: u8, to_splice: bool) -> Node
-    ensures { result ≡ unless_deep left (unless_unspliced to_splice (list_node b (left - 1) (old s))) }
+    ensures { result ≡ unless_deep left (unless_unspliced to_splice (list_node b (left - 1) s.now)) }
 {
     if left == 0 {
         return Node::Refused(Refusal::Deep);
@@ -156,7 +155,7 @@ fn symbol_node(
     left: u8,
     b: u8,
 ) -> Node
-    ensures { result ≡ code_node (language edition (old table) (old classes)) stand left (old s) (Code.Symbol b) }
+    ensures { result ≡ code_node (language edition table.now classes.now) stand left s.now (Code.Symbol b) }
 {
     let i = wide(b);
     if table.len() <= i {
@@ -179,7 +178,7 @@ pub fn node_at(
     stand: Stand,
     left: u8,
 ) -> Node
-    ensures { result ≡ node_at (language edition (old table) (old classes)) records stand left (old s) }
+    ensures { result ≡ node_at (language edition table.now classes.now) records stand left s.now }
 {
     if s.len() == 0 {
         return Node::Refused(Refusal::Short);
@@ -200,7 +199,7 @@ pub fn node_at(
 }
 
 // The checks of one node in edition 1, which tells its children no more of where they stand than whether that is in a list.
-#[derive(Drop)]
+#[derive(Clone, Copy)]
 enum Opening {
     Open {
         size: usize,
@@ -212,7 +211,7 @@ enum Opening {
 }
 
 // Trees that are still to be read in edition 1.
-#[derive(Drop)]
+#[derive(Clone, Copy)]
 struct Level {
     count: u8,
     left: u8,
@@ -261,7 +260,7 @@ fn simple_stray(left: u8) -> Opening
 
 // The node of a list symbol, in edition 1.
 fn simple_list(s: &[u8], left: u8) -> Opening
-    ensures { result ≡ opening_of (unless_deep left (list_node 0 (left - 1) (old s))) }
+    ensures { result ≡ opening_of (unless_deep left (list_node 0 (left - 1) s.now)) }
 {
     if left == 0 {
         return Opening::Refused(Refusal::Deep);
@@ -279,7 +278,7 @@ fn simple_list(s: &[u8], left: u8) -> Opening
 
 // The node of a symbol, in edition 1.
 fn simple_symbol(table: &[u8], s: &[u8], left: u8, b: u8) -> Opening
-    ensures { result ≡ opening_of (code_node (simple (old table)) Stand.Elsewhere left (old s) (Code.Symbol b)) }
+    ensures { result ≡ opening_of (code_node (simple table.now) Stand.Elsewhere left s.now (Code.Symbol b)) }
 {
     let i = wide(b);
     if table.len() <= i {
@@ -294,7 +293,7 @@ fn simple_symbol(table: &[u8], s: &[u8], left: u8, b: u8) -> Opening
 
 // The node at the start of s, in edition 1.
 fn simple_node(table: &[u8], s: &[u8], records: bool, list: bool, left: u8) -> Opening
-    ensures { result ≡ opening_of (node_at (simple (old table)) records (stand_by list) left (old s)) }
+    ensures { result ≡ opening_of (node_at (simple table.now) records (stand_by list) left s.now) }
 {
     if s.len() == 0 {
         return Opening::Refused(Refusal::Short);
@@ -382,7 +381,7 @@ fn simple_refusal(n: Opening) -> Read
 
 // The tree at the start of s in edition 1, read as by `read_tree`, with levels for frames.
 fn simple_tree(table: &[u8], s: &[u8], records: bool) -> Read
-    ensures { result ≡ shown (read_tree (simple (old table)) records nesting Stand.Elsewhere (old s)) }
+    ensures { result ≡ shown (read_tree (simple table.now) records nesting Stand.Elsewhere s.now) }
 {
     let mut around = [Level::EMPTY; FRAMES];
     let mut depth: usize = 0;
@@ -419,7 +418,7 @@ fn simple_tree(table: &[u8], s: &[u8], records: bool) -> Read
 
 // The tree at the start of s. Still to be read are the trees of `top`, and then those of the frames around it, the innermost first.
 fn read_tree(edition: Edition, table: &[u8], classes: &[u8], s: &[u8], records: bool) -> Read
-    ensures { result ≡ shown (read_tree (language edition (old table) (old classes)) records nesting Stand.Elsewhere (old s)) }
+    ensures { result ≡ shown (read_tree (language edition table.now classes.now) records nesting Stand.Elsewhere s.now) }
 {
     let mut around = [Frame::EMPTY; FRAMES];
     let mut depth: usize = 0;
@@ -467,7 +466,7 @@ fn longest_of(records: bool) -> usize
 
 // Whether a symbol of the table has no children.
 fn is_childless(table: &[u8], b: u8) -> bool
-    ensures { result ≡ childless (old table) b }
+    ensures { result ≡ childless table.now b }
 {
     let i = wide(b);
     if table.len() <= i {
@@ -478,7 +477,7 @@ fn is_childless(table: &[u8], b: u8) -> bool
 
 // Whether s is surely a pattern of edition 1: a symbol without children needs no frames.
 fn is_leaf(table: &[u8], s: &[u8]) -> bool
-    ensures { SurelyRead false (simple (old table)) (old s) result }
+    ensures { SurelyRead false (simple table.now) s.now result }
 {
     if s.len() != 1 {
         return false;
@@ -495,7 +494,7 @@ fn is_leaf(table: &[u8], s: &[u8]) -> bool
 
 // The whole of s as one tree, in edition 1.
 fn simple_whole(records: bool, table: &[u8], s: &[u8]) -> Read
-    ensures { result ≡ shown (read_whole records (simple (old table)) (old s)) }
+    ensures { result ≡ shown (read_whole records (simple table.now) s.now) }
 {
     if longest_of(records) < s.len() {
         return Read::Refused(Refusal::Long);
@@ -512,7 +511,7 @@ fn simple_whole(records: bool, table: &[u8], s: &[u8]) -> Read
 
 // The whole of s as one tree.
 fn read_whole(records: bool, edition: Edition, table: &[u8], classes: &[u8], s: &[u8]) -> Read
-    ensures { result ≡ shown (read_whole records (language edition (old table) (old classes)) (old s)) }
+    ensures { result ≡ shown (read_whole records (language edition table.now classes.now) s.now) }
 {
     if longest_of(records) < s.len() {
         return Read::Refused(Refusal::Long);
@@ -529,7 +528,7 @@ fn read_whole(records: bool, edition: Edition, table: &[u8], classes: &[u8], s: 
 
 // Whether s is surely a record of edition 1: with fewer than 32 lists and other nodes that have children, a tree is not nested deeper than 32 and needs no frames.
 fn is_shallow(table: &[u8], s: &[u8]) -> bool
-    ensures { SurelyRead true (simple (old table)) (old s) result }
+    ensures { SurelyRead true (simple table.now) s.now result }
 {
     if LONGEST_RECORD < s.len() {
         return false;
@@ -571,7 +570,7 @@ fn is_shallow(table: &[u8], s: &[u8]) -> bool
 
 // Whether the class list is accepted, if the call brings one.
 pub fn accepts_list(table: &[u8], brings: bool, classes: &[u8]) -> bool
-    ensures { result ≡ list_accepted (old table) (list_if brings (old classes)) }
+    ensures { result ≡ list_accepted table.now (list_if brings classes.now) }
 {
     if brings {
         return term::check_classes(table, classes);
@@ -581,7 +580,7 @@ pub fn accepts_list(table: &[u8], brings: bool, classes: &[u8]) -> bool
 
 // The class list that the call brings, or an empty one.
 pub fn brought_list(brings: bool, classes: &[u8]) -> &[u8]
-    ensures { result.now ≡ or_empty (list_if brings (old classes)) }
+    ensures { result.now ≡ or_empty (list_if brings classes.now) }
 {
     if brings {
         return classes;
@@ -591,7 +590,7 @@ pub fn brought_list(brings: bool, classes: &[u8]) -> &[u8]
 
 // Reads a record in edition 1, by an accepted table.
 pub fn read_record(table: &[u8], bytes: &[u8]) -> Read
-    ensures { result ≡ shown (read_record (simple (old table)) (old bytes)) }
+    ensures { result ≡ shown (read_record (simple table.now) bytes.now) }
 {
     if is_shallow(table, bytes) {
         return Read::Ends(bytes.len());
@@ -601,7 +600,7 @@ pub fn read_record(table: &[u8], bytes: &[u8]) -> Read
 
 // Reads a pattern likewise.
 pub fn read_pattern(table: &[u8], bytes: &[u8]) -> Read
-    ensures { result ≡ shown (read_pattern (simple (old table)) (old bytes)) }
+    ensures { result ≡ shown (read_pattern (simple table.now) bytes.now) }
 {
     if is_leaf(table, bytes) {
         return Read::Ends(bytes.len());
@@ -611,7 +610,7 @@ pub fn read_pattern(table: &[u8], bytes: &[u8]) -> Read
 
 // The same in the language of an edition, an accepted table and an accepted class list, or an empty one. Edition 1 never looks at the class list.
 pub fn read_record_in(edition: Edition, table: &[u8], classes: &[u8], bytes: &[u8]) -> Read
-    ensures { result ≡ shown (read_record (language edition (old table) (old classes)) (old bytes)) }
+    ensures { result ≡ shown (read_record (language edition table.now classes.now) bytes.now) }
 {
     match edition {
         Edition::One => read_record(table, bytes),
@@ -620,7 +619,7 @@ pub fn read_record_in(edition: Edition, table: &[u8], classes: &[u8], bytes: &[u
 }
 
 pub fn read_pattern_in(edition: Edition, table: &[u8], classes: &[u8], bytes: &[u8]) -> Read
-    ensures { result ≡ shown (read_pattern (language edition (old table) (old classes)) (old bytes)) }
+    ensures { result ≡ shown (read_pattern (language edition table.now classes.now) bytes.now) }
 {
     match edition {
         Edition::One => read_pattern(table, bytes),

@@ -4,7 +4,6 @@
 ghost use Rattle.std.specs.Prelude.{◌≡◌, ◌+◌, ◌*◌, ◌≤◌, ◌<◌, length, set};
 ghost use Rattle.std.proofs.Math.Option.{none, some};
 ghost use Rattle.std.proofs.lemmas.List.Edits.{sets};
-ghost use Rattle.term.specs.Moment.{old, new};
 ghost use Rattle.term.specs.Limits.{longest_pattern, nesting};
 ghost use Rattle.anti_pattern.specs.Language.{language};
 ghost use Rattle.parts.specs.Shown.{answer_width};
@@ -27,14 +26,14 @@ use term::{Code, Edition, NESTING, VARIABLES, decode, entry_of, extent};
 const LIST_BYTES: usize = 2;
 
 // What trees are filled to: so many bytes and elements; or they nest too deep, or a list of them has too many elements.
-#[derive(Drop)]
+#[derive(Clone, Copy)]
 enum Filled {
     To(usize, usize),
     Unfit,
 }
 
 // What stands around a tree, or what a symbol is as a list: a list of a class, or no list.
-#[derive(Drop)]
+#[derive(Clone, Copy)]
 enum Around {
     List(u8),
     Nothing,
@@ -54,7 +53,7 @@ fn number(n: u16) -> usize
 
 // The bytes of a node's own: its code's and, for a list, its number of children.
 fn own_size(table: &[u8], b: u8) -> usize
-    ensures { result ≡ own_bytes (old table) b }
+    ensures { result ≡ own_bytes table.now b }
 {
     if entry_of(table, b) == term::LIST {
         LIST_BYTES
@@ -65,7 +64,7 @@ fn own_size(table: &[u8], b: u8) -> usize
 
 // Which variables stand in a pattern outside complements.
 fn free_in(table: &[u8], pattern: &[u8]) -> [bool; VARIABLES]
-    ensures { MarksFree (old table) (old pattern) result }
+    ensures { MarksFree table.now pattern.now result }
 {
     let mut free = [false; VARIABLES];
     let mut at: usize = 0;
@@ -101,7 +100,7 @@ fn free_in(table: &[u8], pattern: &[u8]) -> [bool; VARIABLES]
 
 // Whether a pattern has a complement, or a variable that is not marked.
 fn is_unmarked(table: &[u8], pattern: &[u8], free: [bool; VARIABLES]) -> bool
-    ensures { MarksLoose (old table) (old pattern) free result }
+    ensures { MarksLoose table.now pattern.now free result }
 {
     let mut at: usize = 0;
     while at < pattern.len() {
@@ -139,7 +138,7 @@ fn is_unmarked(table: &[u8], pattern: &[u8], free: [bool; VARIABLES]) -> bool
 
 // Whether a template, accepted as a pattern, has a complement, or a name or run name that is not free in the accepted rule.
 pub fn is_loose(table: &[u8], rule: &[u8], template: &[u8]) -> bool
-    ensures { TellsLoose (old table) (old rule) (old template) result }
+    ensures { TellsLoose table.now rule.now template.now result }
 {
     is_unmarked(table, template, free_in(table, rule))
 }
@@ -154,7 +153,7 @@ fn check_input(
     template: &[u8],
     record: &[u8],
 ) -> Check
-    ensures { result ≡ check_of (checked (brought_by edition (old table) brings (old classes)) (old rule) (old template) (old «record»)) }
+    ensures { result ≡ check_of (checked (brought_by edition table.now brings classes.now) rule.now template.now «record».now) }
 {
     let p = check_rule(edition, table, brings, classes, rule, ANSWER_WIDTH);
     if let Check::Failed(r) = p {
@@ -177,7 +176,7 @@ fn check_input(
 
 // The part of the record that the answer has for a variable.
 fn part_of<'a>(record: &'a [u8], answer: &[u16], v: u8) -> &'a [u8]
-    ensures is { result.now ≡ part_in (old «record») (old answer) v }
+    ensures is { result.now ≡ part_in «record».now answer.now v }
     ensures short { length result.now ≤ longest_part }
 {
     let i = ENTRY_WIDTH * wide(v);
@@ -194,7 +193,7 @@ fn part_of<'a>(record: &'a [u8], answer: &[u16], v: u8) -> &'a [u8]
 
 // How many terms the answer has for a variable.
 fn terms_of(answer: &[u16], v: u8) -> usize
-    ensures is { result ≡ terms_in (old answer) v }
+    ensures is { result ≡ terms_in answer.now v }
     ensures few { result ≤ longest_part }
 {
     let i = ENTRY_WIDTH * wide(v) + 2;
@@ -206,9 +205,9 @@ fn terms_of(answer: &[u16], v: u8) -> usize
 
 // The bytes of a tree's children, where t is the tree.
 fn children_of<'a>(table: &[u8], t: &'a [u8]) -> &'a [u8]
-    ensures is { ChildrenOf (old table) (old t) result.now }
-    ensures within { length result.now ≤ length (old t) }
-    ensures less { 0 < length (old t) → length result.now < length (old t) }
+    ensures is { ChildrenOf table.now t.now result.now }
+    ensures within { length result.now ≤ length t.now }
+    ensures less { 0 < length t.now → length result.now < length t.now }
 {
     if t.len() < 2 {
         return &t[..0];
@@ -219,7 +218,7 @@ fn children_of<'a>(table: &[u8], t: &'a [u8]) -> &'a [u8]
 
 // Whether the terms of a part of a record nest at most so deep.
 fn terms_nest(table: &[u8], s: &[u8], left: u8) -> bool
-    ensures { TellsNesting (old table) (old s) left result }
+    ensures { TellsNesting table.now s.now left result }
 {
     // A term nests at most as deep as it has bytes.
     if s.len() <= wide(left) {
@@ -242,7 +241,7 @@ fn terms_nest(table: &[u8], s: &[u8], left: u8) -> bool
 
 // Stores a byte where there is room.
 fn store(out: &mut [u8], at: usize, b: u8)
-    ensures { new out ≡ set (old out) at b }
+    ensures { out.new ≡ set out.old at b }
 {
     if at < out.len() {
         out[at] = b;
@@ -252,7 +251,7 @@ fn store(out: &mut [u8], at: usize, b: u8)
 // Stores the bytes of s one after the other, as far as there is room.
 fn store_all(out: &mut [u8], at: usize, s: &[u8])
     requires { at + length s.now ≤ farthest + part_room }
-    ensures { new out ≡ sets (old out) at (old s) }
+    ensures { out.new ≡ sets out.old at s.now }
 {
     let mut i: usize = 0;
     while i < s.len() {
@@ -263,7 +262,7 @@ fn store_all(out: &mut [u8], at: usize, s: &[u8])
 
 // Stores the number of children of a list.
 fn store_number(out: &mut [u8], at: usize, list: bool, n: usize)
-    ensures { new out ≡ stored_number list (old out) at n }
+    ensures { out.new ≡ stored_number list out.old at n }
 {
     if list {
         store(out, at, (n % 256) as u8);
@@ -282,7 +281,7 @@ fn is_narrow(list: bool, n: usize) -> bool
 
 // What a symbol is as a list; in edition 1 no list counts as one.
 fn listed(edition: Edition, table: &[u8], classes: &[u8], b: u8) -> Around
-    ensures { around_of result ≡ listed_in (language edition (old table) (old classes)) b }
+    ensures { around_of result ≡ listed_in (language edition table.now classes.now) b }
 {
     if let Edition::One = edition {
         return Around::Nothing;
@@ -315,7 +314,7 @@ fn is_direct(around: Around, inner: Around) -> bool
 // Puts the terms of a part at a place in the output, if they nest at most so deep.
 fn put_terms(table: &[u8], s: &[u8], out: &mut [u8], at: usize, left: u8) -> bool
     requires { at + length s.now ≤ farthest + part_room }
-    ensures { TellsStored (old table) (old s) left at (old out) result (new out) }
+    ensures { TellsStored table.now s.now left at out.old result out.new }
 {
     if !terms_nest(table, s, left) {
         return false;
@@ -329,8 +328,8 @@ fn put_terms(table: &[u8], s: &[u8], out: &mut [u8], at: usize, left: u8) -> boo
 
 // The bytes of a term as a child: its children's where it is a list directly inside one of its class.
 fn placed_bytes<'a>(table: &[u8], direct: bool, t: &'a [u8]) -> &'a [u8]
-    ensures is { PlacedBytes (old table) direct (old t) result.now }
-    ensures within { length result.now ≤ length (old t) }
+    ensures is { PlacedBytes table.now direct t.now result.now }
+    ensures within { length result.now ≤ length t.now }
 {
     if direct {
         return children_of(table, t);
@@ -340,7 +339,7 @@ fn placed_bytes<'a>(table: &[u8], direct: bool, t: &'a [u8]) -> &'a [u8]
 
 // How many terms they are.
 fn placed_terms(direct: bool, t: &[u8]) -> usize
-    ensures is { result ≡ placed_terms direct (old t) }
+    ensures is { result ≡ placed_terms direct t.now }
     ensures few { result ≤ 255 }
 {
     if !direct {
@@ -364,8 +363,8 @@ fn put_each(
     left: u8,
 ) -> Filled
     requires { (at ≤ farthest) × (length part.now ≤ longest_part) }
-    ensures is { PutsEach (old table) (listed_by edition (old classes) (old table)) (around_of around) (old part) left at (old out) result (new out) }
-    ensures within { FilledWithin (length (old part)) result }
+    ensures is { PutsEach table.now (listed_by edition classes.now table.now) (around_of around) part.now left at out.old result out.new }
+    ensures within { FilledWithin (length part.now) result }
 {
     let mut used: usize = 0;
     let mut put: usize = 0;
@@ -400,7 +399,7 @@ fn fill_part(
     left: u8,
 ) -> Filled
     requires { at ≤ farthest }
-    ensures is { Puts (old table) (listed_by edition (old classes) (old table)) (around_of around) (old «record») (old answer) v left at (old out) result (new out) }
+    ensures is { Puts table.now (listed_by edition classes.now table.now) (around_of around) «record».now answer.now v left at out.old result out.new }
     ensures within { FilledWithin longest_part result }
 {
     let part = part_of(record, answer, v);
@@ -429,9 +428,9 @@ fn fill_node(
     left: u8,
 ) -> Filled
     requires { (0 < length t.now) × (at + part_room * length t.now ≤ farthest) }
-    ensures is { FillsNode (old table) (listed_by edition (old classes) (old table)) (old t) (old «record») (old answer) left result }
-    ensures within { FilledWithin (part_room * length (old t)) result }
-    ensures stores { StoresNode (old table) (listed_by edition (old classes) (old table)) (old t) (old «record») (old answer) left at (old out) (new out) }
+    ensures is { FillsNode table.now (listed_by edition classes.now table.now) t.now «record».now answer.now left result }
+    ensures within { FilledWithin (part_room * length t.now) result }
+    ensures stores { StoresNode table.now (listed_by edition classes.now table.now) t.now «record».now answer.now left at out.old out.new }
 {
     if left == 0 {
         return Filled::Unfit;
@@ -478,9 +477,9 @@ fn fill_tree(
     left: u8,
 ) -> Filled
     requires { (0 < length t.now) × (at + part_room * length t.now ≤ farthest) }
-    ensures is { FillsTree (old table) (listed_by edition (old classes) (old table)) (around_of around) (old t) (old «record») (old answer) left result }
-    ensures within { FilledWithin (part_room * length (old t)) result }
-    ensures stores { StoresTree (old table) (listed_by edition (old classes) (old table)) (around_of around) (old t) (old «record») (old answer) left at (old out) (new out) }
+    ensures is { FillsTree table.now (listed_by edition classes.now table.now) (around_of around) t.now «record».now answer.now left result }
+    ensures within { FilledWithin (part_room * length t.now) result }
+    ensures stores { StoresTree table.now (listed_by edition classes.now table.now) (around_of around) t.now «record».now answer.now left at out.old out.new }
 {
     let code = decode(t[0]);
     match code {
@@ -511,9 +510,9 @@ fn fill(
     left: u8,
 ) -> Filled
     requires { at + part_room * length s.now ≤ farthest }
-    ensures is { Fills (old table) (listed_by edition (old classes) (old table)) (around_of around) (old s) (old «record») (old answer) left result }
-    ensures within { FilledWithin (part_room * length (old s)) result }
-    ensures stores { Stores (old table) (listed_by edition (old classes) (old table)) (around_of around) (old s) (old «record») (old answer) left at (old out) (new out) }
+    ensures is { Fills table.now (listed_by edition classes.now table.now) (around_of around) s.now «record».now answer.now left result }
+    ensures within { FilledWithin (part_room * length s.now) result }
+    ensures stores { Stores table.now (listed_by edition classes.now table.now) (around_of around) s.now «record».now answer.now left at out.old out.new }
 {
     let mut used: usize = 0;
     let mut put: usize = 0;
@@ -555,8 +554,8 @@ fn fill_whole(
     at: usize,
 ) -> Filled
     requires { (length template.now ≤ longest_pattern) × (at ≤ 1) }
-    ensures is { Fills (old table) (listed_by edition (old classes) (old table)) none (old template) (old «record») (old answer) nesting result }
-    ensures stores { Stores (old table) (listed_by edition (old classes) (old table)) none (old template) (old «record») (old answer) nesting at (old out) (new out) }
+    ensures is { Fills table.now (listed_by edition classes.now table.now) none template.now «record».now answer.now nesting result }
+    ensures stores { Stores table.now (listed_by edition classes.now table.now) none template.now «record».now answer.now nesting at out.old out.new }
 {
     fill(
         edition,
@@ -582,7 +581,7 @@ fn measure(
     answer: &[u16],
 ) -> Filled
     requires { length template.now ≤ longest_pattern }
-    ensures { Fills (old table) (listed_by edition (old classes) (old table)) none (old template) (old «record») (old answer) nesting result }
+    ensures { Fills table.now (listed_by edition classes.now table.now) none template.now «record».now answer.now nesting result }
 {
     let mut nothing = [0u8; 1];
     fill_whole(
@@ -608,7 +607,7 @@ fn measured(
     count: u32,
 ) -> Applied
     requires { length template.now ≤ longest_pattern }
-    ensures { Measures (language edition (old table) (old classes)) (old template) (old «record») (old answer) count result }
+    ensures { Measures (language edition table.now classes.now) template.now «record».now answer.now count result }
 {
     let filled = measure(edition, table, classes, template, record, answer);
     let Filled::To(length, _) = filled else {
@@ -632,8 +631,8 @@ fn look_into(
     answer: &mut [u16],
 ) -> Applied
     requires { answer_width ≤ length answer.old }
-    ensures is { LooksInto (language edition (old table) (old classes)) (old rule) (old template) (old «record») allowance result (new answer) }
-    ensures short { ShortWhereBound (old template) result }
+    ensures is { LooksInto (language edition table.now classes.now) rule.now template.now «record».now allowance result answer.new }
+    ensures short { ShortWhereBound template.now result }
 {
     if term::LONGEST_PATTERN < template.len() {
         return Applied::Refused(Refusal::Long);
@@ -658,7 +657,7 @@ pub fn look_checked(
     record: &[u8],
     allowance: u32,
 ) -> Applied
-    ensures { Looks (language edition (old table) (old classes)) (old rule) (old template) (old «record») allowance result }
+    ensures { Looks (language edition table.now classes.now) rule.now template.now «record».now allowance result }
 {
     let mut answer = [0u16; ANSWER_WIDTH];
     look_into(
@@ -684,7 +683,7 @@ pub fn apply_checked(
     allowance: u32,
     output: &mut [u8],
 ) -> Applied
-    ensures { Applies (language edition (old table) (old classes)) (old rule) (old template) (old «record») allowance (old output) result (new output) }
+    ensures { Applies (language edition table.now classes.now) rule.now template.now «record».now allowance output.old result output.new }
 {
     let mut answer = [0u16; ANSWER_WIDTH];
     let looked = look_into(
@@ -724,8 +723,8 @@ fn look_brought(
     record: &[u8],
     allowance: u32,
 ) -> Applied
-    ensures is { result ≡ look_of (brought_by edition (old table) brings (old classes)) (old rule) (old template) (old «record») allowance }
-    ensures demand { LookDemanded (brought_by edition (old table) brings (old classes)) (old rule) (old template) (old «record») allowance result }
+    ensures is { result ≡ look_of (brought_by edition table.now brings classes.now) rule.now template.now «record».now allowance }
+    ensures demand { LookDemanded (brought_by edition table.now brings classes.now) rule.now template.now «record».now allowance result }
 {
     let checks = check_input(edition, table, brings, classes, rule, template, record);
     let list = reader::brought_list(brings, classes);
@@ -747,9 +746,9 @@ pub fn apply_brought(
     allowance: u32,
     output: &mut [u8],
 ) -> Applied
-    ensures is { result ≡ apply_of (brought_by edition (old table) brings (old classes)) (old rule) (old template) (old «record») allowance (length (old output)) }
-    ensures contents { new output ≡ output_of (brought_by edition (old table) brings (old classes)) (old rule) (old template) (old «record») allowance (old output) }
-    ensures demand { Demanded (brought_by edition (old table) brings (old classes)) (old rule) (old template) (old «record») (old output) allowance result (new output) }
+    ensures is { result ≡ apply_of (brought_by edition table.now brings classes.now) rule.now template.now «record».now allowance (length output.old) }
+    ensures contents { output.new ≡ output_of (brought_by edition table.now brings classes.now) rule.now template.now «record».now allowance output.old }
+    ensures demand { Demanded (brought_by edition table.now brings classes.now) rule.now template.now «record».now output.old allowance result output.new }
 {
     let checks = check_input(edition, table, brings, classes, rule, template, record);
     let list = reader::brought_list(brings, classes);
@@ -763,8 +762,8 @@ pub fn apply_brought(
 
 // What applying would answer with an output of 4,096 bytes.
 pub fn look(table: &[u8], rule: &[u8], template: &[u8], record: &[u8], allowance: u32) -> Applied
-    ensures is { result ≡ look_of (simply (old table)) (old rule) (old template) (old «record») allowance }
-    ensures demand { LookDemanded (simply (old table)) (old rule) (old template) (old «record») allowance result }
+    ensures is { result ≡ look_of (simply table.now) rule.now template.now «record».now allowance }
+    ensures demand { LookDemanded (simply table.now) rule.now template.now «record».now allowance result }
 {
     look_brought(
         Edition::One,
@@ -788,8 +787,8 @@ pub fn look_in(
     record: &[u8],
     allowance: u32,
 ) -> Applied
-    ensures is { result ≡ look_of (bringing edition (old table) (old classes)) (old rule) (old template) (old «record») allowance }
-    ensures demand { LookDemanded (bringing edition (old table) (old classes)) (old rule) (old template) (old «record») allowance result }
+    ensures is { result ≡ look_of (bringing edition table.now classes.now) rule.now template.now «record».now allowance }
+    ensures demand { LookDemanded (bringing edition table.now classes.now) rule.now template.now «record».now allowance result }
 {
     look_brought(
         edition, table, true, classes, rule, template, record, allowance,
@@ -805,9 +804,9 @@ pub fn apply(
     allowance: u32,
     output: &mut [u8],
 ) -> Applied
-    ensures is { result ≡ apply_of (simply (old table)) (old rule) (old template) (old «record») allowance (length (old output)) }
-    ensures contents { new output ≡ output_of (simply (old table)) (old rule) (old template) (old «record») allowance (old output) }
-    ensures demand { Demanded (simply (old table)) (old rule) (old template) (old «record») (old output) allowance result (new output) }
+    ensures is { result ≡ apply_of (simply table.now) rule.now template.now «record».now allowance (length output.old) }
+    ensures contents { output.new ≡ output_of (simply table.now) rule.now template.now «record».now allowance output.old }
+    ensures demand { Demanded (simply table.now) rule.now template.now «record».now output.old allowance result output.new }
 {
     apply_brought(
         Edition::One,
@@ -833,9 +832,9 @@ pub fn apply_in(
     allowance: u32,
     output: &mut [u8],
 ) -> Applied
-    ensures is { result ≡ apply_of (bringing edition (old table) (old classes)) (old rule) (old template) (old «record») allowance (length (old output)) }
-    ensures contents { new output ≡ output_of (bringing edition (old table) (old classes)) (old rule) (old template) (old «record») allowance (old output) }
-    ensures demand { Demanded (bringing edition (old table) (old classes)) (old rule) (old template) (old «record») (old output) allowance result (new output) }
+    ensures is { result ≡ apply_of (bringing edition table.now classes.now) rule.now template.now «record».now allowance (length output.old) }
+    ensures contents { output.new ≡ output_of (bringing edition table.now classes.now) rule.now template.now «record».now allowance output.old }
+    ensures demand { Demanded (bringing edition table.now classes.now) rule.now template.now «record».now output.old allowance result output.new }
 {
     apply_brought(
         edition, table, true, classes, rule, template, record, allowance, output,

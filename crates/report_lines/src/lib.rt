@@ -4,7 +4,6 @@
 ghost use Rattle.std.specs.Prelude.{◌≡◌, ◌+◌, ◌≤◌, ◌<◌, length};
 ghost use Rattle.std.proofs.Math.Option.{none};
 ghost use Rattle.std.proofs.lemmas.List.Edits.{sets};
-ghost use Rattle.term.specs.Moment.{old, new};
 ghost use Rattle.output.specs.Decimal.{decimal};
 ghost use Rattle.output.specs.Field.{refused_word};
 ghost use Rattle.sheet.specs.Check.{entry_count};
@@ -32,7 +31,7 @@ const LINE_ROOM: usize = 22;
 pub const REPORT_ROOM: usize = MOST_LINES * LINE_ROOM;
 
 // The files of a report.
-#[derive(Drop)]
+#[derive(Clone, Copy)]
 pub enum File {
     Table,
     Rules,
@@ -41,7 +40,7 @@ pub enum File {
 
 // What the files' checks decide: the number of states, each of which has a line, or a refusal with its file and the index of the entry,
 // 0 where no entry is at fault.
-#[derive(Drop)]
+#[derive(Clone, Copy)]
 enum Verdict {
     Lines(usize),
     Refused(Refusal, File, usize),
@@ -49,7 +48,7 @@ enum Verdict {
 
 // Checks a sheet of records or of patterns: whether its file could be read, then what it holds.
 fn check_file(records: bool, read: bool, editions: Editions, table: &[u8], sheet: &[u8]) -> Checked
-    ensures { result ≡ readable read (check_contents records editions (old table) none (old sheet)) }
+    ensures { result ≡ readable read (check_contents records editions table.now none sheet.now) }
 {
     if !read {
         return Checked::Refused(Refusal::Unread, 0);
@@ -66,7 +65,7 @@ fn check_files(
     states_read: bool,
     states: &[u8],
 ) -> Verdict
-    ensures { result ≡ verdict table_read (old table) rules_read (old rules) states_read (old states) }
+    ensures { result ≡ verdict table_read table.now rules_read rules.now states_read states.now }
 {
     if !table_read {
         return Verdict::Refused(Refusal::Unread, File::Table, 0);
@@ -89,8 +88,8 @@ fn check_files(
 // Puts the line of a state by the rule that is shown, and answers where it ends.
 fn put_ruled(out: &mut [u8], at: usize, state: usize, rule: usize, word: &[u8], sum: u64) -> usize
     requires { at + length (line (decimal state) (decimal rule) word.now (decimal sum)) ≤ length out.old }
-    ensures out_value { new out ≡ sets (old out) at (line (decimal state) (decimal rule) (old word) (decimal sum)) }
-    ensures value { result ≡ at + length (line (decimal state) (decimal rule) (old word) (decimal sum)) }
+    ensures out_value { out.new ≡ sets out.old at (line (decimal state) (decimal rule) word.now (decimal sum)) }
+    ensures value { result ≡ at + length (line (decimal state) (decimal rule) word.now (decimal sum)) }
 {
     let mut end = output::put_decimal(out, at, state as u64, b' ');
     end = output::put_decimal(out, end, rule as u64, b' ');
@@ -101,7 +100,7 @@ fn put_ruled(out: &mut [u8], at: usize, state: usize, rule: usize, word: &[u8], 
 // Puts the line of a state that no rule is shown for, and answers where it ends.
 fn put_none(out: &mut [u8], at: usize, state: usize, sum: u64) -> usize
     requires { at + length (line (decimal state) dash none_word (decimal sum)) ≤ length out.old }
-    ensures out_value { new out ≡ sets (old out) at (line (decimal state) dash none_word (decimal sum)) }
+    ensures out_value { out.new ≡ sets out.old at (line (decimal state) dash none_word (decimal sum)) }
     ensures value { result ≡ at + length (line (decimal state) dash none_word (decimal sum)) }
 {
     let mut end = output::put_decimal(out, at, state as u64, b' ');
@@ -113,7 +112,7 @@ fn put_none(out: &mut [u8], at: usize, state: usize, sum: u64) -> usize
 // Puts the line of a state by what the rules answer on it, and answers where it ends.
 fn put_answer(out: &mut [u8], at: usize, state: usize, answer: RuleAnswer) -> usize
     requires { at + length (answer_line state answer) ≤ length out.old }
-    ensures out_value { new out ≡ sets (old out) at (answer_line state answer) }
+    ensures out_value { out.new ≡ sets out.old at (answer_line state answer) }
     ensures value { result ≡ at + length (answer_line state answer) }
 {
     match answer {
@@ -128,7 +127,7 @@ fn put_answer(out: &mut [u8], at: usize, state: usize, answer: RuleAnswer) -> us
 fn match_state(table: &[u8], rules: &[u8], states: &[u8], state: usize) -> RuleAnswer
     requires files_accepted { FilesAccepted table.now rules.now states.now (entry_count states.now) }
     requires state_bound { state < entry_count states.now }
-    ensures { result ≡ answer_of (in_sheet (old rules) (old table) none) (old rules) (shown_entry (old states) state) allowance answer_width }
+    ensures { result ≡ answer_of (in_sheet rules.now table.now none) rules.now (shown_entry states.now state) allowance answer_width }
 {
     let mut answer = [0u16; matcher::ANSWER_WIDTH];
     rules::match_rules_checked(
@@ -145,8 +144,8 @@ fn match_state(table: &[u8], rules: &[u8], states: &[u8], state: usize) -> RuleA
 fn put_lines(table: &[u8], rules: &[u8], states: &[u8], n: usize, out: &mut [u8]) -> usize
     requires files_accepted { FilesAccepted table.now rules.now states.now n }
     requires report_room_in_bounds { report_room ≤ length out.old }
-    ensures out_value { new out ≡ sets (old out) 0 (lines (old table) (old rules) (old states)) }
-    ensures value { result ≡ length (lines (old table) (old rules) (old states)) }
+    ensures out_value { out.new ≡ sets out.old 0 (lines table.now rules.now states.now) }
+    ensures value { result ≡ length (lines table.now rules.now states.now) }
 {
     let mut at = output::put_field(out, 0, b"state rule word count", b'\n');
     let mut state: usize = 0;
@@ -161,8 +160,8 @@ fn put_lines(table: &[u8], rules: &[u8], states: &[u8], n: usize, out: &mut [u8]
 // Puts the line of a refusal by its number and its file's word, and answers its length.
 fn put_refused(out: &mut [u8], number: u8, word: &[u8], index: usize) -> usize
     requires { length (line refused_word (decimal number) word.now (decimal index)) ≤ length out.old }
-    ensures out_value { new out ≡ sets (old out) 0 (line refused_word (decimal number) (old word) (decimal index)) }
-    ensures value { result ≡ length (line refused_word (decimal number) (old word) (decimal index)) }
+    ensures out_value { out.new ≡ sets out.old 0 (line refused_word (decimal number) word.now (decimal index)) }
+    ensures value { result ≡ length (line refused_word (decimal number) word.now (decimal index)) }
 {
     let mut end = output::put_field(out, 0, b"refused", b' ');
     end = output::put_decimal(out, end, number as u64, b' ');
@@ -173,7 +172,7 @@ fn put_refused(out: &mut [u8], number: u8, word: &[u8], index: usize) -> usize
 // Puts the line of a refusal, and answers its length.
 fn put_refusal(out: &mut [u8], refusal: Refusal, file: File, index: usize) -> usize
     requires { length (refusal_line refusal file index) ≤ length out.old }
-    ensures out_value { new out ≡ sets (old out) 0 (refusal_line refusal file index) }
+    ensures out_value { out.new ≡ sets out.old 0 (refusal_line refusal file index) }
     ensures value { result ≡ length (refusal_line refusal file index) }
 {
     let number = refusal.number();
@@ -194,8 +193,8 @@ pub fn put_report(
     states: &[u8],
     out: &mut [u8; REPORT_ROOM],
 ) -> usize
-    ensures size { result ≡ length (report table_read (old table) rules_read (old rules) states_read (old states)) }
-    ensures contents { new out ≡ front (report table_read (old table) rules_read (old rules) states_read (old states)) (old out) }
+    ensures size { result ≡ length (report table_read table.now rules_read rules.now states_read states.now) }
+    ensures contents { out.new ≡ front (report table_read table.now rules_read rules.now states_read states.now) out.old }
 {
     let verdict = check_files(table_read, table, rules_read, rules, states_read, states);
     match verdict {

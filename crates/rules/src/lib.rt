@@ -3,7 +3,6 @@
 
 ghost use Rattle.std.specs.Prelude.{◌≡◌, ◌+◌, length};
 ghost use Rattle.std.proofs.Math.Option.{none, some};
-ghost use Rattle.term.specs.Moment.{old, new};
 ghost use Rattle.reader.specs.Brought.{list_if, or_empty};
 ghost use Rattle.rules.specs.Call.{in_sheet, checked, check_of, answer_of, buffer_of, answer_on_bytes, buffer_on_bytes};
 ghost use Rattle.rules.specs.Demands.{Demanded, Called};
@@ -21,7 +20,7 @@ fn check_input(
     record: &[u8],
     width: usize,
 ) -> Checked
-    ensures { result ≡ check_of (checked (in_sheet (old sheet) (old table) (list_if brings (old classes))) (old sheet) (old «record») width) }
+    ensures { result ≡ check_of (checked (in_sheet sheet.now table.now (list_if brings classes.now)) sheet.now «record».now width) }
 {
     if width < matcher::ANSWER_WIDTH {
         return Checked::Refused(Refusal::Narrow, 0);
@@ -48,8 +47,8 @@ pub fn match_rules_checked(
     allowance: u32,
     answer: &mut [u16],
 ) -> RuleAnswer
-    ensures is { result ≡ answer_on_bytes (old table) (old classes) (old sheet) (old «record») allowance (length (old answer)) }
-    ensures buffer { new answer ≡ buffer_on_bytes (old table) (old classes) (old sheet) (old «record») allowance (old answer) }
+    ensures is { result ≡ answer_on_bytes table.now classes.now sheet.now «record».now allowance (length answer.old) }
+    ensures buffer { answer.new ≡ buffer_on_bytes table.now classes.now sheet.now «record».now allowance answer.old }
 {
     if answer.len() < matcher::ANSWER_WIDTH {
         return RuleAnswer::Refused(Refusal::Narrow, 0);
@@ -96,7 +95,7 @@ fn match_rules_brought(
     answer: &mut [u16],
 ) -> RuleAnswer
     requires { classes.now ≡ or_empty (list_if brings classes.now) }
-    ensures { Called (in_sheet (old sheet) (old table) (list_if brings (old classes))) (old sheet) (old «record») (old answer) allowance result (new answer) }
+    ensures { Called (in_sheet sheet.now table.now (list_if brings classes.now)) sheet.now «record».now answer.old allowance result answer.new }
 {
     let checks = check_input(table, brings, classes, sheet, record, answer.len());
     match checks {
@@ -115,9 +114,9 @@ pub fn match_rules(
     allowance: u32,
     answer: &mut [u16],
 ) -> RuleAnswer
-    ensures is { result ≡ answer_of (in_sheet (old sheet) (old table) none) (old sheet) (old «record») allowance (length (old answer)) }
-    ensures buffer { new answer ≡ buffer_of (in_sheet (old sheet) (old table) none) (old sheet) (old «record») allowance (old answer) }
-    ensures demand { Demanded (in_sheet (old sheet) (old table) none) (old sheet) (old «record») (old answer) allowance result (new answer) }
+    ensures is { result ≡ answer_of (in_sheet sheet.now table.now none) sheet.now «record».now allowance (length answer.old) }
+    ensures buffer { answer.new ≡ buffer_of (in_sheet sheet.now table.now none) sheet.now «record».now allowance answer.old }
+    ensures demand { Demanded (in_sheet sheet.now table.now none) sheet.now «record».now answer.old allowance result answer.new }
 {
     match_rules_brought(table, false, &table[..0], sheet, record, allowance, answer)
 }
@@ -131,9 +130,9 @@ pub fn match_rules_in(
     allowance: u32,
     answer: &mut [u16],
 ) -> RuleAnswer
-    ensures is { result ≡ answer_of (in_sheet (old sheet) (old table) (some (old classes))) (old sheet) (old «record») allowance (length (old answer)) }
-    ensures buffer { new answer ≡ buffer_of (in_sheet (old sheet) (old table) (some (old classes))) (old sheet) (old «record») allowance (old answer) }
-    ensures demand { Demanded (in_sheet (old sheet) (old table) (some (old classes))) (old sheet) (old «record») (old answer) allowance result (new answer) }
+    ensures is { result ≡ answer_of (in_sheet sheet.now table.now (some classes.now)) sheet.now «record».now allowance (length answer.old) }
+    ensures buffer { answer.new ≡ buffer_of (in_sheet sheet.now table.now (some classes.now)) sheet.now «record».now allowance answer.old }
+    ensures demand { Demanded (in_sheet sheet.now table.now (some classes.now)) sheet.now «record».now answer.old allowance result answer.new }
 {
     match_rules_brought(table, true, classes, sheet, record, allowance, answer)
 }

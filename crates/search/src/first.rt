@@ -1,5 +1,4 @@
 // Levels that their first pair decides.
-ghost use Rattle.term.specs.Moment.{old};
 ghost use Rattle.search.specs.Inner.Replies.{Decides, DecidesInside};
 
 use crate::Finding;
@@ -8,7 +7,7 @@ use steps::stands;
 use term::{Code, decode, entry_of, same_symbol};
 
 // How the search of a level ends, where its first pair alone decides that.
-#[derive(Drop)]
+#[derive(Clone, Copy)]
 pub enum FirstPair {
     Decided(Finding),
     Unsure,
@@ -23,7 +22,7 @@ pub(crate) fn first_pair(
     node: usize,
     left: u32,
 ) -> FirstPair
-    ensures { Decides (old table) (old classes) (old pattern) (old «record») node left result }
+    ensures { Decides table.now classes.now pattern.now «record».now node left result }
 {
     if left == 0 {
         return FirstPair::Unsure;
@@ -58,7 +57,7 @@ fn name_pair(
     node: usize,
     left: u32,
 ) -> FirstPair
-    ensures { DecidesInside (old table) (old classes) (old pattern) (old «record») assigned (old parts) node left result }
+    ensures { DecidesInside table.now classes.now pattern.now «record».now assigned parts.now node left result }
 {
     if left == 0 {
         return FirstPair::Unsure;
@@ -97,7 +96,7 @@ pub(crate) fn at_once(
     node: usize,
     left: u32,
 ) -> FirstPair
-    ensures { DecidesInside (old table) (old classes) (old pattern) (old «record») assigned (old parts) node left result }
+    ensures { DecidesInside table.now classes.now pattern.now «record».now assigned parts.now node left result }
 {
     let first = first_pair(table, classes, pattern, record, node, left);
     if let FirstPair::Decided(outcome) = first {

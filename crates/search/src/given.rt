@@ -1,6 +1,5 @@
 // The search after a given answer: down with its lengths, and back with the lengths after them.
 ghost use Rattle.std.specs.Prelude.{◌≡◌, false, ◌+◌, ◌-◌, ◌≤◌, ◌<◌, length, drop};
-ghost use Rattle.term.specs.Moment.{old, new};
 ghost use Rattle.term.specs.Extent.{span_of};
 ghost use Rattle.term.specs.Limits.{longest_record, longest_pattern};
 ghost use Rattle.parts.specs.Packed.{bit};
@@ -56,7 +55,7 @@ pub(crate) fn left_of(known: Known, left: u32, allowance: u32) -> u32
 // The bytes of the pattern node at the start of s, and of a complement those of its inside too.
 fn past(table: &[u8], s: &[u8]) -> usize
     requires { 0 < length s.now }
-    ensures { (result ≡ past_of (old table) (old s)) × (result ≤ length (old s) + 1) }
+    ensures { (result ≡ past_of table.now s.now) × (result ≤ length s.now + 1) }
 {
     let code = decode(s[0]);
     match code {
@@ -81,7 +80,7 @@ pub(crate) fn spread(
     lengths: &mut [u16; VARIABLES],
 ) -> bool
     requires { length pattern.now ≤ longest_pattern }
-    ensures { SpreadIs (old table) (old pattern) (old given) (old lengths) (new lengths) result }
+    ensures { SpreadIs table.now pattern.now given.now lengths.old lengths.new result }
 {
     let mut at: usize = 0;
     let mut seen: u64 = 0;
@@ -112,7 +111,7 @@ pub(crate) fn spread(
 // The byte behind so many elements.
 fn behind(table: &[u8], record: &[u8], node: usize, n: u8) -> usize
     requires { (node ≤ length «record».now) × (length «record».now ≤ longest_record) }
-    ensures { (result ≡ node + span_of (old table) (drop node (old «record»)) false n) × (result ≤ length (old «record»)) }
+    ensures { (result ≡ node + span_of table.now (drop node «record».now) false n) × (result ≤ length «record».now) }
 {
     node + extents(table, &record[node..], n)
 }
@@ -184,7 +183,7 @@ fn pairs(
 ) -> Stopped
     requires holding { Holding (length pattern.now) (length «record».now) assigned parts.old stack.old marks start }
     requires short { Short pattern.now «record».now }
-    ensures { PairsAre (input table classes pattern «record») (handed assigned left parts stack) marks start (new parts) (new stack) result }
+    ensures { PairsAre (input table classes pattern «record») (handed assigned left parts stack) marks start parts.new stack.new result }
 {
     let mut seen = assigned;
     let mut rest = left;
@@ -227,7 +226,7 @@ pub(crate) fn given_rest(
 ) -> Known
     requires holding { Holding (length pattern.now) (length «record».now) assigned.old parts.old stack.old marks start }
     requires short { Short pattern.now «record».now }
-    ensures { GivenIs (input table classes pattern «record») (old given) (lent assigned left parts stack) marks start result }
+    ensures { GivenIs (input table classes pattern «record») given.now (lent assigned left parts stack) marks start result }
 {
     let walked = pairs(
         table, classes, pattern, record, parts, stack, *assigned, *left, marks, start,
@@ -279,7 +278,7 @@ fn given_length(
     requires holding { Holding (length pattern.now) (length «record».now) assigned.old parts.old stack.old marks place }
     requires ready { Ready (length pattern.now) v place × (bit assigned.old v ≡ false) }
     requires short { Short pattern.now «record».now }
-    ensures { GivenFollows (input table classes pattern «record») (old given) (lent assigned left parts stack) (Stop.RunName v) marks place result }
+    ensures { GivenFollows (input table classes pattern «record») given.now (lent assigned left parts stack) (Stop.RunName v) marks place result }
 {
     if *left == 0 {
         return Known::Ended(Finding::Spent);

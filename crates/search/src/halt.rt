@@ -1,6 +1,5 @@
 // A level that halts reports where its pairs stop, as the numbers of three parts.
 ghost use Rattle.std.specs.Prelude.{◌≡◌};
-ghost use Rattle.term.specs.Moment.{old, new};
 ghost use Rattle.search.specs.Inner.Halts.{halted_as, run_of, stop_in, reported_by, Reports};
 
 use crate::Finding;
@@ -38,7 +37,7 @@ fn run_of(stop: Stop) -> usize
 
 // Where a level halts, as the numbers of three parts.
 pub(crate) fn report(parts: &mut [u64; PARTS], stop: Stop, marks: Marks, place: Place) -> Finding
-    ensures { Reports (old parts) stop marks place result (new parts) }
+    ensures { Reports parts.old stop marks place result parts.new }
 {
     parts[VARIABLES + 2] = packed(Part::bound(marks.waiting, run_of(stop), 0));
     parts[VARIABLES + 1] = packed(Part::bound(marks.inner, marks.frames, place.children));
@@ -70,7 +69,7 @@ pub(crate) fn reported(
     assigned: u64,
     first: usize,
 ) -> Stopped
-    ensures { result ≡ reported_by (old parts) outcome left assigned first }
+    ensures { result ≡ reported_by parts.now outcome left assigned first }
 {
     let here = unpacked(parts[VARIABLES]);
     let open = unpacked(parts[VARIABLES + 1]);

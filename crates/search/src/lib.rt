@@ -16,7 +16,6 @@ mod skip;
 mod walk;
 
 ghost use Rattle.std.specs.Prelude.{◌≡◌};
-ghost use Rattle.term.specs.Moment.{old, new};
 ghost use Rattle.search.specs.Level.{failed, end_of, search_of};
 ghost use Rattle.search.specs.Following.{next_pass, followed_of, shown_pass};
 ghost use Rattle.search.specs.Shown.{shown_in};
@@ -32,7 +31,7 @@ use parts::PARTS;
 use term::{LONGEST_PATTERN, LONGEST_RECORD, VARIABLES};
 
 // How a search ended.
-#[derive(Drop)]
+#[derive(Clone, Copy)]
 pub enum Finding {
     Found,
     Failed,
@@ -40,21 +39,21 @@ pub enum Finding {
 }
 
 // How a search ended, and the allowance left.
-#[derive(Drop)]
+#[derive(Clone, Copy)]
 pub struct Ended {
     pub outcome: Finding,
     pub left: u32,
 }
 
 // The search after a given answer ends; or the lengths given belong to no answer.
-#[derive(Drop)]
+#[derive(Clone, Copy)]
 pub enum Known {
     Ended(Finding),
     Unknown,
 }
 
 // How the search after a given answer ends, and what is left of the allowance.
-#[derive(Drop)]
+#[derive(Clone, Copy)]
 pub struct Followed {
     pub known: Known,
     pub left: u32,
@@ -100,8 +99,8 @@ pub fn search(
     allowance: u32,
     answer: &mut [u16],
 ) -> Ended
-    ensures is { result ≡ end_of (search_of (old table) (old classes) (old pattern) (old «record») allowance) }
-    ensures shows { new answer ≡ shown_in (search_of (old table) (old classes) (old pattern) (old «record») allowance) (old answer) }
+    ensures is { result ≡ end_of (search_of table.now classes.now pattern.now «record».now allowance) }
+    ensures shows { answer.new ≡ shown_in (search_of table.now classes.now pattern.now «record».now allowance) answer.old }
 {
     if LONGEST_PATTERN < pattern.len() {
         return Ended {
@@ -158,8 +157,8 @@ pub fn search_next(
     allowance: u32,
     answer: &mut [u16],
 ) -> Followed
-    ensures is { result ≡ followed_of allowance (next_pass (old table) (old classes) (old pattern) (old «record») (old given) allowance) }
-    ensures shows { new answer ≡ shown_pass (next_pass (old table) (old classes) (old pattern) (old «record») (old given) allowance) (old answer) }
+    ensures is { result ≡ followed_of allowance (next_pass table.now classes.now pattern.now «record».now given.now allowance) }
+    ensures shows { answer.new ≡ shown_pass (next_pass table.now classes.now pattern.now «record».now given.now allowance) answer.old }
 {
     if LONGEST_PATTERN < pattern.len() {
         return Followed {

@@ -1,6 +1,5 @@
 // How much of the stack is in use: open nodes, and complements put by.
 ghost use Rattle.std.specs.Prelude.{◌≡◌, ◌+◌, ◌≤◌, ◌<◌};
-ghost use Rattle.term.specs.Moment.{old, new};
 ghost use Rattle.term.specs.Limits.{longest_record, longest_pattern};
 ghost use Rattle.search.specs.Inner.Memory.{stack_places, nodes_in, queue_in, marks_of, opened_marks, closed_marks, put_by_marks, FramePushed, ComplementPushed};
 ghost use Rattle.search.specs.Inner.Replies.{inside};
@@ -16,7 +15,7 @@ pub(crate) const LAST: usize = STACK - 1;
 
 // How much of the buffers is in use: 1 more than the place of the innermost open node's frame, or 0, the frames, where the level's own
 // complements start, and the complements put by. Frames lie in the stack from the front, complements from the back, the i-th at `LAST - i`.
-#[derive(Drop)]
+#[derive(Clone, Copy)]
 pub struct Marks {
     pub inner: usize,
     pub frames: usize,
@@ -27,14 +26,14 @@ pub struct Marks {
 // `level` takes marks in halves: a call hands on a struct of two numbers in registers, but one of four through memory.
 
 // The marks of the open nodes.
-#[derive(Drop)]
+#[derive(Clone, Copy)]
 pub struct Nodes {
     pub inner: usize,
     pub frames: usize,
 }
 
 // The marks of the complements put by.
-#[derive(Drop)]
+#[derive(Clone, Copy)]
 pub struct Queue {
     pub first: usize,
     pub waiting: usize,
@@ -133,7 +132,7 @@ impl Marks {
 // The node that is open here goes on the stack; one more node is open.
 pub(crate) fn push_frame(stack: &mut [u32; STACK], marks: Marks, place: Place) -> Marks
     requires { (0 < place.children) × (0 < place.elements) × (marks.inner ≤ stack_places) × (marks.frames < stack_places) }
-    ensures { FramePushed marks place (old stack) (new stack) result }
+    ensures { FramePushed marks place stack.old stack.new result }
 {
     let i = marks.frames;
     stack[i] = place.frame(marks.inner);
@@ -148,7 +147,7 @@ pub(crate) fn push_complement(
     codes: usize,
 ) -> Marks
     requires { (0 < codes) × (place.at + codes ≤ longest_pattern) × (place.node ≤ longest_record) × (marks.waiting < stack_places) }
-    ensures { ComplementPushed marks place codes (old stack) (new stack) result }
+    ensures { ComplementPushed marks place codes stack.old stack.new result }
 {
     let i = marks.waiting;
     stack[LAST - i] = place.complement(codes);

@@ -7,7 +7,7 @@ ghost use Rattle.search.specs.Inner.Skips.{behind_in};
 
 // Where the search of a level stands: what is left of the innermost open node, child patterns and elements of the record, and the next byte of
 // the pattern and of the record.
-#[derive(Drop)]
+#[derive(Clone, Copy)]
 pub struct Place {
     pub children: u8,
     pub elements: u8,
@@ -18,14 +18,14 @@ pub struct Place {
 // `level` takes a place in halves, as it takes marks.
 
 // What is left of the innermost open node.
-#[derive(Drop)]
+#[derive(Clone, Copy)]
 pub struct Remaining {
     pub children: u8,
     pub elements: u8,
 }
 
 // The next byte of the pattern and of the record.
-#[derive(Drop)]
+#[derive(Clone, Copy)]
 pub struct Next {
     pub at: usize,
     pub node: usize,

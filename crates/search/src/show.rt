@@ -1,7 +1,6 @@
 // What is found, in the answer buffer.
 ghost use Rattle.std.specs.Prelude.{◌≡◌, replicate};
 ghost use Rattle.answers.specs.Part.{absent};
-ghost use Rattle.term.specs.Moment.{old, new};
 ghost use Rattle.term.specs.Code.{variables};
 ghost use Rattle.parts.specs.Packed.{parts_in};
 ghost use Rattle.search.specs.Following.{shown_known};
@@ -12,7 +11,7 @@ use parts::{PARTS, show, show_absent};
 
 // What is found is shown, with all that is assigned or with nothing.
 pub(crate) fn show_found(outcome: Finding, parts: &[u64; PARTS], assigned: u64, answer: &mut [u16])
-    ensures { new answer ≡ shown_by outcome (parts_in assigned (old parts) 0 variables) (old answer) }
+    ensures { answer.new ≡ shown_by outcome (parts_in assigned parts.now 0 variables) answer.old }
 {
     if is_found(outcome) {
         show(parts, assigned, answer);
@@ -20,7 +19,7 @@ pub(crate) fn show_found(outcome: Finding, parts: &[u64; PARTS], assigned: u64, 
 }
 
 pub(crate) fn show_unassigned(outcome: Finding, answer: &mut [u16])
-    ensures { new answer ≡ shown_by outcome (replicate variables absent) (old answer) }
+    ensures { answer.new ≡ shown_by outcome (replicate variables absent) answer.old }
 {
     if is_found(outcome) {
         show_absent(answer);
@@ -29,7 +28,7 @@ pub(crate) fn show_unassigned(outcome: Finding, answer: &mut [u16])
 
 // What the search after a given answer finds is shown as that of the first.
 pub(crate) fn show_known(known: Known, parts: &[u64; PARTS], assigned: u64, answer: &mut [u16])
-    ensures { new answer ≡ shown_known known (parts_in assigned (old parts) 0 variables) (old answer) }
+    ensures { answer.new ≡ shown_known known (parts_in assigned parts.now 0 variables) answer.old }
 {
     if let Known::Ended(outcome) = known {
         show_found(outcome, parts, assigned, answer);

@@ -1,6 +1,5 @@
 // Lengths of a run name after which the next element can't hold: they are counted, and not tried.
 ghost use Rattle.std.specs.Prelude.{◌≡◌, false, ◌+◌, ◌*◌, ◌^◌, ◌≤◌, ◌<◌, length};
-ghost use Rattle.term.specs.Moment.{old, new};
 ghost use Rattle.term.specs.Limits.{longest_record};
 ghost use Rattle.search.specs.State.{place};
 ghost use Rattle.search.specs.Inner.Skips.{skipped, SkipsTo, Skips, Lengthened, Lengthens};
@@ -18,7 +17,7 @@ pub(crate) const ANYTHING: u8 = 255;
 const CHAIN: u8 = 254;
 
 // Lengths of a run name that are passed over, the byte behind the last of their elements, whether those after them fail too, and what is counted.
-#[derive(Drop)]
+#[derive(Clone, Copy)]
 pub struct Skipped {
     pub lengths: u8,
     pub node: usize,
@@ -61,7 +60,7 @@ fn skip_to(
     left: u32,
 ) -> Skipped
     requires { (node ≤ length «record».now) × (length «record».now ≤ longest_record) }
-    ensures { SkipsTo (old table) (old classes) (old «record») symbols (old x) plain elements node left result }
+    ensures { SkipsTo table.now classes.now «record».now symbols x.now plain elements node left result }
 {
     let k = seek(
         table,
@@ -95,7 +94,7 @@ fn skip(
     left: u32,
 ) -> Skipped
     requires { (node ≤ length «record».now) × (length «record».now ≤ longest_record) }
-    ensures { Skips (old table) (old classes) (old pattern) (old «record») assigned (old parts) (place children elements at node) left result }
+    ensures { Skips table.now classes.now pattern.now «record».now assigned parts.now (place children elements at node) left result }
 {
     if children == 0 {
         return Skipped::none(node);
@@ -210,7 +209,7 @@ pub(crate) fn skip_where(
     left: u32,
 ) -> Skipped
     requires { (place.node ≤ length «record».now) × (length «record».now ≤ longest_record) }
-    ensures { Skips (old table) (old classes) (old pattern) (old «record») assigned (old parts) place left result }
+    ensures { Skips table.now classes.now pattern.now «record».now assigned parts.now place left result }
 {
     if !scans(classes, record, want, place.node) {
         return Skipped::none(place.node);
@@ -231,7 +230,7 @@ pub(crate) fn skip_where(
 }
 
 // What is left of the lengths of a run name after one that failed.
-#[derive(Drop)]
+#[derive(Clone, Copy)]
 pub struct Lengthening {
     pub place: Place,
     pub left: u32,
@@ -252,7 +251,7 @@ pub(crate) fn lengthen(
     left: u32,
 ) -> Lengthening
     requires { Lengthened (length «record».now) parts.old v place }
-    ensures { Lengthens (old table) (old classes) (old pattern) (old «record») assigned (old parts) v place left (new parts) result }
+    ensures { Lengthens table.now classes.now pattern.now «record».now assigned parts.old v place left parts.new result }
 {
     let at = place.node;
     let node = at + extent(table, &record[at..]);

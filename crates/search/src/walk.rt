@@ -2,7 +2,6 @@
 ghost use Rattle.std.specs.Prelude.{◌≡◌, ◌^◌, ◌≤◌, ◌<◌, length, set};
 ghost use Rattle.std.specs.Int.Bits.{bit_or};
 ghost use Rattle.answers.specs.Part.{bound_part};
-ghost use Rattle.term.specs.Moment.{old, new};
 ghost use Rattle.term.specs.Code.{variables};
 ghost use Rattle.parts.specs.Packed.{packed};
 ghost use Rattle.search.specs.Inner.Memory.{Holding};
@@ -18,7 +17,7 @@ use steps::{Step, Stop, step_of};
 use term::extents;
 
 // Where the pairs of a level stopped, the allowance left, and what the buffers then hold.
-#[derive(Drop)]
+#[derive(Clone, Copy)]
 pub struct Stopped {
     pub stop: Stop,
     pub left: u32,
@@ -65,7 +64,7 @@ fn bind(
     elements: u8,
 ) -> u64
     requires { v < variables }
-    ensures { (result ≡ bit_or assigned (2 ^ v)) × (new parts ≡ set (old parts) v (packed (bound_part node size elements))) }
+    ensures { (result ≡ bit_or assigned (2 ^ v)) × (parts.new ≡ set parts.old v (packed (bound_part node size elements))) }
 {
     let i = wide(v);
     parts[i] = packed(Part::bound(node, size, elements));
@@ -87,7 +86,7 @@ fn walk(
 ) -> Stopped
     requires holding { Holding (length pattern.now) (length «record».now) assigned parts.old stack.old marks place }
     requires short { Short pattern.now «record».now }
-    ensures { Walks (input table classes pattern «record») (handed assigned left parts stack) marks place (new parts) (new stack) result }
+    ensures { Walks (input table classes pattern «record») (handed assigned left parts stack) marks place parts.new stack.new result }
 {
     let stop = loop {
         let step = step_of(
@@ -156,7 +155,7 @@ pub(crate) fn onward(
 ) -> Stopped
     requires holding { Holding (length pattern.now) (length «record».now) assigned parts.old stack.old marks place }
     requires short { Short pattern.now «record».now }
-    ensures { Onward halts (input table classes pattern «record») (handed assigned left parts stack) marks place (new parts) (new stack) result }
+    ensures { Onward halts (input table classes pattern «record») (handed assigned left parts stack) marks place parts.new stack.new result }
 {
     loop {
         let w = walk(

@@ -4,7 +4,6 @@
 ghost use Rattle.std.specs.Prelude.{◌≡◌, true, ◌+◌, ◌≤◌, ◌<◌, length};
 ghost use Rattle.std.proofs.Math.Option.{none, some};
 ghost use Rattle.byte_answers.specs.Answers.{checked_number, checked_count, place_offset};
-ghost use Rattle.term.specs.Moment.{old};
 ghost use Rattle.term.specs.Language.{language};
 ghost use Rattle.reader.specs.Brought.{list_if};
 ghost use Rattle.sheet.specs.Word.{word_at};
@@ -28,7 +27,7 @@ const MOST_RULES: usize = 64;
 pub const EDITION_MARK: u16 = 32768;
 
 // Which editions a sheet may have: any, or only that of the sheets before it.
-#[derive(Drop)]
+#[derive(Clone, Copy)]
 pub enum Editions {
     Any,
     Only(Edition),
@@ -43,14 +42,14 @@ pub const PAIR: usize = 4;
 // The 16-bit number at a place, low byte first.
 fn word_at(s: &[u8], at: usize) -> u16
     requires { at + 1 < length s.now }
-    ensures { result ≡ word_at (old s) at }
+    ensures { result ≡ word_at s.now at }
 {
     (s[at] as u16) + 256 * (s[at + 1] as u16)
 }
 
 // The number of entries that a sheet tells, be it accepted or not.
 pub fn count(sheet: &[u8]) -> u16
-    ensures { result ≡ entry_count (old sheet) }
+    ensures { result ≡ entry_count sheet.now }
 {
     if sheet.len() == 0 {
         return 0;
@@ -63,7 +62,7 @@ pub fn count(sheet: &[u8]) -> u16
 
 // The edition that a sheet tells, be it accepted or not.
 pub fn edition_of(sheet: &[u8]) -> Edition
-    ensures { result ≡ edition_of (old sheet) }
+    ensures { result ≡ edition_of sheet.now }
 {
     if sheet.len() < WORD {
         return Edition::One;
@@ -77,14 +76,14 @@ pub fn edition_of(sheet: &[u8]) -> Edition
 // The offset and the length of an index in the directory.
 fn offset_at(sheet: &[u8], index: usize) -> u16
     requires { past_pairs (index + 1) ≤ length sheet.now }
-    ensures { result ≡ offset_at (old sheet) index }
+    ensures { result ≡ offset_at sheet.now index }
 {
     word_at(sheet, WORD + PAIR * index)
 }
 
 fn length_at(sheet: &[u8], index: usize) -> u16
     requires { past_pairs (index + 1) ≤ length sheet.now }
-    ensures { result ≡ length_at (old sheet) index }
+    ensures { result ≡ length_at sheet.now index }
 {
     word_at(sheet, WORD + PAIR * index + WORD)
 }
@@ -92,7 +91,7 @@ fn length_at(sheet: &[u8], index: usize) -> u16
 // Whether the entries follow the directory of n pairs and each other, and end with the sheet.
 fn entries_follow(sheet: &[u8], n: usize) -> bool
     requires { past_pairs n ≤ length sheet.now }
-    ensures { result ≡ entries_follow (old sheet) n 0 (past_pairs n) }
+    ensures { result ≡ entries_follow sheet.now n 0 (past_pairs n) }
 {
     let mut at = WORD + PAIR * n;
     let mut i: usize = 0;
@@ -112,8 +111,8 @@ fn entries_follow(sheet: &[u8], n: usize) -> bool
 
 // Checks a sheet of any entries.
 pub fn check_sheet(sheet: &[u8]) -> Checked
-    ensures is { result ≡ check_sheet (old sheet) }
-    ensures demand { OneReading (old sheet) (checked_number result) (checked_count result) }
+    ensures is { result ≡ check_sheet sheet.now }
+    ensures demand { OneReading sheet.now (checked_number result) (checked_count result) }
 {
     if LONGEST_SHEET < sheet.len() {
         return Checked::Refused(Refusal::Long, 0);
@@ -133,8 +132,8 @@ pub fn check_sheet(sheet: &[u8]) -> Checked
 
 // The part that the pair of an index tells, without the other checks: for callers that checked the sheet before.
 pub fn part_at(sheet: &[u8], index: usize) -> &[u8]
-    ensures bytes { result.now ≡ part_at (old sheet) index }
-    ensures place { result.ref_ptr ≡ points_into sheet.entry (part_offset (old sheet) index) }
+    ensures bytes { result.now ≡ part_at sheet.now index }
+    ensures place { result.ref_ptr ≡ points_into sheet.entry (part_offset sheet.now index) }
 {
     if sheet.len() < WORD {
         return &sheet[..0];
@@ -152,7 +151,7 @@ pub fn part_at(sheet: &[u8], index: usize) -> &[u8]
 
 // Checks a sheet and an index.
 pub fn check_entry(sheet: &[u8], index: usize) -> Checked
-    ensures { result ≡ check_entry (old sheet) index }
+    ensures { result ≡ check_entry sheet.now index }
 {
     let checked = check_sheet(sheet);
     let Checked::Accepted(n) = checked else {
@@ -166,8 +165,8 @@ pub fn check_entry(sheet: &[u8], index: usize) -> Checked
 
 // An entry as a part of the sheet, or an empty part where the check of sheet and index refuses.
 pub fn entry(sheet: &[u8], index: usize) -> &[u8]
-    ensures bytes { result.now ≡ shown_entry (old sheet) index }
-    ensures place { result.ref_ptr ≡ points_into sheet.entry (place_offset (place_of (old sheet) index)) }
+    ensures bytes { result.now ≡ shown_entry sheet.now index }
+    ensures place { result.ref_ptr ≡ points_into sheet.entry (place_offset (place_of sheet.now index)) }
 {
     let checked = check_entry(sheet, index);
     let Checked::Accepted(_) = checked else {
@@ -178,7 +177,7 @@ pub fn entry(sheet: &[u8], index: usize) -> &[u8]
 
 // Where an entry lies, or the refusal of the check of sheet and index.
 pub fn place_of(sheet: &[u8], index: usize) -> EntryPlace
-    ensures { result ≡ place_of (old sheet) index }
+    ensures { result ≡ place_of sheet.now index }
 {
     let checked = check_entry(sheet, index);
     match checked {
@@ -226,7 +225,7 @@ fn allows(editions: Editions, edition: Edition) -> bool
 
 // Checks a sheet of any entries, of one of these editions.
 pub fn check_among(editions: Editions, sheet: &[u8]) -> Checked
-    ensures { result ≡ check_among editions (old sheet) }
+    ensures { result ≡ check_among editions sheet.now }
 {
     let checked = check_sheet(sheet);
     let Checked::Accepted(_) = checked else {
@@ -239,7 +238,7 @@ pub fn check_among(editions: Editions, sheet: &[u8]) -> Checked
 }
 
 fn read_entry(records: bool, edition: Edition, table: &[u8], classes: &[u8], bytes: &[u8]) -> Read
-    ensures { result ≡ read_entry records (language edition (old table) (old classes)) (old bytes) }
+    ensures { result ≡ read_entry records (language edition table.now classes.now) bytes.now }
 {
     if records {
         return reader::read_record_in(edition, table, classes, bytes);
@@ -257,7 +256,7 @@ fn check_entries(
     n: usize,
 ) -> Checked
     requires { check_sheet sheet.now ≡ Checked.Accepted n }
-    ensures { result ≡ check_each records (language edition (old table) (old classes)) 0 (entries (old sheet)) }
+    ensures { result ≡ check_each records (language edition table.now classes.now) 0 (entries sheet.now) }
 {
     let mut i: usize = 0;
     while i < n {
@@ -289,7 +288,7 @@ pub fn check_contents(
     classes: &[u8],
     sheet: &[u8],
 ) -> Checked
-    ensures { result ≡ check_contents records editions (old table) (list_if brings (old classes)) (old sheet) }
+    ensures { result ≡ check_contents records editions table.now (list_if brings classes.now) sheet.now }
 {
     if !term::check_table(table) {
         return Checked::Refused(Refusal::Table, 0);
@@ -310,27 +309,27 @@ pub fn check_contents(
 
 // Checks a sheet of records.
 pub fn check_states(table: &[u8], sheet: &[u8]) -> Checked
-    ensures { result ≡ check_states (old table) none (old sheet) }
+    ensures { result ≡ check_states table.now none sheet.now }
 {
     check_contents(true, Editions::Any, table, false, &table[..0], sheet)
 }
 
 // Checks a sheet of at most 64 patterns.
 pub fn check_rules(table: &[u8], sheet: &[u8]) -> Checked
-    ensures { result ≡ check_rules (old table) none (old sheet) }
+    ensures { result ≡ check_rules table.now none sheet.now }
 {
     check_contents(false, Editions::Any, table, false, &table[..0], sheet)
 }
 
 // The same with a class list.
 pub fn check_states_in(table: &[u8], classes: &[u8], sheet: &[u8]) -> Checked
-    ensures { result ≡ check_states (old table) (some (old classes)) (old sheet) }
+    ensures { result ≡ check_states table.now (some classes.now) sheet.now }
 {
     check_contents(true, Editions::Any, table, true, classes, sheet)
 }
 
 pub fn check_rules_in(table: &[u8], classes: &[u8], sheet: &[u8]) -> Checked
-    ensures { result ≡ check_rules (old table) (some (old classes)) (old sheet) }
+    ensures { result ≡ check_rules table.now (some classes.now) sheet.now }
 {
     check_contents(false, Editions::Any, table, true, classes, sheet)
 }

@@ -2,7 +2,6 @@
 #![tactic(auto)]
 
 ghost use Rattle.std.specs.Prelude.{◌≡◌, ◌*◌, ◌≤◌, ◌<◌, length};
-ghost use Rattle.term.specs.Moment.{old};
 ghost use Rattle.term.specs.Code.{decode_of};
 ghost use Rattle.term.specs.Extent.{extent_of};
 ghost use Rattle.skips.specs.Passed.{leaf_at, alike_of, most_symbols, is_symbol, ends_chain, chain_of, differs_at, passed_over, passed_of, Passes, dearest_of, affordable_of};
@@ -13,7 +12,7 @@ use term::{Code, LIST, class_of, decode, entry_of, extent, same, same_symbol};
 const MOST_SYMBOLS: u8 = 255;
 
 // How many elements are passed over, their bytes, and what is counted for them.
-#[derive(Drop)]
+#[derive(Clone, Copy)]
 pub struct Passed {
     pub elements: u8,
     pub size: usize,
@@ -41,8 +40,8 @@ fn wide(b: u8) -> usize
 
 // The number of bytes of the term at the start of s; most elements are symbols without children.
 fn element(table: &[u8], s: &[u8]) -> usize
-    ensures is { result ≡ extent_of (old table) (old s) }
-    ensures within { result ≤ length (old s) }
+    ensures is { result ≡ extent_of table.now s.now }
+    ensures within { result ≤ length s.now }
 {
     if 0 < s.len() {
         if entry_of(table, s[0]) == 0 {
@@ -54,7 +53,7 @@ fn element(table: &[u8], s: &[u8]) -> usize
 
 // Whether the byte at i is a symbol without children.
 fn leaf(table: &[u8], s: &[u8], i: usize) -> bool
-    ensures { result ≡ leaf_at (old table) (old s) i }
+    ensures { result ≡ leaf_at table.now s.now i }
 {
     if s.len() <= i {
         return false;
@@ -64,8 +63,8 @@ fn leaf(table: &[u8], s: &[u8], i: usize) -> bool
 
 // The same as `element`, where most have none or up to two children, which have none. (With two callers, neither would be compiled into its own.)
 fn small_element(table: &[u8], s: &[u8]) -> usize
-    ensures is { result ≡ extent_of (old table) (old s) }
-    ensures within { result ≤ length (old s) }
+    ensures is { result ≡ extent_of table.now s.now }
+    ensures within { result ≤ length s.now }
 {
     if 0 < s.len() {
         let entry = entry_of(table, s[0]);
@@ -103,7 +102,7 @@ fn is_symbol(b: u8) -> bool
 
 // Whether no symbol after b is of its chain: b has no children, or is a list.
 fn ends(table: &[u8], b: u8) -> bool
-    ensures { result ≡ ends_chain (old table) b }
+    ensures { result ≡ ends_chain table.now b }
 {
     let entry = entry_of(table, b);
     (entry == 0) | (entry == LIST)
@@ -111,7 +110,7 @@ fn ends(table: &[u8], b: u8) -> bool
 
 // The symbols at the start of q, each but the first the first child of the one before.
 pub fn chain(table: &[u8], q: &[u8]) -> u8
-    ensures { result ≡ chain_of (old table) most_symbols (old q) }
+    ensures { result ≡ chain_of table.now most_symbols q.now }
 {
     let mut n: u8 = 0;
     while n < MOST_SYMBOLS {
@@ -132,7 +131,7 @@ pub fn chain(table: &[u8], q: &[u8]) -> u8
 
 // The pairs counted where y is set against so many symbols of x, a chain: up to and with the first that differs, 0 where none does.
 fn differs(classes: &[u8], symbols: u8, x: &[u8], y: &[u8]) -> u8
-    ensures { result ≡ differs_at (old classes) symbols (old x) (old y) }
+    ensures { result ≡ differs_at classes.now symbols x.now y.now }
 {
     let mut n: u8 = 0;
     while n < symbols {
@@ -154,7 +153,7 @@ fn differs(classes: &[u8], symbols: u8, x: &[u8], y: &[u8]) -> u8
 // Whether so many bytes at the start of y may be those whose first and last are of these classes: most that differ do there.
 fn alike(classes: &[u8], first: u8, last: u8, size: usize, y: &[u8]) -> bool
     requires { 0 < size }
-    ensures { result ≡ alike_of (old classes) first last size (old y) }
+    ensures { result ≡ alike_of classes.now first last size y.now }
 {
     if y.len() < size {
         return false;
@@ -167,7 +166,7 @@ fn alike(classes: &[u8], first: u8, last: u8, size: usize, y: &[u8]) -> bool
 
 // The elements at the start of r, at most so many, of which none starts with x.
 fn seek_part(table: &[u8], classes: &[u8], x: &[u8], r: &[u8], most: u8) -> Passed
-    ensures { result ≡ passed_of (old table) (old classes) 0 (old x) (old r) most }
+    ensures { result ≡ passed_of table.now classes.now 0 x.now r.now most }
 {
     let size = x.len();
     if size == 0 {
@@ -195,7 +194,7 @@ fn seek_part(table: &[u8], classes: &[u8], x: &[u8], r: &[u8], most: u8) -> Pass
 // The elements at the start of r, at most so many, that all differ from so many symbols of x, a chain.
 fn seek_chain(table: &[u8], classes: &[u8], symbols: u8, x: &[u8], r: &[u8], most: u8) -> Passed
     requires { 0 < symbols }
-    ensures { result ≡ passed_of (old table) (old classes) symbols (old x) (old r) most }
+    ensures { result ≡ passed_of table.now classes.now symbols x.now r.now most }
 {
     let mut n: u8 = 0;
     let mut at: usize = 0;
@@ -222,9 +221,9 @@ fn seek_chain(table: &[u8], classes: &[u8], symbols: u8, x: &[u8], r: &[u8], mos
 // The elements at the start of r, at most so many, that all fail against x: a chain of so many symbols, or where they are 0 a part. One symbol is a part
 // of one byte.
 pub fn seek(table: &[u8], classes: &[u8], symbols: u8, x: &[u8], r: &[u8], most: u8) -> Passed
-    ensures is { result ≡ passed_of (old table) (old classes) symbols (old x) (old r) most }
+    ensures is { result ≡ passed_of table.now classes.now symbols x.now r.now most }
     ensures few { result.elements ≤ most }
-    ensures passes { Passes (old table) (old classes) symbols (old x) (old r) result.elements result.size result.count }
+    ensures passes { Passes table.now classes.now symbols x.now r.now result.elements result.size result.count }
 {
     if symbols == 0 {
         return seek_part(table, classes, x, r, most);

@@ -7,7 +7,6 @@ ghost use Rattle.byte_answers.specs.Answers.{move_number, move_length};
 ghost use Rattle.term.specs.Table.{table_accepted};
 ghost use Rattle.term.specs.Language.{simple};
 ghost use Rattle.term.specs.Limits.{longest_record};
-ghost use Rattle.term.specs.Moment.{old, new};
 ghost use Rattle.reader.specs.Brought.{list_if};
 ghost use Rattle.reader.specs.Reading.{shown, read_whole};
 ghost use Rattle.splice.specs.Converting.{converted, output_after};
@@ -23,7 +22,7 @@ use term::{LIST, check_table, class_of, entry_of};
 const MOST_ELEMENTS: usize = 255;
 
 // A node's own bytes: how many, its number of children, whether it is a list, and its class if so. No byte: there is none.
-#[derive(Drop)]
+#[derive(Clone, Copy)]
 struct Head {
     size: usize,
     kids: u8,
@@ -41,7 +40,7 @@ impl Head {
 }
 
 // What trees come to when they are spliced: their bytes, the bytes put, the number of elements, and whether a byte can tell each list's number.
-#[derive(Drop)]
+#[derive(Clone, Copy)]
 struct Put {
     used: usize,
     put: usize,
@@ -65,8 +64,8 @@ fn wide(b: u8) -> usize
 }
 
 fn head_of(table: &[u8], classes: &[u8], s: &[u8]) -> Head
-    ensures is { result ≡ head_of (old table) (old classes) (old s) }
-    ensures within { result.size ≤ length (old s) }
+    ensures is { result ≡ head_of table.now classes.now s.now }
+    ensures within { result.size ≤ length s.now }
 {
     if s.len() == 0 {
         return Head::ABSENT;
@@ -102,7 +101,7 @@ fn is_direct(head: Head, listed: bool, around: u8) -> bool
 
 // Stores a byte where there is room.
 fn store(out: &mut [u8], at: usize, b: u8)
-    ensures { new out ≡ set (old out) at b }
+    ensures { out.new ≡ set out.old at b }
 {
     if at < out.len() {
         out[at] = b;
@@ -121,7 +120,7 @@ fn byte(n: usize) -> u8
 
 // Stores a list's number of children.
 fn store_number(out: &mut [u8], at: usize, list: bool, n: usize)
-    ensures { new out ≡ stored list (old out) at n }
+    ensures { out.new ≡ stored list out.old at n }
 {
     if list {
         let b = byte(n);
@@ -142,7 +141,7 @@ fn narrow_node(list: bool, n: usize) -> bool
 fn close_node(out: &mut [u8], at: usize, head: Head, inside: Put) -> Put
     requires { (at ≤ farthest) × (head.size + inside.used ≤ farthest) × (inside.put ≤ inside.used) }
     ensures is { result ≡ node_put head inside }
-    ensures stores { new out ≡ stored head.list (old out) (at + 1) inside.elements }
+    ensures stores { out.new ≡ stored head.list out.old (at + 1) inside.elements }
 {
     store_number(out, at + 1, head.list, inside.elements);
     Put {
@@ -158,9 +157,9 @@ fn close_node(out: &mut [u8], at: usize, head: Head, inside: Put) -> Put
 fn put_node(table: &[u8], classes: &[u8], s: &[u8], out: &mut [u8], at: usize, head: Head) -> Put
     requires is { head ≡ head_of table.now classes.now s.now }
     requires within { (0 < head.size) × (head.size ≤ length s.now) × (at + length s.now ≤ farthest) }
-    ensures is { PutsNode (old table) (old classes) (old s) result }
-    ensures within { (0 < result.used) × PutWithin (old s) result }
-    ensures stores { StoresNode (old table) (old classes) (old s) at (old out) (new out) }
+    ensures is { PutsNode table.now classes.now s.now result }
+    ensures within { (0 < result.used) × PutWithin s.now result }
+    ensures stores { StoresNode table.now classes.now s.now at out.old out.new }
 {
     let size = head.size;
     let kids = head.kids;
@@ -194,9 +193,9 @@ fn put_trees(
     around: u8,
 ) -> Put
     requires { at + length s.now ≤ farthest }
-    ensures is { Puts (old table) (old classes) (old s) count (around_of listed around) result }
-    ensures within { PutWithin (old s) result }
-    ensures stores { Stores (old table) (old classes) (old s) count (around_of listed around) at (old out) (new out) }
+    ensures is { Puts table.now classes.now s.now count (around_of listed around) result }
+    ensures within { PutWithin s.now result }
+    ensures stores { Stores table.now classes.now s.now count (around_of listed around) at out.old out.new }
 {
     let mut trees = wide(count);
     let mut done = Put::NOTHING;
@@ -226,7 +225,7 @@ fn put_trees(
 }
 
 fn read_entry(records: bool, table: &[u8], bytes: &[u8]) -> Read
-    ensures { result ≡ shown (read_whole records (simple (old table)) (old bytes)) }
+    ensures { result ≡ shown (read_whole records (simple table.now) bytes.now) }
 {
     if records {
         return reader::read_record(table, bytes);
@@ -237,7 +236,7 @@ fn read_entry(records: bool, table: &[u8], bytes: &[u8]) -> Read
 // What the tree at the start of some bytes comes to: a pass with no room for what it puts.
 fn measure(table: &[u8], classes: &[u8], bytes: &[u8]) -> Put
     requires { length bytes.now ≤ longest_record }
-    ensures { Puts (old table) (old classes) (old bytes) 1 none result }
+    ensures { Puts table.now classes.now bytes.now 1 none result }
 {
     let mut nothing = [0u8; 1];
     put_trees(table, classes, bytes, &mut nothing, 1, 1, false, 0)
@@ -253,9 +252,9 @@ fn splice_brought(
     bytes: &[u8],
     output: &mut [u8],
 ) -> Move
-    ensures answer { result ≡ shown_of (call records (old table) (list_if brings (old classes)) (length (old output)) (old bytes)) }
-    ensures contents { new output ≡ output_after (old output) (call records (old table) (list_if brings (old classes)) (length (old output)) (old bytes)) }
-    ensures demand { Demanded records (old table) (list_if brings (old classes)) (old bytes) (old output) (move_number result) (move_length result) (new output) }
+    ensures answer { result ≡ shown_of (call records table.now (list_if brings classes.now) (length output.old) bytes.now) }
+    ensures contents { output.new ≡ output_after output.old (call records table.now (list_if brings classes.now) (length output.old) bytes.now) }
+    ensures demand { Demanded records table.now (list_if brings classes.now) bytes.now output.old (move_number result) (move_length result) output.new }
 {
     if !check_table(table) {
         return Move::Refused(Refusal::Table);
@@ -276,8 +275,8 @@ fn splice_checked(
     output: &mut [u8],
 ) -> Move
     requires { table_accepted table.now ≡ true }
-    ensures answer { result ≡ shown_of (converted records (old classes) (old table) (length (old output)) (old bytes)) }
-    ensures contents { new output ≡ output_after (old output) (converted records (old classes) (old table) (length (old output)) (old bytes)) }
+    ensures answer { result ≡ shown_of (converted records classes.now table.now (length output.old) bytes.now) }
+    ensures contents { output.new ≡ output_after output.old (converted records classes.now table.now (length output.old) bytes.now) }
 {
     let entry = read_entry(records, table, bytes);
     if let Read::Refused(r) = entry {
@@ -298,35 +297,35 @@ fn splice_checked(
 
 // Splices an edition 1 record into the front of the output, or leaves the output as it is.
 pub fn splice_record(table: &[u8], bytes: &[u8], output: &mut [u8]) -> Move
-    ensures answer { result ≡ shown_of (call true (old table) none (length (old output)) (old bytes)) }
-    ensures contents { new output ≡ output_after (old output) (call true (old table) none (length (old output)) (old bytes)) }
-    ensures demand { Demanded true (old table) none (old bytes) (old output) (move_number result) (move_length result) (new output) }
+    ensures answer { result ≡ shown_of (call true table.now none (length output.old) bytes.now) }
+    ensures contents { output.new ≡ output_after output.old (call true table.now none (length output.old) bytes.now) }
+    ensures demand { Demanded true table.now none bytes.now output.old (move_number result) (move_length result) output.new }
 {
     splice_brought(true, table, false, &table[..0], bytes, output)
 }
 
 // A pattern likewise.
 pub fn splice_pattern(table: &[u8], bytes: &[u8], output: &mut [u8]) -> Move
-    ensures answer { result ≡ shown_of (call false (old table) none (length (old output)) (old bytes)) }
-    ensures contents { new output ≡ output_after (old output) (call false (old table) none (length (old output)) (old bytes)) }
-    ensures demand { Demanded false (old table) none (old bytes) (old output) (move_number result) (move_length result) (new output) }
+    ensures answer { result ≡ shown_of (call false table.now none (length output.old) bytes.now) }
+    ensures contents { output.new ≡ output_after output.old (call false table.now none (length output.old) bytes.now) }
+    ensures demand { Demanded false table.now none bytes.now output.old (move_number result) (move_length result) output.new }
 {
     splice_brought(false, table, false, &table[..0], bytes, output)
 }
 
 // The same up to class, by a class list.
 pub fn splice_record_in(table: &[u8], classes: &[u8], bytes: &[u8], output: &mut [u8]) -> Move
-    ensures answer { result ≡ shown_of (call true (old table) (some (old classes)) (length (old output)) (old bytes)) }
-    ensures contents { new output ≡ output_after (old output) (call true (old table) (some (old classes)) (length (old output)) (old bytes)) }
-    ensures demand { Demanded true (old table) (some (old classes)) (old bytes) (old output) (move_number result) (move_length result) (new output) }
+    ensures answer { result ≡ shown_of (call true table.now (some classes.now) (length output.old) bytes.now) }
+    ensures contents { output.new ≡ output_after output.old (call true table.now (some classes.now) (length output.old) bytes.now) }
+    ensures demand { Demanded true table.now (some classes.now) bytes.now output.old (move_number result) (move_length result) output.new }
 {
     splice_brought(true, table, true, classes, bytes, output)
 }
 
 pub fn splice_pattern_in(table: &[u8], classes: &[u8], bytes: &[u8], output: &mut [u8]) -> Move
-    ensures answer { result ≡ shown_of (call false (old table) (some (old classes)) (length (old output)) (old bytes)) }
-    ensures contents { new output ≡ output_after (old output) (call false (old table) (some (old classes)) (length (old output)) (old bytes)) }
-    ensures demand { Demanded false (old table) (some (old classes)) (old bytes) (old output) (move_number result) (move_length result) (new output) }
+    ensures answer { result ≡ shown_of (call false table.now (some classes.now) (length output.old) bytes.now) }
+    ensures contents { output.new ≡ output_after output.old (call false table.now (some classes.now) (length output.old) bytes.now) }
+    ensures demand { Demanded false table.now (some classes.now) bytes.now output.old (move_number result) (move_length result) output.new }
 {
     splice_brought(false, table, true, classes, bytes, output)
 }

@@ -4,7 +4,6 @@
 
 ghost use Rattle.std.specs.Prelude.{◌≡◌, ◌+◌, ◌*◌, ◌≤◌, ◌<◌, length, take, drop};
 ghost use Rattle.std.proofs.lemmas.List.Edits.{sets};
-ghost use Rattle.term.specs.Moment.{old, new};
 ghost use Rattle.answers.specs.Answers.{applied_length};
 ghost use Rattle.reader.specs.Brought.{simply, bringing, brought_by};
 ghost use Rattle.station.specs.Slot.{apart, room, most_kept, Clear};
@@ -29,7 +28,7 @@ const LONGEST: u16 = 4096;
 
 // How many are kept, under which names, and the records' lengths, the current one's first.
 #[repr(C)]
-#[derive(Drop)]
+#[derive(Clone, Copy)]
 pub struct Station {
     pub kept: u16,
     pub names: [u16; KEPT],
@@ -37,14 +36,14 @@ pub struct Station {
 }
 
 // A station as a call leaves it, with the call's answer.
-#[derive(Drop)]
+#[derive(Clone, Copy)]
 pub struct Changed {
     pub answer: Change,
     pub station: Station,
 }
 
 // The same after an apply.
-#[derive(Drop)]
+#[derive(Clone, Copy)]
 pub struct Replaced {
     pub answer: Applied,
     pub station: Station,
@@ -132,7 +131,7 @@ fn check(station: Station, lent: usize) -> Change
 // Copies n bytes from a place to another.
 fn copy_bytes(records: &mut [u8], from: usize, to: usize, n: usize)
     requires { (from + n ≤ length records.old) × (to + n ≤ length records.old) × Clear from to n }
-    ensures { new records ≡ sets (old records) to (take n (drop from (old records))) }
+    ensures { records.new ≡ sets records.old to (take n (drop from records.old)) }
 {
     let mut i: usize = 0;
     while i < n {
@@ -169,7 +168,7 @@ fn lengthened_at(station: Station, i: usize, n: u16) -> Station
 // The bytes of a record, at the front.
 fn put_current(bytes: &[u8], records: &mut [u8])
     requires { length bytes.now ≤ length records.old }
-    ensures { new records ≡ sets (old records) 0 (old bytes) }
+    ensures { records.new ≡ sets records.old 0 bytes.now }
 {
     let mut i: usize = 0;
     while i < bytes.len() {
@@ -181,7 +180,7 @@ fn put_current(bytes: &[u8], records: &mut [u8])
 // A station with an accepted record, which keeps none.
 fn begin(bytes: &[u8], station: Station, records: &mut [u8]) -> Changed
     requires { (length bytes.now ≤ apart) × (room ≤ length records.old) }
-    ensures { outcome result.answer result.station (new records) ≡ with_record Change.Done (emptied station) (old records) 0 (old bytes) }
+    ensures { outcome result.answer result.station records.new ≡ with_record Change.Done (emptied station) records.old 0 bytes.now }
 {
     put_current(bytes, records);
     let mut after = station;
@@ -201,7 +200,7 @@ fn check_record(
     classes: &[u8],
     bytes: &[u8],
 ) -> Change
-    ensures { result ≡ record_check (brought_by edition (old table) brings (old classes)) (old bytes) }
+    ensures { result ≡ record_check (brought_by edition table.now brings classes.now) bytes.now }
 {
     if !term::check_table(table) {
         return Change::Refused(Refusal::Table);
@@ -227,7 +226,7 @@ fn new_brought(
     station: Station,
     records: &mut [u8],
 ) -> Changed
-    ensures { outcome result.answer result.station (new records) ≡ new_of (brought_by edition (old table) brings (old classes)) (old bytes) station (old records) }
+    ensures { outcome result.answer result.station records.new ≡ new_of (brought_by edition table.now brings classes.now) bytes.now station records.old }
 {
     if records.len() < ROOM {
         return Changed {
@@ -247,7 +246,7 @@ fn new_brought(
 
 // New, on a station by value: the work of `new`.
 pub fn new_by_value(table: &[u8], bytes: &[u8], station: Station, records: &mut [u8]) -> Changed
-    ensures { Begins (simply (old table)) (old bytes) station (old records) result.answer result.station (new records) }
+    ensures { Begins (simply table.now) bytes.now station records.old result.answer result.station records.new }
 {
     new_brought(
         Edition::One,
@@ -269,14 +268,14 @@ pub fn new_by_value_in(
     station: Station,
     records: &mut [u8],
 ) -> Changed
-    ensures { Begins (bringing edition (old table) (old classes)) (old bytes) station (old records) result.answer result.station (new records) }
+    ensures { Begins (bringing edition table.now classes.now) bytes.now station records.old result.answer result.station records.new }
 {
     new_brought(edition, table, true, classes, bytes, station, records)
 }
 
 // Keep, on a station by value: the work of `keep`.
 pub fn keep_by_value(name: u16, station: Station, records: &mut [u8]) -> Changed
-    ensures { Keeps name station (old records) result.answer result.station (new records) }
+    ensures { Keeps name station records.old result.answer result.station records.new }
 {
     let checked = check(station, records.len());
     let Change::Done = checked else {
@@ -306,7 +305,7 @@ pub fn keep_by_value(name: u16, station: Station, records: &mut [u8]) -> Changed
 
 // Return, on a station by value: the work of `return_to`.
 pub fn return_by_value(name: u16, station: Station, records: &mut [u8]) -> Changed
-    ensures { Returns name station (old records) result.answer result.station (new records) }
+    ensures { Returns name station records.old result.answer result.station records.new }
 {
     let checked = check(station, records.len());
     let Change::Done = checked else {
@@ -344,7 +343,7 @@ fn scratch() -> [u8; LONGEST_RECORD]
 // The station after an apply of this answer, whose result is at the front of `output`.
 fn take_up(answer: Applied, output: &[u8], station: Station, records: &mut [u8]) -> Replaced
     requires { (applied_length answer ≤ apart) × (length output.now ≡ apart) × (room ≤ length records.old) }
-    ensures { outcome result.answer result.station (new records) ≡ taken_up answer (take (applied_length answer) (old output)) station (old records) }
+    ensures { outcome result.answer result.station records.new ≡ taken_up answer (take (applied_length answer) output.now) station records.old }
 {
     match answer {
         Applied::Bound(count, n) => {
@@ -381,8 +380,8 @@ fn apply_brought(
     station: Station,
     records: &mut [u8],
 ) -> Replaced
-    ensures is { outcome result.answer result.station (new records) ≡ apply_of (brought_by edition (old table) brings (old classes)) (old rule) (old template) allowance station (old records) }
-    ensures meant { IfChecked station (old records) (AsApplied (brought_by edition (old table) brings (old classes)) (old rule) (old template) allowance station (old records) result.answer) }
+    ensures is { outcome result.answer result.station records.new ≡ apply_of (brought_by edition table.now brings classes.now) rule.now template.now allowance station records.old }
+    ensures meant { IfChecked station records.old (AsApplied (brought_by edition table.now brings classes.now) rule.now template.now allowance station records.old result.answer) }
 {
     let checked = check(station, records.len());
     if let Change::Refused(r) = checked {
@@ -417,7 +416,7 @@ pub fn apply_by_value(
     station: Station,
     records: &mut [u8],
 ) -> Replaced
-    ensures { Applies (simply (old table)) (old rule) (old template) allowance station (old records) result.answer result.station (new records) }
+    ensures { Applies (simply table.now) rule.now template.now allowance station records.old result.answer result.station records.new }
 {
     apply_brought(
         Edition::One,
@@ -443,7 +442,7 @@ pub fn apply_by_value_in(
     station: Station,
     records: &mut [u8],
 ) -> Replaced
-    ensures { Applies (bringing edition (old table) (old classes)) (old rule) (old template) allowance station (old records) result.answer result.station (new records) }
+    ensures { Applies (bringing edition table.now classes.now) rule.now template.now allowance station records.old result.answer result.station records.new }
 {
     apply_brought(
         edition, table, true, classes, rule, template, allowance, station, records,
@@ -452,7 +451,7 @@ pub fn apply_by_value_in(
 
 // Makes a new station of an accepted record.
 pub fn new(table: &[u8], bytes: &[u8], station: &mut Station, records: &mut [u8]) -> Change
-    ensures { Begins (simply (old table)) (old bytes) (old station) (old records) result (new station) (new records) }
+    ensures { Begins (simply table.now) bytes.now station.old records.old result station.new records.new }
 {
     let before = *station;
     let changed = new_by_value(table, bytes, before, records);
@@ -469,7 +468,7 @@ pub fn new_in(
     station: &mut Station,
     records: &mut [u8],
 ) -> Change
-    ensures { Begins (bringing edition (old table) (old classes)) (old bytes) (old station) (old records) result (new station) (new records) }
+    ensures { Begins (bringing edition table.now classes.now) bytes.now station.old records.old result station.new records.new }
 {
     let before = *station;
     let changed = new_by_value_in(edition, table, classes, bytes, before, records);
@@ -479,7 +478,7 @@ pub fn new_in(
 
 // Keeps the current record under a name.
 pub fn keep(name: u16, station: &mut Station, records: &mut [u8]) -> Change
-    ensures { Keeps name (old station) (old records) result (new station) (new records) }
+    ensures { Keeps name station.old records.old result station.new records.new }
 {
     let before = *station;
     let changed = keep_by_value(name, before, records);
@@ -489,7 +488,7 @@ pub fn keep(name: u16, station: &mut Station, records: &mut [u8]) -> Change
 
 // Makes the record that is kept under a name the current one.
 pub fn return_to(name: u16, station: &mut Station, records: &mut [u8]) -> Change
-    ensures { Returns name (old station) (old records) result (new station) (new records) }
+    ensures { Returns name station.old records.old result station.new records.new }
 {
     let before = *station;
     let changed = return_by_value(name, before, records);
@@ -506,7 +505,7 @@ pub fn apply(
     station: &mut Station,
     records: &mut [u8],
 ) -> Applied
-    ensures { Applies (simply (old table)) (old rule) (old template) allowance (old station) (old records) result (new station) (new records) }
+    ensures { Applies (simply table.now) rule.now template.now allowance station.old records.old result station.new records.new }
 {
     let before = *station;
     let changed = apply_by_value(table, rule, template, allowance, before, records);
@@ -525,7 +524,7 @@ pub fn apply_in(
     station: &mut Station,
     records: &mut [u8],
 ) -> Applied
-    ensures { Applies (bringing edition (old table) (old classes)) (old rule) (old template) allowance (old station) (old records) result (new station) (new records) }
+    ensures { Applies (bringing edition table.now classes.now) rule.now template.now allowance station.old records.old result station.new records.new }
 {
     let before = *station;
     let changed = apply_by_value_in(

@@ -2,7 +2,6 @@
 #![tactic(auto)]
 
 ghost use Rattle.std.specs.Prelude.{◌≡◌, ◌≤◌, ◌<◌, length, drop};
-ghost use Rattle.term.specs.Moment.{old};
 ghost use Rattle.steps.specs.Turn.{stands_of, over_step, symbol_step, assigned_step, name_step, run_step};
 ghost use Rattle.steps.specs.Turn.{complement_step, pair_step, part_for, plain_step_from, step_from};
 
@@ -11,7 +10,7 @@ use parts::{PARTS, part_of};
 use term::{Code, LIST, bytes_of, decode, entry_of, extent, same, same_symbol};
 
 // Where the pairs of a level stop: at a failure, for want of allowance, with no pair left, or at a run name.
-#[derive(Drop)]
+#[derive(Clone, Copy)]
 pub enum Stop {
     Failure,
     NoAllowance,
@@ -20,7 +19,7 @@ pub enum Stop {
 }
 
 // What one turn does: it stops, a pair fails, a node is over, a node is entered, a pair holds, a name is bound, a complement is put by.
-#[derive(Drop)]
+#[derive(Clone, Copy)]
 pub enum Step {
     Stops(Stop),
     Fails,
@@ -33,7 +32,7 @@ pub enum Step {
 
 // Whether the bytes of a part stand at the start of r.
 pub fn stands(table: &[u8], classes: &[u8], record: &[u8], part: Part, r: &[u8]) -> bool
-    ensures { result ≡ stands_of (old table) (old classes) (old «record») part (old r) }
+    ensures { result ≡ stands_of table.now classes.now «record».now part r.now }
 {
     let n = part.length as usize;
     if r.len() < n {
@@ -58,7 +57,7 @@ fn over(outermost: bool, elements: u8) -> Step
 // A symbol: its children are entered. Pattern and record start at the pair in q and r.
 fn symbol(table: &[u8], classes: &[u8], q: &[u8], r: &[u8], b: u8) -> Step
     requires { 0 < length r.now }
-    ensures { result ≡ symbol_step (old table) (old classes) (old q) (old r) b }
+    ensures { result ≡ symbol_step table.now classes.now q.now r.now b }
 {
     if !same_symbol(classes, b, r[0]) {
         return Step::Fails;
@@ -88,7 +87,7 @@ fn assigned_step(
     r: &[u8],
     elements: u8,
 ) -> Step
-    ensures { result ≡ assigned_step (old table) (old classes) (old «record») part (old r) elements }
+    ensures { result ≡ assigned_step table.now classes.now «record».now part r.now elements }
 {
     if elements < part.elements {
         return Step::Fails;
@@ -109,7 +108,7 @@ fn name(
     part: Part,
     elements: u8,
 ) -> Step
-    ensures { result ≡ name_step (old table) (old classes) (old «record») (old r) v part elements }
+    ensures { result ≡ name_step table.now classes.now «record».now r.now v part elements }
 {
     if part.is_absent() {
         return Step::Binds(v, extent(table, r));
@@ -128,7 +127,7 @@ fn run_name(
     elements: u8,
     left: u32,
 ) -> Step
-    ensures { result ≡ run_step (old table) (old classes) (old «record») v part (old r) elements left }
+    ensures { result ≡ run_step table.now classes.now «record».now v part r.now elements left }
 {
     if part.is_absent() {
         return Step::Stops(Stop::RunName(v));
@@ -141,7 +140,7 @@ fn run_name(
 
 // A complement is put by. The last child pattern of a level is all that is left of it, and where its node ends does not matter.
 fn complement_step(table: &[u8], q: &[u8], r: &[u8], last: bool) -> Step
-    ensures { result ≡ complement_step last (old table) (old q) (old r) }
+    ensures { result ≡ complement_step last table.now q.now r.now }
 {
     if last {
         return Step::PutsBy(q.len(), 0);
@@ -163,7 +162,7 @@ fn pair(
     elements: u8,
 ) -> Step
     requires { 0 < length r.now }
-    ensures { result ≡ pair_step last code (old table) (old classes) (old «record») (old q) (old r) (part_for code assigned (old parts)) elements }
+    ensures { result ≡ pair_step last code table.now classes.now «record».now q.now r.now (part_for code assigned parts.now) elements }
 {
     match code {
         Code::Symbol(b) => symbol(table, classes, q, r, b),
@@ -184,7 +183,7 @@ fn pair(
 
 // The record from a byte on: nothing where it ends before.
 fn rest_of(record: &[u8], node: usize) -> &[u8]
-    ensures { result.now ≡ drop node (old «record») }
+    ensures { result.now ≡ drop node «record».now }
 {
     if record.len() < node {
         return &record[..0];
@@ -208,7 +207,7 @@ fn plain(
     left: u32,
 ) -> Step
     requires { at ≤ length pattern.now }
-    ensures { result ≡ plain_step_from last code (old table) (old classes) (old pattern) (old «record») assigned (old parts) elements at node left }
+    ensures { result ≡ plain_step_from last code table.now classes.now pattern.now «record».now assigned parts.now elements at node left }
 {
     if elements == 0 {
         return Step::Stops(Stop::Failure);
@@ -249,7 +248,7 @@ pub fn step_of(
     node: usize,
     left: u32,
 ) -> Step
-    ensures { result ≡ step_from outermost (old table) (old classes) (old pattern) (old «record») assigned (old parts) children elements at node left }
+    ensures { result ≡ step_from outermost table.now classes.now pattern.now «record».now assigned parts.now children elements at node left }
 {
     if children == 0 {
         return over(outermost, elements);

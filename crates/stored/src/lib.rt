@@ -4,7 +4,6 @@
 ghost use Rattle.std.specs.Prelude.{◌≡◌, false, ◌+◌, ◌≤◌, length, set};
 ghost use Rattle.std.proofs.lemmas.List.Edits.{sets};
 ghost use Rattle.byte_answers.specs.Answers.{move_number, move_length};
-ghost use Rattle.term.specs.Moment.{old, new};
 ghost use Rattle.term.specs.Language.{language, simple};
 ghost use Rattle.term.specs.Limits.{nesting, longest_record};
 ghost use Rattle.reader.specs.Brought.{simply, bringing, brought_by};
@@ -42,7 +41,7 @@ fn stored_node(
     stand: Stand,
     left: u8,
 ) -> Node
-    ensures { result ≡ stored_node (language edition (old table) (old classes)) stand left (old s) }
+    ensures { result ≡ stored_node (language edition table.now classes.now) stand left s.now }
 {
     let node = reader::node_at(edition, table, classes, s, true, stand, left);
     let Node::Open {
@@ -71,7 +70,7 @@ fn stored_node(
 // Whether a list tells the length of its children, which start and end at these places; other nodes tell none.
 fn agrees(s: &[u8], list: bool, start: usize, end: usize) -> bool
     requires { Stands list start end (length s.now) }
-    ensures { result ≡ agrees_at (old s) list start end }
+    ensures { result ≡ agrees_at s.now list start end }
 {
     if list {
         let low = s[start - WORD] as usize;
@@ -91,7 +90,7 @@ fn root() -> Frame
 // The tree of the stored form at the start of s. Still to be read are the trees of `top`, and then those of the frames around it, the innermost
 // first; beside each frame stands where its first tree starts. A leaf takes no frame.
 fn read_tree(edition: Edition, table: &[u8], classes: &[u8], s: &[u8]) -> Read
-    ensures { result ≡ shown (read_stored_tree (language edition (old table) (old classes)) nesting Stand.Elsewhere (old s)) }
+    ensures { result ≡ shown (read_stored_tree (language edition table.now classes.now) nesting Stand.Elsewhere s.now) }
 {
     let mut around = [Frame::EMPTY; FRAMES];
     let mut starts = [0usize; OPEN];
@@ -135,7 +134,7 @@ fn read_tree(edition: Edition, table: &[u8], classes: &[u8], s: &[u8]) -> Read
 
 // The whole of s as one tree of the stored form.
 fn read_form(edition: Edition, table: &[u8], classes: &[u8], s: &[u8]) -> Read
-    ensures { result ≡ shown (read_form (language edition (old table) (old classes)) (old s)) }
+    ensures { result ≡ shown (read_form (language edition table.now classes.now) s.now) }
 {
     if LONGEST_STORED < s.len() {
         return Read::Refused(Refusal::Long);
@@ -152,7 +151,7 @@ fn read_form(edition: Edition, table: &[u8], classes: &[u8], s: &[u8]) -> Read
 
 // Puts a byte where there is room.
 fn put_byte(output: &mut [u8], at: usize, b: u8)
-    ensures { new output ≡ set (old output) at b }
+    ensures { output.new ≡ set output.old at b }
 {
     if at < output.len() {
         output[at] = b;
@@ -162,8 +161,8 @@ fn put_byte(output: &mut [u8], at: usize, b: u8)
 // Puts the old form of a stored record to the front of the output, as far as it has room, and tells its length.
 fn strip(table: &[u8], s: &[u8], output: &mut [u8]) -> usize
     requires { length s.now ≤ longest_stored }
-    ensures size { result ≡ length (stripped (old table) (old s) 0) }
-    ensures contents { new output ≡ sets (old output) 0 (stripped (old table) (old s) 0) }
+    ensures size { result ≡ length (stripped table.now s.now 0) }
+    ensures contents { output.new ≡ sets output.old 0 (stripped table.now s.now 0) }
 {
     let mut to: usize = 0;
     let mut at: usize = 0;
@@ -188,7 +187,7 @@ fn strip(table: &[u8], s: &[u8], output: &mut [u8]) -> usize
 // The length of the old form of bytes that are one tree of the stored form.
 fn old_length(table: &[u8], s: &[u8]) -> usize
     requires { length s.now ≤ longest_stored }
-    ensures { result ≡ length (stripped (old table) (old s) 0) }
+    ensures { result ≡ length (stripped table.now s.now 0) }
 {
     let mut nowhere = [0u8; 1];
     strip(table, s, &mut nowhere)
@@ -203,9 +202,9 @@ fn restore_brought(
     stored: &[u8],
     output: &mut [u8],
 ) -> Move
-    ensures answer { result ≡ moved (restoring (brought_by edition (old table) brings (old classes)) (old stored)) (length (old output)) }
-    ensures contents { new output ≡ output_after (restoring (brought_by edition (old table) brings (old classes)) (old stored)) (old output) }
-    ensures demand { RestoreDemanded (brought_by edition (old table) brings (old classes)) (old stored) (old output) (move_number result) (move_length result) (new output) }
+    ensures answer { result ≡ moved (restoring (brought_by edition table.now brings classes.now) stored.now) (length output.old) }
+    ensures contents { output.new ≡ output_after (restoring (brought_by edition table.now brings classes.now) stored.now) output.old }
+    ensures demand { RestoreDemanded (brought_by edition table.now brings classes.now) stored.now output.old (move_number result) (move_length result) output.new }
 {
     if !term::check_table(table) {
         return Move::Refused(Refusal::Table);
@@ -235,9 +234,9 @@ fn restore_brought(
 
 // In edition 1, without a class list.
 pub fn restore(table: &[u8], stored: &[u8], output: &mut [u8]) -> Move
-    ensures answer { result ≡ moved (restoring (simply (old table)) (old stored)) (length (old output)) }
-    ensures contents { new output ≡ output_after (restoring (simply (old table)) (old stored)) (old output) }
-    ensures demand { RestoreDemanded (simply (old table)) (old stored) (old output) (move_number result) (move_length result) (new output) }
+    ensures answer { result ≡ moved (restoring (simply table.now) stored.now) (length output.old) }
+    ensures contents { output.new ≡ output_after (restoring (simply table.now) stored.now) output.old }
+    ensures demand { RestoreDemanded (simply table.now) stored.now output.old (move_number result) (move_length result) output.new }
 {
     restore_brought(Edition::One, table, false, &table[..0], stored, output)
 }
@@ -250,9 +249,9 @@ pub fn restore_in(
     stored: &[u8],
     output: &mut [u8],
 ) -> Move
-    ensures answer { result ≡ moved (restoring (bringing edition (old table) (old classes)) (old stored)) (length (old output)) }
-    ensures contents { new output ≡ output_after (restoring (bringing edition (old table) (old classes)) (old stored)) (old output) }
-    ensures demand { RestoreDemanded (bringing edition (old table) (old classes)) (old stored) (old output) (move_number result) (move_length result) (new output) }
+    ensures answer { result ≡ moved (restoring (bringing edition table.now classes.now) stored.now) (length output.old) }
+    ensures contents { output.new ≡ output_after (restoring (bringing edition table.now classes.now) stored.now) output.old }
+    ensures demand { RestoreDemanded (bringing edition table.now classes.now) stored.now output.old (move_number result) (move_length result) output.new }
 {
     restore_brought(edition, table, true, classes, stored, output)
 }
@@ -260,7 +259,7 @@ pub fn restore_in(
 // The length of the stored form of a record.
 fn stored_length(table: &[u8], s: &[u8]) -> usize
     requires { length s.now ≤ longest_record }
-    ensures { result ≡ stretched (old table) (old s) false }
+    ensures { result ≡ stretched table.now s.now false }
 {
     let mut size: usize = 0;
     let mut counting = false;
@@ -281,7 +280,7 @@ fn stored_length(table: &[u8], s: &[u8]) -> usize
 fn put_own(s: &[u8], list: bool, output: &mut [u8], at: usize) -> usize
     requires { (own_size list ≤ length s.now) × (at + stored_size list ≤ length output.old) }
     ensures end { result ≡ at + stored_size list }
-    ensures contents { new output ≡ sets (old output) at (own_of list (old s)) }
+    ensures contents { output.new ≡ sets output.old at (own_of list s.now) }
 {
     output[at] = s[0];
     if list {
@@ -294,7 +293,7 @@ fn put_own(s: &[u8], list: bool, output: &mut [u8], at: usize) -> usize
 // Puts the length of a list's children, which start and end at these places, in front of them; other nodes tell none.
 fn put_length(list: bool, output: &mut [u8], start: usize, end: usize)
     requires { Stands list start end (length output.old) × (end ≤ longest_stored) }
-    ensures { new output ≡ with_told list (old output) start end }
+    ensures { output.new ≡ with_told list output.old start end }
 {
     if list {
         let n = end - start;
@@ -307,7 +306,7 @@ fn put_length(list: bool, output: &mut [u8], start: usize, end: usize)
 // is accepted in edition 2 is so in edition 1, which compares no lists.
 fn put_tree(table: &[u8], s: &[u8], output: &mut [u8])
     requires { Putting (simple table.now) s.now (length output.old) }
-    ensures { new output ≡ sets (old output) 0 (stored_trees (old table) (record_trees (simple (old table)) nesting Stand.Elsewhere 1 (old s))) }
+    ensures { output.new ≡ sets output.old 0 (stored_trees table.now (record_trees (simple table.now) nesting Stand.Elsewhere 1 s.now)) }
 {
     let mut around = [Frame::EMPTY; FRAMES];
     let mut starts = [0usize; OPEN];
@@ -359,9 +358,9 @@ fn store_brought(
     record: &[u8],
     output: &mut [u8],
 ) -> Move
-    ensures answer { result ≡ moved (storing (brought_by edition (old table) brings (old classes)) (old «record»)) (length (old output)) }
-    ensures contents { new output ≡ output_after (storing (brought_by edition (old table) brings (old classes)) (old «record»)) (old output) }
-    ensures demand { StoreDemanded (brought_by edition (old table) brings (old classes)) (old «record») (old output) (move_number result) (move_length result) (new output) }
+    ensures answer { result ≡ moved (storing (brought_by edition table.now brings classes.now) «record».now) (length output.old) }
+    ensures contents { output.new ≡ output_after (storing (brought_by edition table.now brings classes.now) «record».now) output.old }
+    ensures demand { StoreDemanded (brought_by edition table.now brings classes.now) «record».now output.old (move_number result) (move_length result) output.new }
 {
     if !term::check_table(table) {
         return Move::Refused(Refusal::Table);
@@ -384,9 +383,9 @@ fn store_brought(
 
 // In edition 1, without a class list.
 pub fn store(table: &[u8], record: &[u8], output: &mut [u8]) -> Move
-    ensures answer { result ≡ moved (storing (simply (old table)) (old «record»)) (length (old output)) }
-    ensures contents { new output ≡ output_after (storing (simply (old table)) (old «record»)) (old output) }
-    ensures demand { StoreDemanded (simply (old table)) (old «record») (old output) (move_number result) (move_length result) (new output) }
+    ensures answer { result ≡ moved (storing (simply table.now) «record».now) (length output.old) }
+    ensures contents { output.new ≡ output_after (storing (simply table.now) «record».now) output.old }
+    ensures demand { StoreDemanded (simply table.now) «record».now output.old (move_number result) (move_length result) output.new }
 {
     store_brought(Edition::One, table, false, &table[..0], record, output)
 }
@@ -399,9 +398,9 @@ pub fn store_in(
     record: &[u8],
     output: &mut [u8],
 ) -> Move
-    ensures answer { result ≡ moved (storing (bringing edition (old table) (old classes)) (old «record»)) (length (old output)) }
-    ensures contents { new output ≡ output_after (storing (bringing edition (old table) (old classes)) (old «record»)) (old output) }
-    ensures demand { StoreDemanded (bringing edition (old table) (old classes)) (old «record») (old output) (move_number result) (move_length result) (new output) }
+    ensures answer { result ≡ moved (storing (bringing edition table.now classes.now) «record».now) (length output.old) }
+    ensures contents { output.new ≡ output_after (storing (bringing edition table.now classes.now) «record».now) output.old }
+    ensures demand { StoreDemanded (bringing edition table.now classes.now) «record».now output.old (move_number result) (move_length result) output.new }
 {
     store_brought(edition, table, true, classes, record, output)
 }

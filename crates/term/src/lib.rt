@@ -2,7 +2,6 @@
 #![tactic(auto)]
 
 ghost use Rattle.std.specs.Prelude.{◌≡◌, true, false, [], ◌≤◌, ◌<◌, length};
-ghost use Rattle.term.specs.Moment.{old};
 ghost use Rattle.term.specs.Table.{entry_accepted, table_accepted};
 ghost use Rattle.term.specs.Code.{decode_of};
 ghost use Rattle.term.specs.Extent.{kids_of, entry_of, span_of, extent_of};
@@ -37,7 +36,7 @@ pub const LIST: u8 = 255;
 const MOST_CHILDREN: u8 = 8;
 
 // What a byte of a pattern stands for. A name or a run name holds its variable's number.
-#[derive(Drop)]
+#[derive(Clone, Copy)]
 pub enum Code {
     Symbol(u8),
     Name(u8),
@@ -47,14 +46,14 @@ pub enum Code {
 }
 
 // The editions of the rule language (document 02, L6).
-#[derive(Drop)]
+#[derive(Clone, Copy)]
 pub enum Edition {
     One,
     Two,
 }
 
 // Where a node stands: directly in a list, of this symbol, or elsewhere.
-#[derive(Drop)]
+#[derive(Clone, Copy)]
 pub enum Stand {
     Elsewhere,
     InList(u8),
@@ -82,7 +81,7 @@ fn accepts_entry(b: u8) -> bool
 }
 
 pub fn check_table(table: &[u8]) -> bool
-    ensures { result ≡ table_accepted (old table) }
+    ensures { result ≡ table_accepted table.now }
 {
     if LARGEST_TABLE < table.len() {
         return false;
@@ -99,7 +98,7 @@ pub fn check_table(table: &[u8]) -> bool
 
 // The class of a symbol: its entry, or itself where the list has none.
 pub fn class_of(classes: &[u8], b: u8) -> u8
-    ensures { result ≡ class_of (old classes) b }
+    ensures { result ≡ class_of classes.now b }
 {
     let i = wide(b);
     if i < classes.len() {
@@ -110,7 +109,7 @@ pub fn class_of(classes: &[u8], b: u8) -> u8
 
 // Whether two symbols are of one class.
 pub fn same_symbol(classes: &[u8], x: u8, y: u8) -> bool
-    ensures { result ≡ same_byte (old classes) false x y }
+    ensures { result ≡ same_byte classes.now false x y }
 {
     if x == y {
         return true;
@@ -124,7 +123,7 @@ pub fn same_symbol(classes: &[u8], x: u8, y: u8) -> bool
 // Whether an entry is not above its own index and its own class, with the same table byte.
 fn accepts_class(table: &[u8], classes: &[u8], i: usize) -> bool
     requires { (i < length classes.now) × (length classes.now ≡ length table.now) }
-    ensures { result ≡ entry_classed (old table) (old classes) i }
+    ensures { result ≡ entry_classed table.now classes.now i }
 {
     let c = wide(classes[i]);
     if i < c {
@@ -137,7 +136,7 @@ fn accepts_class(table: &[u8], classes: &[u8], i: usize) -> bool
 }
 
 pub fn check_classes(table: &[u8], classes: &[u8]) -> bool
-    ensures { result ≡ classes_accepted (old table) (old classes) }
+    ensures { result ≡ classes_accepted table.now classes.now }
 {
     if classes.len() != table.len() {
         return false;
@@ -173,7 +172,7 @@ fn kids_of(code: Code) -> u8
 
 // The entry of a code: its number of children, or 255 for a list.
 pub fn entry_of(table: &[u8], b: u8) -> u8
-    ensures { result ≡ entry_of (old table) b }
+    ensures { result ≡ entry_of table.now b }
 {
     let i = wide(b);
     if i < table.len() {
@@ -184,8 +183,8 @@ pub fn entry_of(table: &[u8], b: u8) -> u8
 
 // The number of bytes of so many terms or patterns at the start of s, or all of s where s ends before them.
 pub fn extents(table: &[u8], s: &[u8], count: u8) -> usize
-    ensures is { result ≡ span_of (old table) (old s) false count }
-    ensures within { result ≤ length (old s) }
+    ensures is { result ≡ span_of table.now s.now false count }
+    ensures within { result ≤ length s.now }
 {
     let mut at: usize = 0;
     // The earliest place at which they can end: each tree still to come takes a byte at least.
@@ -208,8 +207,8 @@ pub fn extents(table: &[u8], s: &[u8], count: u8) -> usize
 
 // The same of one.
 pub fn extent(table: &[u8], s: &[u8]) -> usize
-    ensures is { result ≡ extent_of (old table) (old s) }
-    ensures within { result ≤ length (old s) }
+    ensures is { result ≡ extent_of table.now s.now }
+    ensures within { result ≤ length s.now }
 {
     extents(table, s, 1)
 }
@@ -217,7 +216,7 @@ pub fn extent(table: &[u8], s: &[u8]) -> usize
 // Whether x and y have the same bytes.
 fn same_bytes(x: &[u8], y: &[u8]) -> bool
     requires { length x.now ≡ length y.now }
-    ensures { result ≡ same_part [] [] true (old x) (old y) }
+    ensures { result ≡ same_part [] [] true x.now y.now }
 {
     let mut at: usize = 0;
     while at < x.len() {
@@ -231,7 +230,7 @@ fn same_bytes(x: &[u8], y: &[u8]) -> bool
 
 // Whether two bytes of two parts are the same: symbols by class, a list's number of children as it is.
 fn same_byte(classes: &[u8], counting: bool, x: u8, y: u8) -> bool
-    ensures { result ≡ same_byte (old classes) counting x y }
+    ensures { result ≡ same_byte classes.now counting x y }
 {
     if counting {
         return x == y;
@@ -241,7 +240,7 @@ fn same_byte(classes: &[u8], counting: bool, x: u8, y: u8) -> bool
 
 // Whether the byte after x is a list's number of children, where x is one or not.
 pub fn count_next(table: &[u8], counting: bool, x: u8) -> bool
-    ensures { result ≡ count_next (old table) counting x }
+    ensures { result ≡ count_next table.now counting x }
 {
     if counting {
         return false;
@@ -255,8 +254,8 @@ pub fn count_next(table: &[u8], counting: bool, x: u8) -> bool
 
 // Whether two parts of records are the same up to class.
 pub fn same(table: &[u8], classes: &[u8], x: &[u8], y: &[u8]) -> bool
-    ensures is { result ≡ same_part (old table) (old classes) false (old x) (old y) }
-    ensures demand { Compares (old table) (old classes) (old x) (old y) result }
+    ensures is { result ≡ same_part table.now classes.now false x.now y.now }
+    ensures demand { Compares table.now classes.now x.now y.now result }
 {
     if x.len() != y.len() {
         return false;
@@ -278,7 +277,7 @@ pub fn same(table: &[u8], classes: &[u8], x: &[u8], y: &[u8]) -> bool
 
 // The bytes of a part of a record: none where it does not lie within the record.
 pub fn bytes_of(bytes: &[u8], p: Part) -> &[u8]
-    ensures { result.now ≡ part_bytes (old bytes) p }
+    ensures { result.now ≡ part_bytes bytes.now p }
 {
     let start = p.offset as usize;
     let end = start + p.length as usize;

@@ -4,7 +4,6 @@
 ghost use Rattle.std.specs.Prelude.{◌≡◌, true, ◌+◌, ◌≤◌, ◌<◌, leb, length};
 ghost use Rattle.std.proofs.lemmas.List.Edits.{sets};
 ghost use Rattle.byte_answers.specs.Answers.{writing_number, writing_length};
-ghost use Rattle.term.specs.Moment.{old, new};
 ghost use Rattle.term.specs.Language.{language};
 ghost use Rattle.reader.specs.Brought.{simply, bringing, brought_by};
 ghost use Rattle.sheet.specs.Word.{word_bytes, word};
@@ -21,7 +20,7 @@ use term::Edition;
 
 // Whether no length is 0 and together they are `total`.
 fn lengths_accepted(lengths: &[u16], total: usize) -> bool
-    ensures { result ≡ lengths_accepted (old lengths) total }
+    ensures { result ≡ lengths_accepted lengths.now total }
 {
     let mut left = total;
     let mut i: usize = 0;
@@ -61,7 +60,7 @@ fn check_each(
     lengths: &[u16],
 ) -> Checked
     requires { length records.now ≡ sum lengths.now }
-    ensures { result ≡ check_each true (language edition (old table) (old classes)) 0 (split (old records) (old lengths)) }
+    ensures { result ≡ check_each true (language edition table.now classes.now) 0 (split records.now lengths.now) }
 {
     let mut rest = records;
     let mut i: usize = 0;
@@ -86,7 +85,7 @@ fn check_records(
     records: &[u8],
     lengths: &[u16],
 ) -> Checked
-    ensures { result ≡ check_records (brought_by edition (old table) brings (old classes)) (old records) (old lengths) }
+    ensures { result ≡ check_records (brought_by edition table.now brings classes.now) records.now lengths.now }
 {
     if !term::check_table(table) {
         return Checked::Refused(Refusal::Table, 0);
@@ -117,7 +116,7 @@ fn marked_count(edition: Edition, n: u16) -> u16
 
 fn put_word(output: &mut [u8], at: usize, n: u16)
     requires { at + word_bytes ≤ length output.old }
-    ensures { new output ≡ sets (old output) at (word n) }
+    ensures { output.new ≡ sets output.old at (word n) }
 {
     output[at] = (n % 256) as u8;
     output[at + 1] = (n / 256) as u8;
@@ -127,7 +126,7 @@ fn put_word(output: &mut [u8], at: usize, n: u16)
 fn put_directory(lengths: &[u16], output: &mut [u8])
     requires lengths_in_bounds { past_pairs (length lengths.now) ≤ length output.old }
     requires lengths_bound { past_pairs (length lengths.now) + sum lengths.now ≤ longest_sheet }
-    ensures { new output ≡ sets (old output) word_bytes (directory (past_pairs (length (old lengths))) (old lengths)) }
+    ensures { output.new ≡ sets output.old word_bytes (directory (past_pairs (length lengths.now)) lengths.now) }
 {
     let mut at = WORD + PAIR * lengths.len();
     let mut i: usize = 0;
@@ -145,7 +144,7 @@ fn put_sheet(edition: Edition, records: &[u8], lengths: &[u16], output: &mut [u8
     requires records_len { length records.now ≡ sum lengths.now }
     requires records_bound { sheet_length (length lengths.now) (length records.now) ≤ longest_sheet }
     requires records_in_bounds { sheet_length (length lengths.now) (length records.now) ≤ length output.old }
-    ensures { new output ≡ sets (old output) 0 (sheet_bytes edition (split (old records) (old lengths))) }
+    ensures { output.new ≡ sets output.old 0 (sheet_bytes edition (split records.now lengths.now)) }
 {
     let n = lengths.len();
     put_word(output, 0, marked_count(edition, n as u16));
@@ -163,7 +162,7 @@ fn write_brought(
     lengths: &[u16],
     output: &mut [u8],
 ) -> Writing
-    ensures { Called (brought_by edition (old table) brings (old classes)) (old records) (old lengths) (old output) result (new output) }
+    ensures { Called (brought_by edition table.now brings classes.now) records.now lengths.now output.old result output.new }
 {
     let checked = check_records(edition, table, brings, classes, records, lengths);
     if let Checked::Refused(r, i) = checked {
@@ -179,9 +178,9 @@ fn write_brought(
 
 // Writes the sheet of these records to the front of the output, or leaves the output as it is.
 pub fn write_sheet(table: &[u8], records: &[u8], lengths: &[u16], output: &mut [u8]) -> Writing
-    ensures answer { result ≡ writing (simply (old table)) (old records) (old lengths) (length (old output)) }
-    ensures contents { new output ≡ output_after (simply (old table)) (old records) (old lengths) (old output) }
-    ensures demand { Demanded (simply (old table)) (old records) (old lengths) (old output) (writing_number result) (writing_length result) (new output) }
+    ensures answer { result ≡ writing (simply table.now) records.now lengths.now (length output.old) }
+    ensures contents { output.new ≡ output_after (simply table.now) records.now lengths.now output.old }
+    ensures demand { Demanded (simply table.now) records.now lengths.now output.old (writing_number result) (writing_length result) output.new }
 {
     write_brought(
         Edition::One,
@@ -203,9 +202,9 @@ pub fn write_sheet_in(
     lengths: &[u16],
     output: &mut [u8],
 ) -> Writing
-    ensures answer { result ≡ writing (bringing edition (old table) (old classes)) (old records) (old lengths) (length (old output)) }
-    ensures contents { new output ≡ output_after (bringing edition (old table) (old classes)) (old records) (old lengths) (old output) }
-    ensures demand { Demanded (bringing edition (old table) (old classes)) (old records) (old lengths) (old output) (writing_number result) (writing_length result) (new output) }
+    ensures answer { result ≡ writing (bringing edition table.now classes.now) records.now lengths.now (length output.old) }
+    ensures contents { output.new ≡ output_after (bringing edition table.now classes.now) records.now lengths.now output.old }
+    ensures demand { Demanded (bringing edition table.now classes.now) records.now lengths.now output.old (writing_number result) (writing_length result) output.new }
 {
     write_brought(edition, table, true, classes, records, lengths, output)
 }

@@ -1,8 +1,8 @@
 -- What the functions of the search are handed: byte strings that they read, and what is lent to them, before a call and after it.
 use Rattle.std.specs.Prelude.{ℕ, List, length}
 use denote.Triple.Both.{Both}
-use Rattle.std.specs.Borrow.{Bor}
-use Rattle.term.specs.Moment.{old, new}
+use Rattle.std.specs.Borrow.{Bor, MutBor}
+use Rattle.term.specs.Moment.{old, begun, new}
 use Rattle.search.specs.State.{State}
 use Rattle.search.specs.Level.{Reply, level_of}
 use Rattle.search.specs.Inner.Memory.{LiesIn, Kept}
@@ -42,12 +42,12 @@ e ⇒ x = record { before = e; after = x }
 abbrev pub input : {A B C D : Type 0} → Both (Bor (List ℕ)) A → Both (Bor (List ℕ)) B → Both (Bor (List ℕ)) C → Both (Bor (List ℕ)) D → Handed
 input table classes pattern bytes = input_of (old table) (old classes) (old pattern) (old bytes)
 
-abbrev pub lent : Both (Bor ℕ) (Bor ℕ) → Both (Bor ℕ) (Bor ℕ) → Both (Bor (List ℕ)) (Bor (List ℕ)) → Both (Bor (List ℕ)) (Bor (List ℕ)) → Change
-lent assigned left parts stack = lent_of (old assigned) (old left) (old parts) (old stack) ⇒ lent_of (new assigned) (new left) (new parts) (new stack)
+abbrev pub lent : Both (MutBor ℕ) (MutBor ℕ) → Both (MutBor ℕ) (MutBor ℕ) → Both (MutBor (List ℕ)) (MutBor (List ℕ)) → Both (MutBor (List ℕ)) (MutBor (List ℕ)) → Change
+lent assigned left parts stack = lent_of (begun assigned) (begun left) (begun parts) (begun stack) ⇒ lent_of (new assigned) (new left) (new parts) (new stack)
 
 -- where the numbers are handed, not lent
-abbrev pub handed : {A B : Type 0} → ℕ → ℕ → Both (Bor (List ℕ)) A → Both (Bor (List ℕ)) B → Lent
-handed assigned left parts stack = lent_of assigned left (old parts) (old stack)
+abbrev pub handed : {A B : Type 0} → ℕ → ℕ → Both (MutBor (List ℕ)) A → Both (MutBor (List ℕ)) B → Lent
+handed assigned left parts stack = lent_of assigned left (begun parts) (begun stack)
 
 -- The invariant, the frame condition and the search of levels, by these
 
