@@ -3,7 +3,6 @@
 #![tactic(auto)]
 
 ghost use Rattle.std.specs.Prelude.{◌≡◌, ◌+◌, ◌≤◌, length, take};
-ghost use Rattle.term.specs.Moment.{old, new};
 ghost use Rattle.report_lines.specs.Report.{front};
 ghost use Rattle.report_files.specs.Files.{room_of, room_start, name_of, bytes_of, files_room};
 ghost use Rattle.report_files.specs.Loading.{LoadOf, Loads, loaded_report, Reported};
@@ -22,7 +21,7 @@ const SHEET_ROOM: usize = sheet::LONGEST_SHEET + 1;
 const FILES_ROOM: usize = TABLE_ROOM + SHEET_ROOM + SHEET_ROOM;
 
 // A file, whether it could be read, and how many bytes lie in its room.
-#[derive(Drop)]
+#[derive(Clone, Copy)]
 struct Loaded {
     file: File,
     read: bool,
@@ -53,7 +52,7 @@ fn start_of(file: File) -> usize
 
 // The name of a file, of three.
 fn name_of<'a>(file: File, table: &'a [u8], rules: &'a [u8], states: &'a [u8]) -> &'a [u8]
-    ensures { result.now ≡ name_of file (old table) (old rules) (old states) }
+    ensures { result.now ≡ name_of file table.now rules.now states.now }
 {
     match file {
         File::Table => table,
@@ -75,7 +74,7 @@ fn unread(file: File) -> Loaded
 
 // Reads until the buffer is full or the file ends.
 fn read_all<R: Read>(file: File, reader: &mut R, buffer: &mut [u8]) -> Loaded
-    ensures { LoadOf result file (length (old buffer)) }
+    ensures { LoadOf result file (length buffer.old) }
 {
     match input::fill(reader, buffer) {
         Ok(size) => Loaded {
@@ -97,7 +96,7 @@ fn load<'a, R: Files>(
     files: &mut [u8],
 ) -> Loaded
     requires { length files.old ≡ files_room }
-    ensures { Loads result file (old files) (new files) }
+    ensures { Loads result file files.old files.new }
 {
     let Ok(mut reader) = input::open(rt, name_of(file, table, rules, states)) else {
         return unread(file);
@@ -111,7 +110,7 @@ fn load<'a, R: Files>(
 fn bytes_of(file: File, size: usize, files: &[u8]) -> &[u8]
     requires size_bound { size ≤ room_of file }
     requires files_len { length files.now ≡ files_room }
-    ensures { result.now ≡ bytes_of file size (old files) }
+    ensures { result.now ≡ bytes_of file size files.now }
 {
     let start = start_of(file);
     let end = start + size;
@@ -130,8 +129,8 @@ fn put_loaded(
     requires load_of_2 { LoadOf r File.Rules (room_of File.Rules) }
     requires load_of_3 { LoadOf s File.States (room_of File.States) }
     requires files_len { length files.now ≡ files_room }
-    ensures value { result ≡ length (loaded_report t r s (old files)) }
-    ensures out_value { new out ≡ front (loaded_report t r s (old files)) (old out) }
+    ensures value { result ≡ length (loaded_report t r s files.now) }
+    ensures out_value { out.new ≡ front (loaded_report t r s files.now) out.old }
 {
     report_lines::put_report(
         t.read,
@@ -152,7 +151,7 @@ pub fn read_report<'a, R: Files>(
     states: &'a [u8],
     out: &mut [u8; report_lines::REPORT_ROOM],
 ) -> usize
-    ensures { Reported result (old out) (new out) }
+    ensures { Reported result out.old out.new }
 {
     let mut files = [0u8; FILES_ROOM];
     let t = load(rt, File::Table, table, rules, states, &mut files);
@@ -163,7 +162,7 @@ pub fn read_report<'a, R: Files>(
 
 // The first n bytes, or all of them.
 fn first(bytes: &[u8], n: usize) -> &[u8]
-    ensures { result.now ≡ take n (old bytes) }
+    ensures { result.now ≡ take n bytes.now }
 {
     if n < bytes.len() {
         return &bytes[0..n];

@@ -4,7 +4,6 @@
 #![tactic(auto)]
 
 ghost use Rattle.std.specs.Prelude.{◌≤◌, length};
-ghost use Rattle.term.specs.Moment.{old};
 
 use std::env::Env;
 use std::io;
@@ -15,7 +14,7 @@ const STATED_ROOM: usize = 131072;
 
 // How many bytes the first block takes, the empty line after it among them.
 fn block_end(stated: &[u8]) -> usize
-    ensures { result ≤ length (old stated) }
+    ensures { result ≤ length stated.now }
 {
     let mut i: usize = 1;
     while i < stated.len() {
@@ -31,7 +30,7 @@ fn block_end(stated: &[u8]) -> usize
 
 // How many bytes a text and the end of a line after it take at the front of a block, 0 where it has others there.
 fn passed(block: &[u8], text: &[u8]) -> usize
-    ensures { result ≤ length (old block) }
+    ensures { result ≤ length block.now }
 {
     let n = text.len();
     if block.len() <= n {

@@ -15,7 +15,7 @@ use vector_lines::{shown, text};
 const FILE: usize = 262144;
 
 // How many lines agree, and how many differ.
-#[derive(Drop)]
+#[derive(Clone, Copy)]
 struct Tally {
     agree: u64,
     differ: u64,
