@@ -4,7 +4,7 @@ use mathlib.Core.Path.{◌≡◌, refl, sym, ◌∙◌, ap, ap₂, subst}
 use mathlib.Core.Logic.{◌⊎◌, inl, inr, ite, if_pos, if_neg, ◌↔◌}
 use native.Mathlib.Omega.{arith}
 use Rattle.term.specs.Term.{Term, node, Terms, nil, ◌::◌}
-use Rattle.anti_pattern.specs.AntiTerm.{Anti, var, neg, app, Antis, ε, ◌▸◌, ground, grounds, Free, FreeIn, either?, Occurs, OccursIn, replace, replace_all}
+use Rattle.anti_pattern.specs.AntiTerm.{Anti, var, neg, app, Antis, ε, ◌▸◌, ground_term, ground_terms, Free, FreeIn, either?, Occurs, OccursIn, replace, replace_all}
 use Rattle.anti_pattern.specs.Ground.{Outermost, OutermostIn, within, within_all, put, put_all, Way, bare, take, Semantics}
 use Rattle.anti_pattern.specs.Language.{Language, TermOf, TermsOf, ◌⊢◌∼◌, ◌⊢◌≈◌, ◌⊢◌≋◌}
 use Rattle.anti_pattern.specs.Scope.{Apart, ApartAll}
@@ -19,10 +19,10 @@ left f (inr c) = inr c
 
 module _ {X : Type 0} where
   mutual
-    pub ground_none : (u : Term) (x : X) → Occurs x (ground u) → ⊥
+    pub ground_none : (u : Term) (x : X) → Occurs x (ground_term u) → ⊥
     ground_none (node f us) x h = grounds_none us x h
 
-    grounds_none : (us : Terms) (x : X) → OccursIn x (grounds us) → ⊥
+    grounds_none : (us : Terms) (x : X) → OccursIn x (ground_terms us) → ⊥
     grounds_none nil x h = h
     grounds_none (u :: us) x (inl h) = ground_none u x h
     grounds_none (u :: us) x (inr h) = grounds_none us x h
@@ -168,10 +168,10 @@ module _ {X : Type 0} where
 
   -- ground terms
   mutual
-    pub ground_same : (t u : Term) → ground {X = X} t ≡ ground u → t ≡ u
+    pub ground_same : (t u : Term) → ground_term {X = X} t ≡ ground_term u → t ≡ u
     ground_same (node f ts) (node r us) h = let i : f ≡ r = cc in let j : ts ≡ us = grounds_same ts us (cc) in cc
 
-    grounds_same : (ts us : Terms) → grounds {X = X} ts ≡ grounds us → ts ≡ us
+    grounds_same : (ts us : Terms) → ground_terms {X = X} ts ≡ ground_terms us → ts ≡ us
     grounds_same nil nil h = refl
     grounds_same nil (u :: us) h = cc
     grounds_same (t :: ts) nil h = cc
@@ -277,20 +277,20 @@ module _ (l : Language) {X : Type 0} where
   -- a ground term holds of the same terms only
   module _ (F : X → Type 0) (a : X → Term) where
     mutual
-      pub ground_there : (u t : Term) → Fits F (ground u) a t → l ⊢ u ≈ t
+      pub ground_there : (u t : Term) → Fits F (ground_term u) a t → l ⊢ u ≈ t
       ground_there (node f us) (node r ts) h = node_same l f r us ts h.0 (grounds_there us ts h.1)
 
-      grounds_there : (us ts : Terms) → FitAll F (grounds us) a ts → l ⊢ us ≋ ts
+      grounds_there : (us ts : Terms) → FitAll F (ground_terms us) a ts → l ⊢ us ≋ ts
       grounds_there nil nil h = refl
       grounds_there nil (t :: ts) h = absurd h
       grounds_there (u :: us) nil h = absurd h
       grounds_there (u :: us) (t :: ts) h = cons_same l u t us ts (ground_there u t h.0) (grounds_there us ts h.1)
 
     mutual
-      pub ground_fits : (u t : Term) → l ⊢ u ≈ t → Fits F (ground u) a t
+      pub ground_fits : (u t : Term) → l ⊢ u ≈ t → Fits F (ground_term u) a t
       ground_fits (node f us) (node r ts) e = let i = node_open l f r us ts e in (i.0, grounds_fit us ts i.1)
 
-      grounds_fit : (us ts : Terms) → l ⊢ us ≋ ts → FitAll F (grounds us) a ts
+      grounds_fit : (us ts : Terms) → l ⊢ us ≋ ts → FitAll F (ground_terms us) a ts
       grounds_fit nil nil e = tt
       grounds_fit nil (t :: ts) e = absurd (false≢true e)
       grounds_fit (u :: us) nil e = absurd (false≢true e)
@@ -299,7 +299,7 @@ module _ (l : Language) {X : Type 0} where
   -- q with r at ω holds of t if q with some ground term u at ω does, and r holds of u
   mutual
     split : (q : Anti X) (ω : Outermost q) (r : Anti X) (F : X → Type 0) (a : X → Term) (t : Term) → TermOf l t
-        → Fits F (put q ω r) a t ↔ ((u : Term) × TermOf l u × Fits F (put q ω (ground u)) a t × Fits F r a u)
+        → Fits F (put q ω r) a t ↔ ((u : Term) × TermOf l u × Fits F (put q ω (ground_term u)) a t × Fits F r a u)
     split (var x) ω r F a t g = absurd ω
     split (neg q) ω r F a t g = (
       λ h. (t, g, ground_fits F a t t (same_term_holds l.classes t), h),
@@ -310,7 +310,7 @@ module _ (l : Language) {X : Type 0} where
         (λ h. let p = i.0 h.1 in (p.0, p.1, (h.0, p.2), p.3), λ p. (p.2.0, i.1 (p.0, p.1, p.2.1, p.3)))
 
     split_all : (qs : Antis X) (ω : OutermostIn qs) (r : Anti X) (F : X → Type 0) (a : X → Term) (ts : Terms) → TermsOf l ts
-        → FitAll F (put_all qs ω r) a ts ↔ ((u : Term) × TermOf l u × FitAll F (put_all qs ω (ground u)) a ts × Fits F r a u)
+        → FitAll F (put_all qs ω r) a ts ↔ ((u : Term) × TermOf l u × FitAll F (put_all qs ω (ground_term u)) a ts × Fits F r a u)
     split_all ε ω r F a ts g = absurd ω
     split_all (q ▸ qs) (inl ω) r F a nil g = (λ h. absurd h, λ p. p.2)
     split_all (q ▸ qs) (inl ω) r F a (t :: ts) g =
@@ -324,13 +324,13 @@ module _ (l : Language) {X : Type 0} where
   -- the term determines what stands at ω
   mutual
     one_place : (q : Anti X) (ω : Outermost q) (F G : X → Type 0) (a b : X → Term) (t u v : Term)
-        → Fits F (put q ω (ground u)) a t → Fits G (put q ω (ground v)) b t → l ⊢ u ≈ v
+        → Fits F (put q ω (ground_term u)) a t → Fits G (put q ω (ground_term v)) b t → l ⊢ u ≈ v
     one_place (var x) ω F G a b t u v h k = absurd ω
     one_place (neg q) ω F G a b t u v h k = term_trans l u t v (ground_there F a u t h) (term_sym l v t (ground_there G b v t k))
     one_place (app r qs) ω F G a b (node r' ts) u v h k = one_place_all qs ω F G a b ts u v h.1 k.1
 
     one_place_all : (qs : Antis X) (ω : OutermostIn qs) (F G : X → Type 0) (a b : X → Term) (ts : Terms) (u v : Term)
-        → FitAll F (put_all qs ω (ground u)) a ts → FitAll G (put_all qs ω (ground v)) b ts → l ⊢ u ≈ v
+        → FitAll F (put_all qs ω (ground_term u)) a ts → FitAll G (put_all qs ω (ground_term v)) b ts → l ⊢ u ≈ v
     one_place_all ε ω F G a b ts u v h k = absurd ω
     one_place_all (q ▸ qs) (inl ω) F G a b nil u v h k = absurd h
     one_place_all (q ▸ qs) (inl ω) F G a b (t :: ts) u v h k = one_place q ω F G a b t u v h.0 k.0
@@ -339,7 +339,7 @@ module _ (l : Language) {X : Type 0} where
 
   -- where no complement is left
   mutual
-    bare_there : (q : Anti X) (F : X → Type 0) (a : X → Term) (u t : Term) → (Outermost q → ⊥) → replace (λ x. ground (a x)) q ≡ ground u
+    bare_there : (q : Anti X) (F : X → Type 0) (a : X → Term) (u t : Term) → (Outermost q → ⊥) → replace (λ x. ground_term (a x)) q ≡ ground_term u
         → l ⊢ u ≈ t → Fits F q a t
     bare_there (var x) F a u t n e i = subst (λ (v : Term). l ⊢ v ≈ t) (sym (ground_same (a x) u e)) i
     bare_there (neg q) F a u t n e i = absurd (n tt)
@@ -348,7 +348,7 @@ module _ (l : Language) {X : Type 0} where
         let k : f ≡ s = cc in (ap (class_of l.classes) k ∙ j.0, bare_there_all qs F a us ts n (cc) j.1)
 
     bare_there_all : (qs : Antis X) (F : X → Type 0) (a : X → Term) (us ts : Terms) → (OutermostIn qs → ⊥)
-        → replace_all (λ x. ground (a x)) qs ≡ grounds us → l ⊢ us ≋ ts → FitAll F qs a ts
+        → replace_all (λ x. ground_term (a x)) qs ≡ ground_terms us → l ⊢ us ≋ ts → FitAll F qs a ts
     bare_there_all ε F a nil nil n e i = tt
     bare_there_all ε F a nil (t :: ts) n e i = absurd (false≢true i)
     bare_there_all ε F a (u :: us) ts n e i = let z : ◌≡◌ {A = ℕ} 0 1 = cc in absurd (omega arith)
@@ -360,14 +360,14 @@ module _ (l : Language) {X : Type 0} where
 
   mutual
     bare_back : (q : Anti X) (F : X → Type 0) (a : X → Term) (t : Term) → (Outermost q → ⊥) → Fits F q a t
-        → (u : Term) × (replace (λ x. ground (a x)) q ≡ ground u) × (l ⊢ u ≈ t)
+        → (u : Term) × (replace (λ x. ground_term (a x)) q ≡ ground_term u) × (l ⊢ u ≈ t)
     bare_back (var x) F a t n h = (a x, refl, h)
     bare_back (neg q) F a t n h = absurd (n tt)
     bare_back (app f qs) F a (node r ts) n h =
         let p = bare_back_all qs F a ts n h.1 in (node f p.0, ap (app f) p.1, node_same l f r p.0 ts h.0 p.2)
 
     bare_back_all : (qs : Antis X) (F : X → Type 0) (a : X → Term) (ts : Terms) → (OutermostIn qs → ⊥) → FitAll F qs a ts
-        → (us : Terms) × (replace_all (λ x. ground (a x)) qs ≡ grounds us) × (l ⊢ us ≋ ts)
+        → (us : Terms) × (replace_all (λ x. ground_term (a x)) qs ≡ ground_terms us) × (l ⊢ us ≋ ts)
     bare_back_all ε F a nil n h = (nil, refl, refl)
     bare_back_all ε F a (t :: ts) n h = absurd h
     bare_back_all (q ▸ qs) F a nil n h = absurd h
@@ -412,14 +412,14 @@ module _ (l : Language) {X : Type 0} where
       -- only what stands beside the complement matters to what is around it
       around : (G K : X → Type 0) (a b : X → Term) (u : Term) → ((x : X) → F x → G x) → ((x : X) → Beside q ω x → G x → K x)
           → ((x : X) → Beside q ω x → K x → G x) → ((x : X) → Beside q ω x → G x → l ⊢ a x ≈ b x)
-          → Fits G (put q ω (ground u)) a t → Fits K (put q ω (ground u)) b t
+          → Fits G (put q ω (ground_term u)) a t → Fits K (put q ω (ground_term u)) b t
       around G K a b u s f g e =
-          same (put q ω (ground u)) G K a b t
-          (λ x y. elim ((free_put q ω (ground u) x).0 y) [ inl i ↦ s x i | inr i ↦ absurd (ground_none u x (free_occurs (ground u) x i)) ])
+          same (put q ω (ground_term u)) G K a b t
+          (λ x y. elim ((free_put q ω (ground_term u) x).0 y) [ inl i ↦ s x i | inr i ↦ absurd (ground_none u x (free_occurs (ground_term u) x i)) ])
           (λ x o. f x (beside x o)) (λ x o. g x (beside x o)) (λ x o. e x (beside x o))
         where
-          beside : (x : X) → Occurs x (put q ω (ground u)) → Beside q ω x
-          beside x o = elim (occurs_put q ω (ground u) (app zero ε) x o) [ inl b ↦ b | inr i ↦ absurd (ground_none u x i) ]
+          beside : (x : X) → Occurs x (put q ω (ground_term u)) → Beside q ω x
+          beside x o = elim (occurs_put q ω (ground_term u) (app zero ε) x o) [ inl b ↦ b | inr i ↦ absurd (ground_none u x i) ]
 
       -- the valuation with u for z
       abbrev with_z : (X → Term) → Term → X → Term
@@ -437,7 +437,7 @@ module _ (l : Language) {X : Type 0} where
       step_there s =
           go s.0 s.1 ((split q ω (neg inner) F s.0 t g).0 (subst (λ (r : Anti X). Fits F r s.0 t) (sym (put_back q ω)) s.2))
         where
-          go : (a : X → Term) → Valued a → (u : Term) × TermOf l u × Fits F (put q ω (ground u)) a t × Fits F (neg inner) a u
+          go : (a : X → Term) → Valued a → (u : Term) × TermOf l u × Fits F (put q ω (ground_term u)) a t × Fits F (neg inner) a u
               → Some (put q ω (var z)) t × (Some (put q ω inner) t → ⊥)
           go a v p = (
             (
@@ -454,9 +454,9 @@ module _ (l : Language) {X : Type 0} where
             λ s. let b : X → Term = s.0 in
                 let r = (split q ω inner F² b t g).0 s.2 in
                 let e : l ⊢ p.0 ≈ r.0 = one_place q ω F F² a b t p.0 r.0 p.2 r.2 in
-                let k : Fits F² (put q ω (ground p.0)) b t =
-                (split q ω (ground p.0) F² b t g).1 (r.0, r.1, r.2, ground_fits F² b p.0 r.0 e) in
-                p.3 b s.1 (λ x o f. term_sym l (a x) (b x) (determined (put q ω (ground p.0)) F F² a b t p.2 k x (more (ground p.0) x f)))
+                let k : Fits F² (put q ω (ground_term p.0)) b t =
+                (split q ω (ground_term p.0) F² b t g).1 (r.0, r.1, r.2, ground_fits F² b p.0 r.0 e) in
+                p.3 b s.1 (λ x o f. term_sym l (a x) (b x) (determined (put q ω (ground_term p.0)) F F² a b t p.2 k x (more (ground_term p.0) x f)))
                 (same inner F² (λ x. F x ⊎ Free x inner) b b p.0 (λ x f. (free_put q ω inner x).1 (inr f)) (λ x o. (free_put q ω inner x).0)
                 (λ x o. (free_put q ω inner x).1) (λ x o f. same_term_holds l.classes (b x)) (moved inner F² b r.0 p.0 (term_sym l p.0 r.0 e) r.3)),
           )
@@ -464,9 +464,9 @@ module _ (l : Language) {X : Type 0} where
       step_back : Some (put q ω (var z)) t × (Some (put q ω inner) t → ⊥) → Some q t
       step_back s = (s.0.0, s.0.1, go s.0.0 s.0.1 ((split q ω (var z) F¹ s.0.0 t g).0 s.0.2))
         where
-          go : (a : X → Term) → Valued a → (u : Term) × TermOf l u × Fits F¹ (put q ω (ground u)) a t × (l ⊢ a z ≈ u) → Fits F q a t
+          go : (a : X → Term) → Valued a → (u : Term) × TermOf l u × Fits F¹ (put q ω (ground_term u)) a t × (l ⊢ a z ≈ u) → Fits F q a t
           go a v p =
-              let k : Fits F (put q ω (ground p.0)) a t =
+              let k : Fits F (put q ω (ground_term p.0)) a t =
               around F¹ F a a p.0 (more (var z)) less¹ (λ x b. more (var z) x) (λ x b f. same_term_holds l.classes (a x)) p.2 in
               subst (λ (r : Anti X). Fits F r a t) (put_back q ω)
               ((split q ω (neg inner) F a t g).1 (

@@ -20,12 +20,12 @@ mutual
 
 -- a ground term is an anti-term
 abbrev mutual
-  pub ground : {X : Type 0} → Term → Anti X
-  ground (node f ts) = app f (grounds ts)
+  pub ground_term : {X : Type 0} → Term → Anti X
+  ground_term (node f ts) = app f (ground_terms ts)
 
-  pub grounds : {X : Type 0} → Terms → Antis X
-  grounds nil = ε
-  grounds (t :: ts) = ground t ▸ grounds ts
+  pub ground_terms : {X : Type 0} → Terms → Antis X
+  ground_terms nil = ε
+  ground_terms (t :: ts) = ground_term t ▸ ground_terms ts
 
 -- Definition 2.2: x is a free variable of q
 abbrev mutual
@@ -81,7 +81,7 @@ Substitution = ℕ → Option Term
 
 abbrev pub value : Option Term → ℕ → Anti ℕ
 value none x = var x
-value (some t) x = ground t
+value (some t) x = ground_term t
 
 infix 80 ◌⟨◌⟩
 abbrev pub ◌⟨◌⟩ : Substitution → Anti ℕ → Anti ℕ

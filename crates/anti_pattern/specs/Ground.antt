@@ -3,7 +3,7 @@ use Rattle.std.specs.Prelude.{◌≡◌, ◌⊎◌}
 use Rattle.std.proofs.Common.{inl, inr}
 use Rattle.term.specs.Term.{Term}
 use Rattle.anti_pattern.specs.Language.{Language, TermOf, ◌⊢◌≈◌}
-use Rattle.anti_pattern.specs.AntiTerm.{Anti, var, neg, app, Antis, ε, ◌▸◌, ground, Occurs, replace}
+use Rattle.anti_pattern.specs.AntiTerm.{Anti, var, neg, app, Antis, ε, ◌▸◌, ground_term, Occurs, replace}
 
 -- the positions ω of q at which a complement stands, with no complement above it
 abbrev mutual
@@ -49,5 +49,5 @@ pub data Way {X : Type 0} : Anti X → Type 0 where
 -- ⟦q[z]⟧ \ ⟦q[q']⟧
 abbrev pub Semantics : (l : Language) {X : Type 0} {q : Anti X} → Way q → Term → Type 0
 Semantics l {X} (bare {q} n) t =
-    (σ : X → Term) × ((x : X) → TermOf l (σ x)) × (u : Term) × (replace (λ x. ground (σ x)) q ≡ ground u) × (l ⊢ u ≈ t)
+    (σ : X → Term) × ((x : X) → TermOf l (σ x)) × (u : Term) × (replace (λ x. ground_term (σ x)) q ≡ ground_term u) × (l ⊢ u ≈ t)
 Semantics l (take ω z f w v) t = Semantics l w t × (Semantics l v t → ⊥)

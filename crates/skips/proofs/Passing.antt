@@ -359,17 +359,17 @@ module _ (table classes x : List ℕ) where
   passed_one r symbols most z = rw z (one_is r most)
 
 -- what is passed over lies within
-pub passes_within : {table classes x r : List ℕ} {symbols k size count : ℕ} → Passes table classes symbols x r k size count → size ≤ length r
+pub passes_within : {table classes x : List ℕ} {symbols : ℕ} {r : List ℕ} {k size count : ℕ} → Passes table classes symbols x r k size count → size ≤ length r
 unfolding extent_of
 passes_within Passes.none = omega arith
 passes_within {table} {r = r} (Passes.more low fails p) =
     omega (arith, passes_within p, length-drop (extent_of table r) r, span_within table r false 1)
 
 -- and is paid at its dearest
-pub passes_paid : {table classes x r : List ℕ} {symbols k size count : ℕ} → Passes table classes symbols x r k size count
+pub passes_paid : {table classes x : List ℕ} {symbols : ℕ} {r : List ℕ} {k size count : ℕ} → Passes table classes symbols x r k size count
     → count ≤ dearest_of symbols * k
 passes_paid Passes.none = omega arith
-passes_paid {table} {classes} {x} {r} {symbols} (Passes.more {k = k} low fails p) =
+passes_paid {table} {classes} {x} {symbols} {r} (Passes.more {k = k} low fails p) =
     omega (arith, passes_paid p, failing_most table classes x r symbols, mul-add (dearest_of symbols) 1 k, mul-one (dearest_of symbols))
 
 -- what can be paid

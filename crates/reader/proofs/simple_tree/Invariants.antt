@@ -1,0 +1,11 @@
+-- `reader::simple_tree` meets its contract. The invariant: the trees of the frames are still to come. The measure is what is left of the bytes.
+use Rattle.reader.proofs.Simple.{Simply, simply_starts, simply_some, simply_refuses, simply_ends, simply_within, simply_next, simply_around, simply_no_more, simply_last, simply_free, simply_first}
+use Prim.Native.Nat.{◌-◌}
+use lib.ListN.{length}
+use Rattle.reader.proofs.simple_tree.Given as goal
+
+abbrev pub invariant-loop-size : goal.invariant-loop-size
+invariant-loop-size l = Simply l.table l.s l.records l.around l.depth l.top l.at
+
+abbrev pub decreases-loop-size : goal.decreases-loop-size
+decreases-loop-size l = length l.s - l.at
