@@ -1,10 +1,10 @@
 // The list of the codes, to standard output.
 #![tactic(auto)]
 
-use libc::STDOUT_FILENO;
+use std::io;
 
-fn main() {
+fn main(rt: HostRuntime) -> io::Result<()> {
     let mut text = [0u8; kinds::CODES_ROOM];
     kinds::put_codes(&mut text);
-    io::write_all(STDOUT_FILENO, &text);
+    rt.write_all(&text)
 }

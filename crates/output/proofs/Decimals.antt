@@ -8,7 +8,6 @@ use mathlib.Core.Bool.{Bool, true, false, cond}
 use lib.Dec.{leb, ltb}
 use lib.ListN.{length, take, length-append}
 use borrow.Author.Tests.{lt-ltb, le-ltb, leb-true, leb-false}
-use Rattle.io.specs.Counts.{IsPrefixLen}
 use Rattle.io.specs.Digits.{hex_digit_ascii, last_digits, IsDigitCount}
 use Rattle.output.specs.Decimal.{digit, decimal_of, decimal}
 
@@ -64,9 +63,9 @@ few_digits n k f h = go (leb k 20) refl
         absurd (omega (arith, p, f.2 (omega arith)))
 
 -- what is spelled out is the decimal
-pub spelled : (n k : ℕ) (text : List ℕ) → n < 18446744073709551616 → IsPrefixLen k text × (IsDigitCount 10 1 n k × (take k text ≡ last_digits 10 k n))
+pub spelled : (n k : ℕ) (text : List ℕ) → n < 18446744073709551616 → IsDigitCount 10 1 n k → take k text ≡ last_digits 10 k n
     → take k text ≡ decimal n
-spelled n k text h s = s.1.1 ∙ fewest_decimal n k 20 s.1.0 (few_digits n k s.1.0 h)
+spelled n k text h f e = e ∙ fewest_decimal n k 20 f (few_digits n k f h)
 
 -- the digits that numbers below a power of ten need at most
 pub few_length : (d room n : ℕ) → n < 10 ^ suc d → length (decimal_of room n) ≤ suc d

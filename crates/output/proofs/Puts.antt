@@ -3,11 +3,11 @@ use Prim.Native.Nat.{ℕ, ◌+◌, ◌-◌, ◌≤◌, ◌<◌}
 use native.Mathlib.Omega.{arith}
 use mathlib.Core.Path.{◌≡◌, refl, sym, ap, ◌∙◌}
 use mathlib.Core.List.{List, ◌++◌}
-use mathlib.Core.Bool.{Bool, true, false, not}
+use mathlib.Core.Bool.{Bool, true, false}
 use lib.Dec.{leb}
 use lib.ListN.{length, length-append}
 use lib.Seq.{sets, length-sets}
-use borrow.Author.Tests.{leb-true, leb-false, le-leb, lt-leb, not-true, not-false}
+use borrow.Author.Tests.{leb-true, leb-false, le-leb, lt-leb}
 use Rattle.term.proofs.Stores.{sets_append}
 use Rattle.output.specs.Puts.{puts, past}
 
@@ -21,11 +21,11 @@ room_left size at n h = go (leb at (size - n)) refl
     go false e = let l = leb-false at (size - n) e in sym (lt-leb (at + n) size (omega arith))
 
 module _ (at n size : ℕ) (r : Bool) (told : r ≡ leb (at + n) size) where
-  pub some_room : not r ≡ false → at + n ≤ size
-  some_room h = leb-true (at + n) size (sym told ∙ not-false r h)
+  pub some_room : r ≡ true → at + n ≤ size
+  some_room h = leb-true (at + n) size (sym told ∙ h)
 
-  pub no_room : not r ≡ true → size < at + n
-  no_room h = leb-false (at + n) size (sym told ∙ not-true r h)
+  pub no_room : r ≡ false → size < at + n
+  no_room h = leb-false (at + n) size (sym told ∙ h)
 
 -- the buffer and the place after these bytes were put
 abbrev pub Put : List ℕ → ℕ → List ℕ → List ℕ → ℕ → Type 0

@@ -3,7 +3,6 @@
 
 ghost use Rattle.std.specs.Prelude.{◌≡◌, ◌+◌, ◌≤◌, leb, length};
 ghost use Rattle.std.proofs.lemmas.List.Edits.{sets};
-ghost use Rattle.term.specs.Moment.{old, new};
 ghost use Rattle.output.specs.Decimal.{decimal};
 ghost use Rattle.output.specs.Field.{field};
 ghost use Rattle.output.specs.Puts.{puts, past};
@@ -21,7 +20,7 @@ fn has_room(size: usize, at: usize, n: usize) -> bool
 // Copies bytes to a place that has room for them.
 fn copy(out: &mut [u8], at: usize, bytes: &[u8])
     requires { at + length bytes.now ≤ length out.old }
-    ensures { new out ≡ sets (old out) at (old bytes) }
+    ensures { out.new ≡ sets out.old at bytes.now }
 {
     let mut i: usize = 0;
     while i < bytes.len() {
@@ -32,8 +31,8 @@ fn copy(out: &mut [u8], at: usize, bytes: &[u8])
 
 // Puts bytes, and answers where they end.
 pub fn put_bytes(out: &mut [u8], at: usize, bytes: &[u8]) -> usize
-    ensures contents { new out ≡ puts (old out) at (old bytes) }
-    ensures end { result ≡ past (old out) at (old bytes) }
+    ensures contents { out.new ≡ puts out.old at bytes.now }
+    ensures end { result ≡ past out.old at bytes.now }
 {
     if !has_room(out.len(), at, bytes.len()) {
         return at;
@@ -44,8 +43,8 @@ pub fn put_bytes(out: &mut [u8], at: usize, bytes: &[u8]) -> usize
 
 // Puts a text and the byte after it, and answers where they end.
 pub fn put_field(out: &mut [u8], at: usize, text: &[u8], end: u8) -> usize
-    ensures contents { new out ≡ puts (old out) at (field (old text) end) }
-    ensures end { result ≡ past (old out) at (field (old text) end) }
+    ensures contents { out.new ≡ puts out.old at (field text.now end) }
+    ensures end { result ≡ past out.old at (field text.now end) }
 {
     if !has_room(out.len(), at, text.len()) {
         return at;
@@ -61,8 +60,8 @@ pub fn put_field(out: &mut [u8], at: usize, text: &[u8], end: u8) -> usize
 
 // Puts a number in decimal and the byte after it, and answers where they end.
 pub fn put_decimal(out: &mut [u8], at: usize, n: u64, end: u8) -> usize
-    ensures contents { new out ≡ puts (old out) at (field (decimal n) end) }
-    ensures end { result ≡ past (old out) at (field (decimal n) end) }
+    ensures contents { out.new ≡ puts out.old at (field (decimal n) end) }
+    ensures end { result ≡ past out.old at (field (decimal n) end) }
 {
     let mut digits = [0u8; 20];
     let size = io::decimal(n, &mut digits);

@@ -1,6 +1,8 @@
 // The report on the files of the folder that the program is run in.
 #![tactic(auto)]
 
-fn main() {
-    report_files::report(b"table.bin", b"rules.bin", b"states.bin");
+use std::io;
+
+fn main(rt: HostRuntime) -> io::Result<()> {
+    report_files::report(&rt, b"table.bin", b"rules.bin", b"states.bin")
 }

@@ -3,13 +3,14 @@
 #![tactic(auto)]
 
 ghost use Rattle.std.specs.Prelude.{◌≡◌, ◌+◌, ◌≤◌, length, take};
-ghost use Rattle.term.specs.Moment.{old, new};
 ghost use Rattle.report_lines.specs.Report.{front};
 ghost use Rattle.report_files.specs.Files.{room_of, room_start, name_of, bytes_of, files_room};
 ghost use Rattle.report_files.specs.Loading.{LoadOf, Loads, loaded_report, Reported};
 
-use libc::STDOUT_FILENO;
 use report_lines::File;
+use std::io;
+use std::io::Read;
+use std::rt::Files;
 
 // One byte more than a table or a sheet may have, so that a longer file is refused by its own check.
 const TABLE_ROOM: usize = term::LARGEST_TABLE + 1;
@@ -20,7 +21,7 @@ const SHEET_ROOM: usize = sheet::LONGEST_SHEET + 1;
 const FILES_ROOM: usize = TABLE_ROOM + SHEET_ROOM + SHEET_ROOM;
 
 // A file, whether it could be read, and how many bytes lie in its room.
-#[derive(Drop)]
+#[derive(Clone, Copy)]
 struct Loaded {
     file: File,
     read: bool,
@@ -51,7 +52,7 @@ fn start_of(file: File) -> usize
 
 // The name of a file, of three.
 fn name_of<'a>(file: File, table: &'a [u8], rules: &'a [u8], states: &'a [u8]) -> &'a [u8]
-    ensures { result.now ≡ name_of file (old table) (old rules) (old states) }
+    ensures { result.now ≡ name_of file table.now rules.now states.now }
 {
     match file {
         File::Table => table,
@@ -60,35 +61,34 @@ fn name_of<'a>(file: File, table: &'a [u8], rules: &'a [u8], states: &'a [u8]) -
     }
 }
 
-// Reads until the buffer is full or the file ends.
-fn read_all(file: File, fd: i32, buffer: &mut [u8]) -> Loaded
-    ensures { LoadOf result file (length (old buffer)) }
+// A file that can't be read.
+fn unread(file: File) -> Loaded
+    ensures { LoadOf result file 0 }
 {
-    let mut size: usize = 0;
-    while size < buffer.len() {
-        let got = libc::read(fd, &mut buffer[size..]);
-        if got < 0 {
-            return Loaded {
-                file: file,
-                read: false,
-                size: 0,
-            };
-        }
-        let more = io::count(got, &buffer[size..]);
-        if more == 0 {
-            break;
-        }
-        size = size + more;
-    }
     Loaded {
         file: file,
-        read: true,
-        size: size,
+        read: false,
+        size: 0,
+    }
+}
+
+// Reads until the buffer is full or the file ends.
+fn read_all<R: Read>(file: File, reader: &mut R, buffer: &mut [u8]) -> Loaded
+    ensures { LoadOf result file (length buffer.old) }
+{
+    match input::fill(reader, buffer) {
+        Ok(size) => Loaded {
+            file: file,
+            read: true,
+            size: size,
+        },
+        Err(_) => unread(file),
     }
 }
 
 // Reads a file of three names into its room.
-fn load<'a>(
+fn load<'a, R: Files>(
+    rt: &R,
     file: File,
     table: &'a [u8],
     rules: &'a [u8],
@@ -96,28 +96,21 @@ fn load<'a>(
     files: &mut [u8],
 ) -> Loaded
     requires { length files.old ≡ files_room }
-    ensures { Loads result file (old files) (new files) }
+    ensures { Loads result file files.old files.new }
 {
-    let fd = os::open_read(name_of(file, table, rules, states));
-    if fd < 0 {
-        return Loaded {
-            file: file,
-            read: false,
-            size: 0,
-        };
-    }
+    let Ok(mut reader) = input::open(rt, name_of(file, table, rules, states)) else {
+        return unread(file);
+    };
     let start = start_of(file);
     let end = start + room_of(file);
-    let loaded = read_all(file, fd, &mut files[start..end]);
-    libc::close(fd);
-    loaded
+    read_all(file, &mut reader, &mut files[start..end])
 }
 
 // The first bytes in the room of a file.
 fn bytes_of(file: File, size: usize, files: &[u8]) -> &[u8]
     requires size_bound { size ≤ room_of file }
     requires files_len { length files.now ≡ files_room }
-    ensures { result.now ≡ bytes_of file size (old files) }
+    ensures { result.now ≡ bytes_of file size files.now }
 {
     let start = start_of(file);
     let end = start + size;
@@ -136,8 +129,8 @@ fn put_loaded(
     requires load_of_2 { LoadOf r File.Rules (room_of File.Rules) }
     requires load_of_3 { LoadOf s File.States (room_of File.States) }
     requires files_len { length files.now ≡ files_room }
-    ensures value { result ≡ length (loaded_report t r s (old files)) }
-    ensures out_value { new out ≡ front (loaded_report t r s (old files)) (old out) }
+    ensures value { result ≡ length (loaded_report t r s files.now) }
+    ensures out_value { out.new ≡ front (loaded_report t r s files.now) out.old }
 {
     report_lines::put_report(
         t.read,
@@ -151,24 +144,25 @@ fn put_loaded(
 }
 
 // Puts the report on the files of these names, and answers its length.
-pub fn read_report<'a>(
+pub fn read_report<'a, R: Files>(
+    rt: &R,
     table: &'a [u8],
     rules: &'a [u8],
     states: &'a [u8],
     out: &mut [u8; report_lines::REPORT_ROOM],
 ) -> usize
-    ensures { Reported result (old out) (new out) }
+    ensures { Reported result out.old out.new }
 {
     let mut files = [0u8; FILES_ROOM];
-    let t = load(File::Table, table, rules, states, &mut files);
-    let r = load(File::Rules, table, rules, states, &mut files);
-    let s = load(File::States, table, rules, states, &mut files);
+    let t = load(rt, File::Table, table, rules, states, &mut files);
+    let r = load(rt, File::Rules, table, rules, states, &mut files);
+    let s = load(rt, File::States, table, rules, states, &mut files);
     put_loaded(t, r, s, &files, out)
 }
 
 // The first n bytes, or all of them.
 fn first(bytes: &[u8], n: usize) -> &[u8]
-    ensures { result.now ≡ take n (old bytes) }
+    ensures { result.now ≡ take n bytes.now }
 {
     if n < bytes.len() {
         return &bytes[0..n];
@@ -177,8 +171,13 @@ fn first(bytes: &[u8], n: usize) -> &[u8]
 }
 
 // The report on the files of these names, to standard output.
-pub fn report<'a>(table: &'a [u8], rules: &'a [u8], states: &'a [u8]) {
+pub fn report<'a, R: Files + Print>(
+    rt: &R,
+    table: &'a [u8],
+    rules: &'a [u8],
+    states: &'a [u8],
+) -> io::Result<()> {
     let mut text = [0u8; report_lines::REPORT_ROOM];
-    let size = read_report(table, rules, states, &mut text);
-    io::write_all(STDOUT_FILENO, first(&text, size));
+    let size = read_report(rt, table, rules, states, &mut text);
+    rt.write_all(first(&text, size))
 }

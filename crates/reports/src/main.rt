@@ -4,16 +4,17 @@
 #![tactic(auto)]
 
 ghost use Rattle.std.specs.Prelude.{◌≤◌, length};
-ghost use Rattle.term.specs.Moment.{old};
 
-use libc::STDOUT_FILENO;
+use std::env::Env;
+use std::io;
+use std::rt::Files;
 
 // More than stated.txt has.
 const STATED_ROOM: usize = 131072;
 
 // How many bytes the first block takes, the empty line after it among them.
 fn block_end(stated: &[u8]) -> usize
-    ensures { result ≤ length (old stated) }
+    ensures { result ≤ length stated.now }
 {
     let mut i: usize = 1;
     while i < stated.len() {
@@ -29,7 +30,7 @@ fn block_end(stated: &[u8]) -> usize
 
 // How many bytes a text and the end of a line after it take at the front of a block, 0 where it has others there.
 fn passed(block: &[u8], text: &[u8]) -> usize
-    ensures { result ≤ length (old block) }
+    ensures { result ≤ length block.now }
 {
     let n = text.len();
     if block.len() <= n {
@@ -59,37 +60,44 @@ fn agrees(block: &[u8], label: &[u8], text: &[u8]) -> bool {
 }
 
 // Writes whether a report is as stated, and both where it is not.
-fn tell(block: &[u8], label: &[u8], text: &[u8]) -> bool {
-    io::write_all(STDOUT_FILENO, label);
+fn tell(rt: &impl Print, block: &[u8], label: &[u8], text: &[u8]) -> io::Result<bool> {
+    rt.write_all(label)?;
     if agrees(block, label, text) {
-        io::write_all(STDOUT_FILENO, b": as stated\n");
-        return true;
+        rt.write_all(b": as stated\n")?;
+        return Ok(true);
     }
-    io::write_all(STDOUT_FILENO, b": not as stated\nstated:\n");
-    io::write_all(STDOUT_FILENO, block);
-    io::write_all(STDOUT_FILENO, b"reported:\n");
-    io::write_all(STDOUT_FILENO, text);
-    false
+    rt.write_all(b": not as stated\nstated:\n")?;
+    rt.write_all(block)?;
+    rt.write_all(b"reported:\n")?;
+    rt.write_all(text)?;
+    Ok(false)
 }
 
 // Compares the report of these arguments with a block.
-fn compare(label: usize, table: usize, rules: usize, states: usize, block: &[u8]) -> bool {
-    let mut first = io::buffer();
-    let mut second = io::buffer();
-    let mut third = io::buffer();
-    let mut fourth = io::buffer();
-    let l = os::arg(label, &mut first);
-    let t = os::arg(table, &mut second);
-    let r = os::arg(rules, &mut third);
-    let s = os::arg(states, &mut fourth);
+fn compare<R: Files + Env + Print>(
+    rt: &R,
+    label: usize,
+    table: usize,
+    rules: usize,
+    states: usize,
+    block: &[u8],
+) -> io::Result<bool> {
+    let mut first = [0u8; input::NAME_ROOM];
+    let mut second = [0u8; input::NAME_ROOM];
+    let mut third = [0u8; input::NAME_ROOM];
+    let mut fourth = [0u8; input::NAME_ROOM];
+    let l = input::argument(rt, label, &mut first);
+    let t = input::argument(rt, table, &mut second);
+    let r = input::argument(rt, rules, &mut third);
+    let s = input::argument(rt, states, &mut fourth);
     let mut text = [0u8; report_lines::REPORT_ROOM];
-    let size = report_files::read_report(&second[..t], &third[..r], &fourth[..s], &mut text);
-    tell(block, &first[..l], &text[..size])
+    let size = report_files::read_report(rt, &second[..t], &third[..r], &fourth[..s], &mut text);
+    tell(rt, block, &first[..l], &text[..size])
 }
 
 // Compares all reports, and writes how many are as stated and whether more is stated.
-fn compare_all(stated: &[u8]) {
-    let n = os::arg_count();
+fn compare_all<R: Files + Env + Print>(rt: &R, stated: &[u8]) -> io::Result<()> {
+    let n = input::argument_count(rt);
     let mut rest = stated;
     let mut at: usize = 1;
     let mut agreed: u64 = 0;
@@ -98,26 +106,25 @@ fn compare_all(stated: &[u8]) {
             break;
         }
         let end = block_end(rest);
-        if compare(at, at + 1, at + 2, at + 3, &rest[..end]) {
+        if compare(rt, at, at + 1, at + 2, at + 3, &rest[..end])? {
             agreed = agreed + 1;
         }
         rest = &rest[end..];
         at = at + 4;
     }
-    io::print_decimal(STDOUT_FILENO, agreed);
-    io::write_all(STDOUT_FILENO, b" reports as stated\n");
+    println!(rt; "{agreed} reports as stated")?;
     if 0 < rest.len() {
-        io::write_all(STDOUT_FILENO, b"more is stated\n");
+        println!(rt; "more is stated")?;
     }
+    Ok(())
 }
 
-fn main() {
+fn main(rt: HostRuntime) -> io::Result<()> {
     let mut space = [0u8; STATED_ROOM];
-    let fd = os::open_read(b"stated.txt");
-    let size = io::read_full(fd, &mut space);
-    libc::close(fd);
-    compare_all(&space[..size]);
-    report_files::report(b"table.bin", b"rules.bin", b"states.bin");
-    report_files::report(b"table.bin", b"missing.bin", b"states.bin");
-    report_files::report(b"table_200.bin", b"rules_64.bin", b"states_most.bin");
+    let mut stated = input::open(&rt, b"stated.txt")?;
+    let size = input::fill(&mut stated, &mut space)?;
+    compare_all(&rt, &space[..size])?;
+    report_files::report(&rt, b"table.bin", b"rules.bin", b"states.bin")?;
+    report_files::report(&rt, b"table.bin", b"missing.bin", b"states.bin")?;
+    report_files::report(&rt, b"table_200.bin", b"rules_64.bin", b"states_most.bin")
 }

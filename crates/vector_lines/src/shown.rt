@@ -30,14 +30,14 @@ const BLANK: u8 = 250;
 pub const ROOM: usize = 4096;
 
 // An outcome as text. The bytes past its length are 0.
-#[derive(Drop)]
+#[derive(Clone, Copy)]
 pub struct Shown {
     pub bytes: [u8; ROOM],
     pub length: usize,
 }
 
 // What a call of the match answers, of one rule or of a rule sheet; nothing where there is no such call.
-#[derive(Drop)]
+#[derive(Clone, Copy)]
 pub enum Reply {
     Nothing,
     ByRule(Answer),

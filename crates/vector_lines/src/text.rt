@@ -1,6 +1,5 @@
 // The fields of a line and what they stand for.
 ghost use Rattle.std.specs.Prelude.{◌<◌, ◌≤◌, length};
-ghost use Rattle.term.specs.Moment.{old};
 
 use term::Edition;
 
@@ -18,7 +17,7 @@ const LIST: u8 = b'l';
 const EDITION: u8 = b'e';
 
 // How a call is told its language: by the table alone, or in an edition with a class list.
-#[derive(Drop)]
+#[derive(Clone, Copy)]
 pub enum Told {
     Simply,
     In(Edition),
@@ -26,7 +25,7 @@ pub enum Told {
 
 // What a piece of a field stands for: a number of so many bytes, low byte first, so many times, each time larger by a step. The size is
 // the piece's own number of characters, 0 where it can't be read.
-#[derive(Drop)]
+#[derive(Clone, Copy)]
 struct Piece {
     size: usize,
     value: usize,
@@ -37,7 +36,7 @@ struct Piece {
 
 // The number of bytes of s before the first b, or all of s.
 pub fn before(s: &[u8], b: u8) -> usize
-    ensures { result ≤ length (old s) }
+    ensures { result ≤ length s.now }
 {
     let mut n: usize = 0;
     while n < s.len() {
@@ -81,8 +80,8 @@ pub fn head(s: &[u8], b: u8) -> &[u8] {
 
 // The number of bytes of s through the first b, or all of s.
 pub fn through(s: &[u8], b: u8) -> usize
-    ensures within { result ≤ length (old s) }
-    ensures moves { 0 < length (old s) → 0 < result }
+    ensures within { result ≤ length s.now }
+    ensures moves { 0 < length s.now → 0 < result }
 {
     let n = before(s, b);
     if n < s.len() { n + 1 } else { n }
