@@ -7,7 +7,7 @@ use lib.ListN.{length, get_or, drop}
 use lib.Dec.{eqb, leb}
 use Rattle.answers.specs.declared.Refusal.TheVariants.{Short, BadCode, Long}
 use Rattle.term.specs.Code.{code_in}
-use Rattle.term.specs.Language.{Language, language, simple}
+use Rattle.term.specs.Language.{language, simple}
 use Rattle.term.specs.Limits.{longest, nesting, below_of}
 use Rattle.term.specs.Splicing.{in_list}
 use Rattle.term.specs.Term.{term_of}

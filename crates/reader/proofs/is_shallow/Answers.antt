@@ -1,6 +1,6 @@
 -- `reader::is_shallow` meets its contract. The invariant: some frames with enough nesting left are still to come. The measure is what is left of the bytes.
-use Rattle.reader.proofs.Shallow.{Passing, passing_starts, passing_ends, pass_leaf, pass_fixed, pass_list}
-use Prim.Native.Nat.{◌+◌, ◌-◌, ◌≤◌}
+use Rattle.reader.proofs.Shallow.{passing_starts, passing_ends, pass_leaf, pass_fixed, pass_list}
+use Prim.Native.Nat.{◌+◌}
 use native.Mathlib.Omega.{arith}
 use mathlib.Core.Path.{refl}
 use Rattle.reader.proofs.is_shallow.Goals as goal

@@ -1,7 +1,7 @@
 -- `reader::is_shallow` meets its contract. The invariant: some frames with enough nesting left are still to come. The measure is what is left of the bytes.
 use Rattle.term.specs.Limits.{longest_record}
-use Rattle.reader.proofs.Shallow.{Passing, passing_starts, passing_ends, pass_leaf, pass_fixed, pass_list}
-use Prim.Native.Nat.{◌+◌, ◌-◌, ◌≤◌}
+use Rattle.reader.proofs.Shallow.{Passing}
+use Prim.Native.Nat.{◌-◌, ◌≤◌}
 use lib.ListN.{length}
 use Rattle.reader.proofs.is_shallow.Given as goal
 

@@ -1,8 +1,6 @@
 -- `reader::read_tree` meets its contract. The invariant: the trees of the frames are still to come. The measure is what is left of the bytes.
-use Rattle.reader.proofs.Frames.{Reading, reading_starts, node_refuses, node_ends, depth_within, next_tree, next_around, no_more, child_last, place_free, child_first}
+use Rattle.reader.proofs.Frames.{reading_starts, node_refuses, node_ends, depth_within, next_tree, next_around, no_more, child_last, place_free, child_first}
 use native.Mathlib.Omega.{arith}
-use Prim.Native.Nat.{◌-◌}
-use mathlib.Core.Logic.{⊎_elim}
 use mathlib.Core.Path.{refl, sym}
 use Rattle.reader.proofs.read_tree.Goals as goal
 use Rattle.reader.proofs.read_tree.Goals.{then-top-gt0, else-top-gt0}

@@ -1,5 +1,5 @@
 -- `reader::read_tree` meets its contract. The invariant: the trees of the frames are still to come. The measure is what is left of the bytes.
-use Rattle.reader.proofs.Frames.{Reading, reading_starts, node_refuses, node_ends, depth_within, next_tree, next_around, no_more, child_last, place_free, child_first}
+use Rattle.reader.proofs.Frames.{Reading}
 use Rattle.term.specs.Language.{language}
 use Prim.Native.Nat.{◌-◌}
 use lib.ListN.{length}

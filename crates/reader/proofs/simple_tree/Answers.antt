@@ -1,8 +1,6 @@
 -- `reader::simple_tree` meets its contract. The invariant: the trees of the frames are still to come. The measure is what is left of the bytes.
-use Rattle.reader.proofs.Simple.{Simply, simply_starts, simply_some, simply_refuses, simply_ends, simply_within, simply_next, simply_around, simply_no_more, simply_last, simply_free, simply_first}
+use Rattle.reader.proofs.Simple.{simply_starts, simply_some, simply_refuses, simply_ends, simply_within, simply_next, simply_around, simply_no_more, simply_last, simply_free, simply_first}
 use native.Mathlib.Omega.{arith}
-use Prim.Native.Nat.{◌-◌}
-use mathlib.Core.Logic.{⊎_elim}
 use mathlib.Core.Path.{sym}
 use Rattle.reader.proofs.simple_tree.Goals as goal
 use Rattle.reader.proofs.simple_tree.Goals.{then-top-gt0, else-top-gt0}

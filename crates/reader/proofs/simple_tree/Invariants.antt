@@ -1,5 +1,5 @@
 -- `reader::simple_tree` meets its contract. The invariant: the trees of the frames are still to come. The measure is what is left of the bytes.
-use Rattle.reader.proofs.Simple.{Simply, simply_starts, simply_some, simply_refuses, simply_ends, simply_within, simply_next, simply_around, simply_no_more, simply_last, simply_free, simply_first}
+use Rattle.reader.proofs.Simple.{Simply}
 use Prim.Native.Nat.{◌-◌}
 use lib.ListN.{length}
 use Rattle.reader.proofs.simple_tree.Given as goal

@@ -1,7 +1,7 @@
 -- `term::check_classes` meets its contract. The invariant: the entries before `i` are accepted.
 use Prim.Native.Nat.{ℕ}
 use mathlib.Core.Path.{subst}
-use Prim.Native.Nat.{◌≤◌, ◌-◌, zero-le}
+use Prim.Native.Nat.{zero-le}
 use native.Mathlib.Omega.{arith}
 use mathlib.Core.Path.{◌≡◌, sym, ◌∙◌}
 use mathlib.Core.Bool.{true}

@@ -1,7 +1,7 @@
 -- `term::check_table` meets its contract. The invariant: the entries so far and those from `i` on decide.
-use Prim.Native.Nat.{◌≤◌, ◌-◌, zero-le}
+use Prim.Native.Nat.{zero-le}
 use native.Mathlib.Omega.{arith}
-use mathlib.Core.Path.{◌≡◌, refl, sym}
+use mathlib.Core.Path.{refl, sym}
 use Rattle.term.proofs.Tables.{table_long, table_checked, entries_next}
 use Rattle.term.proofs.check_table.Goals as goal
 

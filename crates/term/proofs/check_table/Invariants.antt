@@ -1,6 +1,6 @@
 -- `term::check_table` meets its contract. The invariant: the entries so far and those from `i` on decide.
-use Prim.Native.Nat.{◌≤◌, ◌-◌, zero-le}
-use mathlib.Core.Path.{◌≡◌, refl, sym}
+use Prim.Native.Nat.{◌≤◌, ◌-◌}
+use mathlib.Core.Path.{◌≡◌}
 use mathlib.Core.Bool.{◌&&◌}
 use lib.ListN.{length, drop}
 use Rattle.term.specs.Table.{entries_accepted}

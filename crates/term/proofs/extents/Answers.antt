@@ -2,9 +2,8 @@
 -- The measure is what is left of the bytes. Assumes nothing.
 use Rattle.term.proofs.Spans.{extent_start, extent_over, extent_all, extent_fixed, extent_list}
 use native.Mathlib.Omega.{arith}
-use mathlib.Core.Bool.{false}
-use Prim.Native.Nat.{◌≤◌, ◌-◌, ◌+◌}
-use mathlib.Core.Path.{◌≡◌, sym, ◌∙◌}
+use Prim.Native.Nat.{◌+◌}
+use mathlib.Core.Path.{sym, ◌∙◌}
 use Rattle.term.proofs.extents.Goals as goal
 
 pub loop-at-init : goal.loop-at-init

@@ -4,7 +4,7 @@ use Rattle.term.specs.Extent.{span_of}
 use lib.ListN.{length, drop}
 use mathlib.Core.Bool.{false}
 use Prim.Native.Nat.{◌≤◌, ◌-◌, ◌+◌}
-use mathlib.Core.Path.{◌≡◌, sym, ◌∙◌}
+use mathlib.Core.Path.{◌≡◌}
 use Rattle.term.proofs.extents.Given as goal
 
 abbrev pub invariant-loop-at : goal.invariant-loop-at

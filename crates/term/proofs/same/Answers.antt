@@ -1,8 +1,7 @@
 -- `term::same` meets its contract. The invariant: the parts are the same exactly if what is left of them is.
 -- The measure is what is left of the bytes.
 use native.Mathlib.Omega.{arith}
-use Prim.Native.Nat.{◌≤◌, ◌-◌}
-use mathlib.Core.Path.{◌≡◌, refl, sym, ◌∙◌}
+use mathlib.Core.Path.{refl, sym, ◌∙◌}
 use mathlib.Core.Bool.{false}
 use Rattle.term.proofs.SameParts.{same_next, same_differs, same_lengths, same_end, same_none}
 use Rattle.term.proofs.Demands.{compared}

@@ -1,7 +1,7 @@
 -- `term::same` meets its contract. The invariant: the parts are the same exactly if what is left of them is.
 -- The measure is what is left of the bytes.
 use Prim.Native.Nat.{◌≤◌, ◌-◌}
-use mathlib.Core.Path.{◌≡◌, refl, sym, ◌∙◌}
+use mathlib.Core.Path.{◌≡◌}
 use mathlib.Core.Bool.{false}
 use lib.ListN.{length, drop}
 use Rattle.term.specs.Same.{same_part}

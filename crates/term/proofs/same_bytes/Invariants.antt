@@ -1,6 +1,6 @@
 -- `term::same_bytes` meets its contract. The invariant: the parts are the same exactly if what is left of them is.
 use Prim.Native.Nat.{◌≤◌, ◌-◌}
-use mathlib.Core.Path.{◌≡◌, refl, sym, ◌∙◌}
+use mathlib.Core.Path.{◌≡◌}
 use mathlib.Core.List.{[]}
 use mathlib.Core.Bool.{true}
 use lib.ListN.{length, drop}

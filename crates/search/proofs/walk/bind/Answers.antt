@@ -1,0 +1,5 @@
+-- `search::walk::bind` meets its contract. Assumes nothing.
+use Rattle.search.proofs.walk.bind.Goals as goal
+
+pub returns : goal.returns
+returns c = (rw (← c.wide-i.ensures) c.also.ensures, rw (c.packed.ensures, c.bound.ensures, c.wide-i.ensures))

@@ -1,0 +1,12 @@
+-- `stored::put_tree` meets its contract. The invariant: the trees of the levels are owed. What falls is twice the bytes left, and the depth.
+use Rattle.stored.proofs.Puts.{Writing, writing_starts, length_fits, all_put, put_around, never_refused, node_ends, place_free, own_fits, put_leaf, put_level}
+use Rattle.term.specs.Language.{simple}
+use Prim.Native.Nat.{◌+◌, ◌-◌, ◌*◌}
+use lib.ListN.{length}
+use Rattle.stored.proofs.put_tree.Given as goal
+
+abbrev pub invariant-loop-top : goal.invariant-loop-top
+invariant-loop-top l = Writing (simple l.table) l.s l.initial.output l.around l.starts l.depth l.top l.at l.end l.output
+
+abbrev pub decreases-loop-top : goal.decreases-loop-top
+decreases-loop-top l = 2 * (length l.s - l.at) + l.depth
