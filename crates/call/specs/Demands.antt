@@ -1,6 +1,5 @@
 -- Demand 1 of every call with an answer buffer.
 use Rattle.std.specs.Prelude.{ℕ, ◌≤◌, ◌≡◌, ◌↔◌, List, true, length, drop}
-use Rattle.std.proofs.Math.Option.{Option}
 use Rattle.answers.specs.Refusal.{number_of}
 use Rattle.answers.specs.declared.Refusal.{Refusal}
 use Rattle.parts.specs.Shown.{answer_width}

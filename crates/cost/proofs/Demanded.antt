@@ -15,7 +15,6 @@ use Rattle.answers.specs.declared.Cost.{Cost}
 use Rattle.answers.specs.declared.Cost.TheVariants.{AtMost, NoBound}
 use Rattle.byte_answers.specs.declared.Read.{Read}
 use Rattle.byte_answers.specs.declared.Read.TheVariants.{Ends}
-use Rattle.term.specs.declared.Edition.{Edition}
 use Rattle.term.specs.Limits.{Octets, nesting, longest_pattern, PatternAccepted}
 use Rattle.term.specs.Pattern.{Pattern}
 use Rattle.reader.specs.Brought.{Brought, language_of, brought_accepted}

@@ -13,7 +13,7 @@ use Rattle.answers.specs.Part.{bound_part}
 use Rattle.term.proofs.Lists.{rest_part}
 use Rattle.term.specs.Limits.{longest_record}
 use Rattle.term.specs.Extent.{span_of, extent_of}
-use Rattle.search.specs.State.{State, turns, place, place_past, walked, walk_of}
+use Rattle.search.specs.State.{State, turns, place_past, walked, walk_of}
 use Rattle.search.specs.Level.{Reply, spent_at, tried, complements_of, level_of, levels}
 use Rattle.search.specs.Given.{Pass, ends, resumed_by, or_further, further_of, given_length_of, given_by, after_given, given_of}
 use Rattle.search.specs.Inner.GivenReplies.{resuming, resumed_as, pass_by, pass_in, given_in, FurtherIs, GivenFollows, GivenIs}

@@ -11,7 +11,7 @@ use Rattle.answers.specs.Part.{bound_part}
 use Rattle.term.proofs.Lists.{rest_part}
 use Rattle.term.specs.Extent.{span_of}
 use Rattle.term.specs.Limits.{longest_record}
-use Rattle.search.specs.State.{State, place, state, place_past}
+use Rattle.search.specs.State.{State, state, place_past}
 use Rattle.search.specs.Level.{tried, levels}
 use Rattle.parts.specs.Packed.{bit, packed}
 use Rattle.search.specs.Inner.Lent.{Handed, Lent, lent_of, Held, level_in}

@@ -5,9 +5,7 @@ use mathlib.Core.Path.{◌≡◌, refl, sym, ap, ap₂, ◌∙◌}
 use mathlib.Core.Logic.{◌⊎◌, inl, inr}
 use mathlib.Core.List.{List, []}
 use mathlib.Core.Bool.{Bool, true, false, cond}
-use mathlib.Core.Option.{Option, none, some}
-use lib.ListN.{get_or}
-use lib.Dec.{eqb}
+use mathlib.Core.Option.{Option, some}
 use Rattle.term.specs.Table.{is_list}
 use Rattle.term.specs.Tree.{Tree, Trees, branch, empty, more}
 use Rattle.term.specs.declared.Code.{Code}
@@ -16,7 +14,7 @@ use Rattle.term.specs.Class.{class_of}
 use Rattle.term.specs.declared.Stand.TheVariants.{InList, Elsewhere}
 use Rattle.splice.proofs.ByClass.{Classes, class_code, classed, classed_all, UpToClass}
 use Rattle.splice.specs.Splicing.{◌⊕◌, class_in, list_class, same_list, placed, splice, splice_all}
-use Rattle.splice.proofs.ByClass.{SplicedIn, AllSplicedIn, Spliced}
+use Rattle.splice.proofs.ByClass.{SplicedIn, AllSplicedIn}
 
 -- without a class list each symbol is its own class
 pub no_classes : (table : List ℕ) → Classes table []

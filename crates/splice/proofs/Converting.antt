@@ -1,11 +1,11 @@
 -- What is spliced keeps the limits of what it was spliced from, if no list has too many elements.
-use Prim.Native.Nat.{ℕ, suc, ◌+◌, ◌-◌, ◌≤◌, ◌<◌}
+use Prim.Native.Nat.{ℕ, suc, ◌+◌, ◌≤◌}
 use native.Mathlib.Omega.{arith}
 use native.Mathlib.Nat.{le_refl}
-use mathlib.Core.Path.{◌≡◌, refl, sym, ap, ap₂, subst, ◌∙◌}
+use mathlib.Core.Path.{◌≡◌, refl, sym, ap, ◌∙◌}
 use mathlib.Core.Logic.{◌↔◌}
 use mathlib.Core.List.{List, []}
-use mathlib.Core.Bool.{Bool, true, false, cond, ◌&&◌, false≢true}
+use mathlib.Core.Bool.{Bool, true, false, cond, false≢true}
 use mathlib.Core.Option.{Option, none, some}
 use lib.ListN.{length, get_or}
 use lib.Dec.{leb}
@@ -13,7 +13,7 @@ use borrow.Author.Tests.{leb-true, leb-false, le-leb, eq-eqb}
 use Rattle.term.specs.Table.{is_list}
 use Rattle.term.specs.Tree.{Tree, Trees, branch, empty, more, number, list_code, encode, encodes}
 use Rattle.term.specs.Language.{simple, language}
-use Rattle.term.specs.Limits.{Written, Counted, Shape, below_of, Fits, FitAll, longest, Octets, Accepted}
+use Rattle.term.specs.Limits.{Counted, Shape, below_of, Fits, FitAll, longest, Octets, Accepted}
 use Rattle.reader.specs.Reading.{Parsed, refused, read, read_whole, unless_spare}
 use Rattle.answers.specs.declared.Refusal.TheVariants.{Long, Full}
 use Rattle.reader.proofs.Answers.{Got}
@@ -26,7 +26,6 @@ use Rattle.term.proofs.Splicing.{one_spliced}
 use Rattle.term.proofs.Sizes.{branch_length, more_length, encodes_length}
 use Rattle.term.specs.declared.Edition.TheVariants.{Two}
 use Rattle.splice.specs.Splicing.{in_list, class_in, ◌⊕◌, list_class, same_list, placed, splice, splice_all}
-use Rattle.splice.proofs.ByClass.{Spliced}
 use Rattle.splice.specs.Converting.{narrow, all_narrow, kept, written, unless_full, splicing, converted, Spliceable}
 use Rattle.splice.proofs.Splicing.{in_list_holds, directly_true, splice_spliced, spliced_two, splice_twice}
 

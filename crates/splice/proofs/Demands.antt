@@ -1,35 +1,32 @@
 -- The theorems: what specs/Demands demands.
 use Prim.Native.Nat.{ℕ, ◌≤◌, ◌<◌}
 use native.Mathlib.Omega.{arith}
-use mathlib.Core.Path.{◌≡◌, refl, sym, ap, ap₂, subst, ◌∙◌}
+use mathlib.Core.Path.{◌≡◌, refl, sym, ap, ap₂, ◌∙◌}
 use mathlib.Core.Logic.Iff
 use mathlib.Core.Logic.{◌↔◌}
 use mathlib.Core.List.{List, []}
 use mathlib.Core.Bool.{Bool, true, false, cond, ◌&&◌}
 use mathlib.Core.Option.{Option, none, some}
-use lib.ListN.{length, get_or}
+use lib.ListN.{length}
 use lib.Dec.{eqb, leb, ltb}
 use borrow.Author.Tests.{eq-eqb, eqb-true, leb-true, leb-false, ltb-true, ltb-false}
-use Rattle.answers.specs.Refusal.{number_of}
 use Rattle.answers.specs.declared.Refusal.{Refusal}
-use Rattle.answers.specs.declared.Refusal.TheVariants.{Table, Class}
 use Rattle.answers.proofs.Numbers.{numbered}
 use Rattle.byte_answers.specs.Answers.{move_number, move_length}
 use Rattle.byte_answers.specs.declared.Move.{Move}
 use Rattle.term.specs.Class.{class_of, ClassList, Alike}
 use Rattle.term.specs.Language.{simple}
-use Rattle.term.specs.Limits.{nesting, Fits, FitAll, Octets, Accepted}
+use Rattle.term.specs.Limits.{nesting, FitAll, Octets, Accepted}
 use Rattle.term.specs.Same.{same_term, same_terms, same_part}
 use Rattle.term.specs.Table.{table_accepted}
-use Rattle.term.specs.Term.{Term, Terms, node, nil, ◌::◌, term_tree, term_trees, term_bytes, terms_bytes}
-use Rattle.term.specs.Tree.{Tree, Trees, branch, empty, more, encode, encodes}
-use Rattle.term.specs.declared.Code.{Code}
+use Rattle.term.specs.Term.{Term, Terms, node, nil, ◌::◌, term_tree, term_trees, term_bytes}
+use Rattle.term.specs.Tree.{Tree, Trees, branch, more, encode, encodes}
 use Rattle.term.specs.declared.Code.TheVariants.{Symbol}
-use Rattle.term.proofs.Classes.{class_none, classes_exactly, accepted_alike, none_alike}
+use Rattle.term.proofs.Classes.{class_none, classes_exactly, accepted_alike}
 use Rattle.term.proofs.SameParts.{one_tree, and_true, same_run}
 use Rattle.reader.specs.Brought.{or_empty, list_accepted}
 use Rattle.splice.specs.Call.{call, shown_of}
-use Rattle.splice.specs.Converting.{Conversion, kept, written, Spliceable, converted, output_after}
+use Rattle.splice.specs.Converting.{Conversion, kept, written, Spliceable, output_after}
 use Rattle.splice.specs.Demands.{spliced_bytes, Input, Demanded, TurnedExactly}
 use Rattle.splice.specs.Splicing.{splice, splice_term}
 use Rattle.splice.proofs.ByClass.{Classes, class_code, classed, classed_all, UpToClass}

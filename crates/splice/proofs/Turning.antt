@@ -1,21 +1,20 @@
 -- Trees can be turned into each other exactly when they are equal up to class once they are spliced.
 use Prim.Native.Nat.{ℕ}
 use native.Mathlib.Omega.{arith}
-use mathlib.Core.Path.{◌≡◌, refl, sym, ap, ap₂, subst, ◌∙◌}
+use mathlib.Core.Path.{◌≡◌, refl, sym, ap, ap₂, ◌∙◌}
 use mathlib.Core.Logic.{◌↔◌, ◌⊎◌, inl, inr}
 use mathlib.Core.List.{List}
 use mathlib.Core.Bool.{Bool, true, false, cond}
-use mathlib.Core.Option.{Option, none, some}
-use lib.Dec.{eqb}
+use mathlib.Core.Option.{Option, some}
 use Rattle.term.specs.Tree.{Tree, Trees, branch, empty, more}
 use Rattle.term.specs.declared.Code.{Code}
-use Rattle.term.specs.declared.Code.TheVariants.{Symbol, Name, Run, Complement}
+use Rattle.term.specs.declared.Code.TheVariants.{Symbol}
 use Rattle.term.specs.Class.{class_of}
 use Rattle.splice.proofs.ByClass.{Classes, class_code, classed, classed_all, UpToClass}
 use Rattle.splice.specs.Splicing.{◌⊕◌, list_class, same_list, placed, splice, splice_all}
 use Rattle.splice.specs.Turning.{Step, replaced, exchanged, inside, TurnedThrough, done, forth, back, Turned}
-use Rattle.splice.proofs.Splicing.{join_empty, join_assoc, join_shift, directly_true, true_directly, splice_join}
-use Rattle.splice.proofs.Classes.{classed_join, one_class, same_class, placed_classed, all_classed}
+use Rattle.splice.proofs.Splicing.{join_shift, directly_true, true_directly, splice_join}
+use Rattle.splice.proofs.Classes.{classed_join, one_class, same_class, placed_classed}
 
 -- Turning is an equivalence, and goes on inside a tree
 

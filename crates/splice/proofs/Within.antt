@@ -1,34 +1,33 @@
 -- Where both ends can be spliced, a way through accepted trees can be had: the limits make no difference.
-use Prim.Native.Nat.{ℕ, suc, ◌+◌, ◌-◌, ◌≤◌, ◌<◌}
+use Prim.Native.Nat.{ℕ, suc, ◌≤◌, ◌<◌}
 use native.Mathlib.Omega.{arith}
 use native.Mathlib.Nat.{le_refl}
-use mathlib.Core.Path.{◌≡◌, refl, sym, ap, ap₂, subst, ◌∙◌}
+use mathlib.Core.Path.{◌≡◌, refl, sym, ap, ◌∙◌}
 use mathlib.Core.Logic.{◌↔◌, ◌⊎◌, inl, inr}
 use mathlib.Core.List.{List, []}
-use mathlib.Core.Bool.{Bool, true, false, cond, ◌&&◌, false≢true}
-use mathlib.Core.Option.{Option, none, some}
-use lib.ListN.{length, get_or}
+use mathlib.Core.Bool.{Bool, true, false, cond, false≢true}
+use mathlib.Core.Option.{Option, none}
+use lib.ListN.{length}
 use lib.Dec.{leb}
 use borrow.Author.Tests.{leb-true}
-use Rattle.term.specs.Table.{is_list}
 use Rattle.term.specs.Tree.{Tree, Trees, branch, empty, more, number, list_code, encode, encodes}
 use Rattle.term.specs.Language.{simple}
-use Rattle.term.specs.Limits.{Written, Counted, Shape, below_of, Fits, FitAll, longest, Accepted}
+use Rattle.term.specs.Limits.{Shape, below_of, Fits, FitAll, longest, Accepted}
 use Rattle.term.specs.declared.Code.{Code}
 use Rattle.term.specs.declared.Code.TheVariants.{Symbol, Name, Run, Complement}
 use Rattle.term.proofs.SameParts.{and_true}
 use Rattle.term.proofs.Sizes.{branch_length, more_length}
 use Rattle.term.specs.Class.{class_of}
-use Rattle.term.specs.declared.Stand.TheVariants.{InList, Elsewhere}
+use Rattle.term.specs.declared.Stand.TheVariants.{Elsewhere}
 use Rattle.term.proofs.Splicing.{one_spliced}
 use Rattle.splice.proofs.ByClass.{Classes, class_code, classed, classed_all, UpToClass}
 use Rattle.splice.specs.Splicing.{in_list, ◌⊕◌, list_class, same_list, placed, splice, splice_all}
 use Rattle.splice.specs.Converting.{narrow, all_narrow, Spliceable}
-use Rattle.splice.specs.Turning.{Step, replaced, exchanged, inside, TurnedThrough, done, forth, back}
-use Rattle.splice.proofs.Splicing.{in_list_holds, join_empty, join_assoc, join_shift, directly_true}
+use Rattle.splice.specs.Turning.{Step, replaced, exchanged, TurnedThrough, done, forth, back}
+use Rattle.splice.proofs.Splicing.{in_list_holds, join_assoc, join_shift, directly_true}
 use Rattle.splice.proofs.Classes.{one_class, same_class}
 use Rattle.splice.proofs.Turning.{turned_kind, turned_then, turned_back, turned_inside, turned_once, turned_spliced}
-use Rattle.splice.proofs.Converting.{number_join, length_join, fit_join, fit_split, fit_all_more, below_less, directly_list, narrow_placed, none_number, placed_none}
+use Rattle.splice.proofs.Converting.{number_join, length_join, fit_join, fit_split, fit_all_more, below_less, directly_list, narrow_placed, placed_none}
 
 -- within the limits, in no more bytes than so many
 Within : List ℕ → Bool → ℕ → Bool → ℕ → Tree → Type 0

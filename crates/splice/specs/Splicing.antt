@@ -1,5 +1,5 @@
 -- "Edition 2 of the rule language lets a list directly inside a list of the same symbol, up to class, mean its elements in its place."
-use Rattle.std.specs.Prelude.{ℕ, ◌≡◌, List, Bool, true, false, cond}
+use Rattle.std.specs.Prelude.{ℕ, List, Bool, true, false, cond}
 use Rattle.std.proofs.Math.Option.{Option, none, some}
 use Rattle.term.specs.Tree.{Tree, Trees, branch, empty, more}
 use Rattle.term.specs.Term.{Term, term_tree, term_of}

@@ -1,6 +1,7 @@
 -- The laws that the proofs of this crate, and other crates, cite.
 pub mod Bools
 pub mod Lists
+pub mod Pairs
 pub mod Stores
 pub mod Tables
 pub mod Codes

@@ -1,10 +1,8 @@
 -- `cost::count_nodes` meets its contract. The invariant: the nodes are those counted so far and those from `at` on.
-use Prim.Native.Nat.{◌≤◌, ◌-◌}
 use native.Mathlib.Omega.{arith}
-use mathlib.Core.Path.{◌≡◌, refl, sym, ◌∙◌, ap}
-use mathlib.Core.Bool.{false}
-use lib.ListN.{length, get_or, drop}
-use Rattle.cost.specs.Tally.{is_run, tally}
+use mathlib.Core.Path.{refl, sym, ◌∙◌, ap}
+use lib.ListN.{get_or}
+use Rattle.cost.specs.Tally.{is_run}
 use Rattle.cost.proofs.Tally.{tally_end, tally_run, tally_node, own_some}
 use Rattle.cost.proofs.count_nodes.Goals as goal
 

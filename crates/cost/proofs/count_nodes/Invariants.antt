@@ -1,9 +1,9 @@
 -- `cost::count_nodes` meets its contract. The invariant: the nodes are those counted so far and those from `at` on.
 use Prim.Native.Nat.{◌≤◌, ◌-◌}
-use mathlib.Core.Path.{◌≡◌, refl, sym, ◌∙◌, ap}
+use mathlib.Core.Path.{◌≡◌}
 use mathlib.Core.Bool.{false}
-use lib.ListN.{length, get_or, drop}
-use Rattle.cost.specs.Tally.{is_run, tally}
+use lib.ListN.{length, drop}
+use Rattle.cost.specs.Tally.{tally}
 use Rattle.cost.proofs.count_nodes.Given as goal
 
 abbrev pub invariant-loop-at : goal.invariant-loop-at

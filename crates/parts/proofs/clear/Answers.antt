@@ -1,7 +1,6 @@
 -- `parts::clear` meets its contract. The invariant: the first v entries are absent marks. Assumes nothing.
-use Prim.Native.Nat.{◌-◌}
 use native.Mathlib.Omega.{arith}
-use Rattle.parts.proofs.Shown.{Clearing, clear_first, clear_next, clear_end}
+use Rattle.parts.proofs.Shown.{clear_first, clear_next, clear_end}
 use Rattle.parts.proofs.clear.Goals as goal
 
 pub loop-v-init : goal.loop-v-init

@@ -1,7 +1,7 @@
 -- `parts::clear` meets its contract. The invariant: the first v entries are absent marks. Assumes nothing.
 use Prim.Native.Nat.{◌-◌}
 use Rattle.term.specs.Code.{variables}
-use Rattle.parts.proofs.Shown.{Clearing, clear_first, clear_next, clear_end}
+use Rattle.parts.proofs.Shown.{Clearing}
 use Rattle.parts.proofs.clear.Given as goal
 
 abbrev pub invariant-loop-v : goal.invariant-loop-v

@@ -1,11 +1,10 @@
 -- `parts::show_from` meets its contract. The invariant: the buffer shows the variables of the mask below i. Assumes nothing.
-use Prim.Native.Nat.{◌-◌}
 use native.Mathlib.Omega.{arith}
 use mathlib.Core.Path.{refl, ◌∙◌}
 use borrow.Author.Rules.{rules}
 use Rattle.term.specs.Code.{variables}
 use Rattle.parts.proofs.Masks.{below}
-use Rattle.parts.proofs.Shown.{part_below, Showing, show_next, show_end}
+use Rattle.parts.proofs.Shown.{part_below, show_next, show_end}
 use Rattle.parts.proofs.show_from.Goals as goal
 
 pub loop-i-init : goal.loop-i-init

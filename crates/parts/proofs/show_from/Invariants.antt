@@ -1,7 +1,7 @@
 -- `parts::show_from` meets its contract. The invariant: the buffer shows the variables of the mask below i. Assumes nothing.
 use Prim.Native.Nat.{◌-◌}
 use Rattle.term.specs.Code.{variables}
-use Rattle.parts.proofs.Shown.{part_below, Showing, show_next, show_end}
+use Rattle.parts.proofs.Shown.{Showing}
 use Rattle.parts.proofs.show_from.Given as goal
 
 abbrev pub invariant-loop-i : goal.invariant-loop-i

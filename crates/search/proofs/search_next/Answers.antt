@@ -2,7 +2,7 @@
 use native.Mathlib.Omega.{arith}
 use mathlib.Core.Path.{refl}
 use lib.ListN.{length, replicate}
-use borrow.Author.Tests.{le-leb, lt-leb, not-true, not-false}
+use borrow.Author.Tests.{le-leb, lt-leb}
 use Rattle.answers.specs.Part.{absent}
 use Rattle.term.specs.Limits.{longest_pattern, longest_record}
 use Rattle.term.specs.Code.{variables}

@@ -1,5 +1,4 @@
 -- `sheet::check_contents` meets its contract.
-use mathlib.Core.Bool.{true, false}
 use mathlib.Core.Path.{sym, ◌∙◌}
 use Rattle.reader.specs.Brought.{list_if}
 use Rattle.sheet.proofs.Contents.{among_sheet, contents_table, contents_class, contents_refused, contents_many, contents_each}

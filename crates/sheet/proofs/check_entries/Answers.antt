@@ -1,9 +1,8 @@
 -- `sheet::check_entries` meets its contract. The invariant: the entries from `i` on decide. The measure is what is left of them.
-use Prim.Native.Nat.{◌≤◌, ◌-◌}
 use native.Mathlib.Omega.{arith}
-use mathlib.Core.Path.{◌≡◌, sym, ap, ◌∙◌}
+use mathlib.Core.Path.{sym, ap, ◌∙◌}
 use Rattle.term.specs.Language.{language}
-use Rattle.sheet.specs.Contents.{read_entry, check_each}
+use Rattle.sheet.specs.Contents.{read_entry}
 use Rattle.sheet.proofs.Contents.{left_refused, left_read, left_end, left_start}
 use Rattle.sheet.proofs.check_entries.Goals as goal
 

@@ -1,8 +1,8 @@
 -- `sheet::check_entries` meets its contract. The invariant: the entries from `i` on decide. The measure is what is left of them.
 use Prim.Native.Nat.{◌≤◌, ◌-◌}
-use mathlib.Core.Path.{◌≡◌, sym, ap, ◌∙◌}
+use mathlib.Core.Path.{◌≡◌}
 use Rattle.term.specs.Language.{language}
-use Rattle.sheet.specs.Contents.{read_entry, check_each}
+use Rattle.sheet.specs.Contents.{check_each}
 use Rattle.sheet.specs.Entry.{entries, entries_from}
 use Rattle.sheet.proofs.check_entries.Given as goal
 

@@ -1,9 +1,8 @@
 -- `sheet::entries_follow` meets its contract. The invariant: the entries from `i` on decide, the first of which starts at `at`; an offset and
 -- a length past the sheet keep the sum from wrapping. The measure is what is left of the entries.
-use Prim.Native.Nat.{◌≤◌, ◌-◌, ◌+◌}
 use native.Mathlib.Nat.{sub-zero}
 use native.Mathlib.Omega.{arith}
-use mathlib.Core.Path.{◌≡◌, sym, ◌∙◌}
+use mathlib.Core.Path.{sym, ◌∙◌}
 use Rattle.sheet.proofs.Checks.{follow_apart, follow_empty, follow_next, follow_end}
 use Rattle.sheet.proofs.entries_follow.Goals as goal
 

@@ -1,7 +1,7 @@
 -- `sheet::entries_follow` meets its contract. The invariant: the entries from `i` on decide, the first of which starts at `at`; an offset and
 -- a length past the sheet keep the sum from wrapping. The measure is what is left of the entries.
 use Prim.Native.Nat.{◌≤◌, ◌-◌, ◌+◌}
-use mathlib.Core.Path.{◌≡◌, sym, ◌∙◌}
+use mathlib.Core.Path.{◌≡◌}
 use lib.ListN.{length}
 use Rattle.sheet.specs.Sheet.{past_pairs}
 use Rattle.sheet.specs.Check.{entries_follow}

@@ -1,8 +1,7 @@
 -- `skips::chain` meets its contract. Assumes nothing.
 use native.Mathlib.Omega.{arith}
 use mathlib.Core.Path.{sym, ◌∙◌}
-use Prim.Native.Nat.{◌-◌}
-use Rattle.skips.proofs.Chains.{Chaining, chain_first, chain_full, chain_out, chain_other, chain_last, chain_more}
+use Rattle.skips.proofs.Chains.{chain_first, chain_full, chain_out, chain_other, chain_last, chain_more}
 use Rattle.skips.proofs.chain.Goals as goal
 
 pub loop-n-init : goal.loop-n-init

@@ -1,7 +1,7 @@
 -- `skips::chain` meets its contract. Assumes nothing.
 use Prim.Native.Nat.{◌-◌}
 use Rattle.skips.specs.Passed.{most_symbols}
-use Rattle.skips.proofs.Chains.{Chaining, chain_first, chain_full, chain_out, chain_other, chain_last, chain_more}
+use Rattle.skips.proofs.Chains.{Chaining}
 use Rattle.skips.proofs.chain.Given as goal
 
 abbrev pub invariant-loop-n : goal.invariant-loop-n

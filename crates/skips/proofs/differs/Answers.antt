@@ -1,8 +1,7 @@
 -- `skips::differs` meets its contract. Assumes nothing.
 use native.Mathlib.Omega.{arith}
 use mathlib.Core.Path.{sym, ◌∙◌}
-use Prim.Native.Nat.{◌-◌}
-use Rattle.skips.proofs.Chains.{Agreeing, agree_first, agree_all, agree_none, agree_short, agree_differs, agree_more}
+use Rattle.skips.proofs.Chains.{agree_first, agree_all, agree_none, agree_short, agree_differs, agree_more}
 use Rattle.skips.proofs.differs.Goals as goal
 
 pub loop-n-init : goal.loop-n-init

@@ -1,6 +1,6 @@
 -- `skips::differs` meets its contract. Assumes nothing.
 use Prim.Native.Nat.{◌-◌}
-use Rattle.skips.proofs.Chains.{Agreeing, agree_first, agree_all, agree_none, agree_short, agree_differs, agree_more}
+use Rattle.skips.proofs.Chains.{Agreeing}
 use Rattle.skips.proofs.differs.Given as goal
 
 abbrev pub invariant-loop-n : goal.invariant-loop-n

@@ -1,9 +1,8 @@
 -- `skips::seek_chain` meets its contract. Assumes nothing.
 use native.Mathlib.Omega.{arith}
 use mathlib.Core.Path.{refl, ◌∙◌}
-use Prim.Native.Nat.{◌-◌}
 use Rattle.term.proofs.Lists.{rest_length}
-use Rattle.skips.proofs.Passing.{failing_chain, Seeking, seek_first, seek_last, seek_out, seek_stop, seek_more}
+use Rattle.skips.proofs.Passing.{failing_chain, seek_first, seek_last, seek_out, seek_stop, seek_more}
 use Rattle.skips.proofs.seek_chain.Goals as goal
 
 pub loop-n-init : goal.loop-n-init

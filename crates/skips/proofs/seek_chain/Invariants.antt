@@ -1,6 +1,6 @@
 -- `skips::seek_chain` meets its contract. Assumes nothing.
 use Prim.Native.Nat.{◌-◌}
-use Rattle.skips.proofs.Passing.{failing_chain, Seeking, seek_first, seek_last, seek_out, seek_stop, seek_more}
+use Rattle.skips.proofs.Passing.{Seeking}
 use Rattle.skips.proofs.seek_chain.Given as goal
 
 abbrev pub invariant-loop-n : goal.invariant-loop-n

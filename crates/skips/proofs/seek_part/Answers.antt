@@ -1,13 +1,12 @@
 -- `skips::seek_part` meets its contract. Assumes nothing.
 use native.Mathlib.Omega.{arith}
-use mathlib.Core.Logic.{⊎_elim}
-use Prim.Native.Nat.{◌-◌, ◌*◌}
+use Prim.Native.Nat.{◌-◌}
 use mathlib.Core.Path.{◌≡◌, refl, sym, ◌∙◌}
 use mathlib.Core.Bool.{false}
 use lib.ListN.{length, take, drop}
 use Rattle.term.proofs.Lists.{rest_length}
 use Rattle.skips.specs.Passed.{starts_of}
-use Rattle.skips.proofs.Passing.{part_starts, alike_apart, alike_within, starts_empty, failing_stands, failing_part, Seeking, seek_first, seek_none, seek_last, seek_out, seek_stop, seek_more}
+use Rattle.skips.proofs.Passing.{part_starts, alike_apart, alike_within, starts_empty, failing_stands, failing_part, seek_first, seek_none, seek_last, seek_out, seek_stop, seek_more}
 use Rattle.skips.proofs.seek_part.Goals as goal
 use Rattle.skips.proofs.seek_part.Goals.{then-alike+else-same, else-alike}
 

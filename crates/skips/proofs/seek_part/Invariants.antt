@@ -1,6 +1,6 @@
 -- `skips::seek_part` meets its contract. Assumes nothing.
 use Prim.Native.Nat.{◌-◌, ◌*◌}
-use Rattle.skips.proofs.Passing.{part_starts, alike_apart, alike_within, starts_empty, failing_stands, failing_part, Seeking, seek_first, seek_none, seek_last, seek_out, seek_stop, seek_more}
+use Rattle.skips.proofs.Passing.{Seeking}
 use Rattle.skips.proofs.seek_part.Given as goal
 
 abbrev pub invariant-loop-n : goal.invariant-loop-n

@@ -1,9 +1,8 @@
 -- The pass meets its contracts: a node that stays, and so many trees. A node's children have fewer bytes than it: the measure falls there.
-use Prim.Native.Nat.{ℕ, ◌+◌, ◌-◌, ◌*◌, ◌<◌}
 use native.Mathlib.Omega.{arith}
 use mathlib.Core.Path.{sym, ◌∙◌}
 use Rattle.splice.proofs.Nodes.{part_length, node_answered, leaf_answered}
-use Rattle.splice.proofs.Passes.{Passing, pass_first, pass_last, pass_stop, pass_direct, pass_node, nonzero}
+use Rattle.splice.proofs.Passes.{pass_first, pass_last, pass_stop, pass_direct, pass_node, nonzero}
 use Rattle.splice.proofs.+put_node_put_trees.Goals as goal
 
 pub put_node-bounds-s-0 : goal.put_node-bounds-s-0

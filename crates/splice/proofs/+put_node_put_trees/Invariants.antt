@@ -1,7 +1,7 @@
 -- The pass meets its contracts: a node that stays, and so many trees. A node's children have fewer bytes than it: the measure falls there.
-use Prim.Native.Nat.{ℕ, ◌+◌, ◌-◌, ◌*◌, ◌<◌}
+use Prim.Native.Nat.{◌+◌, ◌-◌, ◌*◌}
 use lib.ListN.{length}
-use Rattle.splice.proofs.Passes.{Passing, pass_first, pass_last, pass_stop, pass_direct, pass_node, nonzero}
+use Rattle.splice.proofs.Passes.{Passing}
 use Rattle.splice.proofs.+put_node_put_trees.Given as goal
 
 abbrev pub decreases-put_trees : goal.decreases-put_trees

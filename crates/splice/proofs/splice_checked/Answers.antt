@@ -2,7 +2,7 @@
 use native.Mathlib.Omega.{arith}
 use mathlib.Core.Path.{refl, sym, ◌∙◌}
 use lib.ListN.{length}
-use borrow.Author.Tests.{not-true, not-false, ltb-true, ltb-false}
+use borrow.Author.Tests.{not-true, not-false}
 use Rattle.term.specs.Limits.{Octets}
 use Rattle.splice.proofs.Conversions.{call_refused, not_long, call_long, call_full, written_shown, written_output}
 use Rattle.splice.proofs.splice_checked.Goals as goal

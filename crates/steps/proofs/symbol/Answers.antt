@@ -2,7 +2,7 @@
 use native.Mathlib.Omega.{arith}
 use lib.ListN.{length}
 use mathlib.Core.Path.{sym, ◌∙◌}
-use borrow.Author.Tests.{le-leb, lt-leb, not-true, not-false}
+use borrow.Author.Tests.{le-leb, lt-leb, not-true}
 use Rattle.steps.specs.Turn.{symbol_step}
 use Rattle.steps.proofs.Turns.{symbol_leaf, symbol_fixed, symbol_list, symbol_short}
 use mathlib.Core.Bool.{not}

@@ -1,8 +1,7 @@
 -- `stored::put_tree` meets its contract. The invariant: the trees of the levels are owed. What falls is twice the bytes left, and the depth.
 use Rattle.stored.proofs.Frames.{depth_within}
-use Rattle.stored.proofs.Puts.{Writing, writing_starts, length_fits, all_put, put_around, never_refused, node_ends, place_free, own_fits, put_leaf, put_level}
+use Rattle.stored.proofs.Puts.{writing_starts, length_fits, all_put, put_around, never_refused, node_ends, place_free, own_fits, put_leaf, put_level}
 use native.Mathlib.Omega.{arith}
-use Prim.Native.Nat.{◌+◌, ◌-◌, ◌*◌}
 use mathlib.Core.Path.{refl}
 use Rattle.stored.proofs.put_tree.Goals as goal
 

@@ -1,5 +1,5 @@
 -- `stored::put_tree` meets its contract. The invariant: the trees of the levels are owed. What falls is twice the bytes left, and the depth.
-use Rattle.stored.proofs.Puts.{Writing, writing_starts, length_fits, all_put, put_around, never_refused, node_ends, place_free, own_fits, put_leaf, put_level}
+use Rattle.stored.proofs.Puts.{Writing}
 use Rattle.term.specs.Language.{simple}
 use Prim.Native.Nat.{◌+◌, ◌-◌, ◌*◌}
 use lib.ListN.{length}

@@ -1,9 +1,8 @@
 -- `stored::read_tree` meets its contract. The invariant: the trees of the levels are still to come. What falls is twice the bytes left, and the depth.
 use Rattle.stored.proofs.Frames.{depth_within, stands}
-use Rattle.stored.proofs.Steps.{Reading, reading_starts, disagrees, no_more, read_around, node_refuses, node_ends, place_free, read_leaf, read_level}
+use Rattle.stored.proofs.Steps.{reading_starts, disagrees, no_more, read_around, node_refuses, node_ends, place_free, read_leaf, read_level}
 use native.Mathlib.Omega.{arith}
-use Prim.Native.Nat.{◌+◌, ◌-◌, ◌*◌}
-use mathlib.Core.Path.{refl, sym, ap, ◌∙◌}
+use mathlib.Core.Path.{refl}
 use Rattle.stored.proofs.read_tree.Goals as goal
 
 pub loop-top-init : goal.loop-top-init

@@ -1,5 +1,5 @@
 -- `stored::read_tree` meets its contract. The invariant: the trees of the levels are still to come. What falls is twice the bytes left, and the depth.
-use Rattle.stored.proofs.Steps.{Reading, reading_starts, disagrees, no_more, read_around, node_refuses, node_ends, place_free, read_leaf, read_level}
+use Rattle.stored.proofs.Steps.{Reading}
 use Rattle.term.specs.Language.{language}
 use Prim.Native.Nat.{◌+◌, ◌-◌, ◌*◌}
 use lib.ListN.{length}

@@ -1,7 +1,6 @@
 -- `stored::stored_length` meets its contract. The invariant: what the bytes from `i` on add is still to come.
-use Rattle.stored.proofs.Passing.{Stretching, stretch_starts, stretch_ends, stretch_list, stretch_other}
+use Rattle.stored.proofs.Passing.{stretch_starts, stretch_ends, stretch_list, stretch_other}
 use native.Mathlib.Omega.{arith}
-use Prim.Native.Nat.{◌-◌, ◌≤◌}
 use Rattle.stored.proofs.stored_length.Goals as goal
 
 pub loop-i-init : goal.loop-i-init

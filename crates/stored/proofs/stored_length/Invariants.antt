@@ -1,5 +1,5 @@
 -- `stored::stored_length` meets its contract. The invariant: what the bytes from `i` on add is still to come.
-use Rattle.stored.proofs.Passing.{Stretching, stretch_starts, stretch_ends, stretch_list, stretch_other}
+use Rattle.stored.proofs.Passing.{Stretching}
 use Rattle.term.specs.Limits.{longest_record}
 use lib.ListN.{length}
 use Prim.Native.Nat.{◌-◌, ◌≤◌}

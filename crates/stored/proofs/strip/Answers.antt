@@ -1,8 +1,7 @@
 -- `stored::strip` meets its contract. The invariant: the old form of the bytes from `at` on is still to be put.
-use Rattle.stored.proofs.Passing.{Stripping, strip_starts, strip_ends, strip_other, strip_cut, strip_list}
+use Rattle.stored.proofs.Passing.{strip_starts, strip_ends, strip_other, strip_cut, strip_list}
 use mathlib.Core.Path.{sym, ◌∙◌}
 use native.Mathlib.Omega.{arith}
-use Prim.Native.Nat.{◌-◌, ◌≤◌}
 use Rattle.stored.proofs.strip.Goals as goal
 
 pub loop-at-init : goal.loop-at-init

@@ -1,5 +1,5 @@
 -- `stored::strip` meets its contract. The invariant: the old form of the bytes from `at` on is still to be put.
-use Rattle.stored.proofs.Passing.{Stripping, strip_starts, strip_ends, strip_other, strip_cut, strip_list}
+use Rattle.stored.proofs.Passing.{Stripping}
 use Rattle.stored.specs.Form.{longest_stored}
 use lib.ListN.{length}
 use Prim.Native.Nat.{◌-◌, ◌≤◌}

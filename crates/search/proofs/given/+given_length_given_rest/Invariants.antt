@@ -1,6 +1,6 @@
 -- The next answer on bytes meets its contracts. Each run name stands further on in the pattern: `levels` falls.
 -- Assumes nothing.
-use Prim.Native.Nat.{ℕ, ◌+◌, ◌-◌, ◌*◌, ◌%◌, ◌<◌}
+use Prim.Native.Nat.{◌+◌, ◌*◌}
 use Rattle.search.specs.Level.{levels}
 use Rattle.search.proofs.given.+given_length_given_rest.Given as goal
 

@@ -1,9 +1,8 @@
 -- `search::given::spread` meets its contract. Assumes nothing.
-use Prim.Native.Nat.{ℕ, ◌-◌, ◌<◌}
+use Prim.Native.Nat.{ℕ, ◌<◌}
 use native.Mathlib.Omega.{arith}
 use mathlib.Core.List.{List, [], ◌∷◌}
 use mathlib.Core.Path.{◌≡◌, refl, sym, subst, ◌∙◌}
-use lib.ListN.{length, get_or}
 use denote.Enum.Declared
 use types.Run.{OneOf, miss}
 use Rattle.term.proofs.Lists.{rest_length}
@@ -13,7 +12,7 @@ use Rattle.term.specs.declared.Code.TheVariants.{Symbol, Name, Run, Complement}
 use Rattle.term.specs.contracts.Code as codes
 use Rattle.term.proofs.Codes.{decode_below}
 use Rattle.search.specs.Spread.{run_here}
-use Rattle.search.proofs.Spreads.{Spreading, spread_first, spread_end, spread_falls, spread_past, spread_seen, spread_short, spread_new}
+use Rattle.search.proofs.Spreads.{spread_first, spread_end, spread_falls, spread_past, spread_seen, spread_short, spread_new}
 use borrow.Enum.Refused.{opened}
 use Rattle.search.proofs.given.spread.Goals as goal
 

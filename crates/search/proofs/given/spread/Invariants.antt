@@ -1,8 +1,7 @@
 -- `search::given::spread` meets its contract. Assumes nothing.
-use Prim.Native.Nat.{ℕ, ◌-◌, ◌<◌}
-use lib.ListN.{length, get_or}
-use denote.Enum.Declared
-use Rattle.search.proofs.Spreads.{Spreading, spread_first, spread_end, spread_falls, spread_past, spread_seen, spread_short, spread_new}
+use Prim.Native.Nat.{◌-◌}
+use lib.ListN.{length}
+use Rattle.search.proofs.Spreads.{Spreading}
 use Rattle.search.proofs.given.spread.Given as goal
 
 abbrev pub invariant-loop-at : goal.invariant-loop-at

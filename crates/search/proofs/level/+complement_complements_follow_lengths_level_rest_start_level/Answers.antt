@@ -1,11 +1,10 @@
 -- The search of levels meets its contracts. Each level within another has less of the pattern, or starts further on in it: `levels` falls.
 -- Assumes nothing.
-use Prim.Native.Nat.{ℕ, ◌+◌, ◌-◌, ◌*◌, ◌<◌}
+use Prim.Native.Nat.{ℕ}
 use native.Mathlib.Omega.{arith}
 use mathlib.Core.Path.{◌≡◌, sym, ap, subst, ◌∙◌}
 use mathlib.Core.Bool.{Bool, false}
 use mathlib.Core.List.{List}
-use lib.ListN.{length}
 use Rattle.parts.specs.Packed.{packed}
 use Rattle.search.specs.Inner.Memory.{put_by_in}
 use Rattle.search.specs.Inner.Bounds.{StopsAt, Unassigned}
@@ -22,7 +21,7 @@ use Rattle.search.specs.declared.place.Place.{Place}
 use Rattle.search.proofs.Skips.{skips_fair, behind_passed}
 use Rattle.search.proofs.FirstPairs.{complement_ends}
 use Rattle.search.proofs.Begins.{level_from, none_begun, run_begun}
-use Rattle.search.proofs.Levels.{rest_fails_by, rest_reports, rest_follows_by, rest_starts, level_run, level_skipped, level_over, Turns, turn_first, turn_holding, turn_hit, turn_last, turn_spent, turn_room, turn_more, turn_over, Testing, test_first, test_end, test_next, test_stop, test_on, inside_length, inside_holding, complement_tests, follow_fails, follow_spent, follow_none, follow_tests, follow_tries}
+use Rattle.search.proofs.Levels.{rest_fails_by, rest_reports, rest_follows_by, rest_starts, level_run, level_skipped, level_over, turn_first, turn_holding, turn_hit, turn_last, turn_spent, turn_room, turn_more, turn_over, test_first, test_end, test_next, test_stop, test_on, inside_length, inside_holding, complement_tests, follow_fails, follow_spent, follow_none, follow_tests, follow_tries}
 use Rattle.search.proofs.level.+complement_complements_follow_lengths_level_rest_start_level.Goals as goal
 
 -- where the level is begun

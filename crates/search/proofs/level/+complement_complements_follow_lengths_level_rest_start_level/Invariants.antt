@@ -1,10 +1,10 @@
 -- The search of levels meets its contracts. Each level within another has less of the pattern, or starts further on in it: `levels` falls.
 -- Assumes nothing.
-use Prim.Native.Nat.{ℕ, ◌+◌, ◌-◌, ◌*◌, ◌<◌}
+use Prim.Native.Nat.{◌+◌, ◌-◌, ◌*◌}
 use lib.ListN.{length}
 use Rattle.search.specs.Level.{levels}
 use Rattle.search.specs.Inner.Lent.{input_of, lent_of}
-use Rattle.search.proofs.Levels.{rest_fails_by, rest_reports, rest_follows_by, rest_starts, level_run, level_skipped, level_over, Turns, turn_first, turn_holding, turn_hit, turn_last, turn_spent, turn_room, turn_more, turn_over, Testing, test_first, test_end, test_next, test_stop, test_on, inside_length, inside_holding, complement_tests, follow_fails, follow_spent, follow_none, follow_tests, follow_tries}
+use Rattle.search.proofs.Levels.{Turns, Testing}
 use Rattle.search.proofs.level.+complement_complements_follow_lengths_level_rest_start_level.Given as goal
 
 abbrev pub decreases-start_level : goal.decreases-start_level

@@ -1,11 +1,10 @@
 -- `search::walk::onward` meets its contract. The invariant: the level from the start is the one from the place reached. The measure is what is left of
 -- the pattern. Assumes nothing.
-use Prim.Native.Nat.{◌-◌}
 use native.Mathlib.Omega.{arith}
 use mathlib.Core.Path.{ap}
 use Rattle.term.proofs.Lists.{rest_length}
 use Rattle.search.specs.declared.place.Place.{Place}
-use Rattle.search.proofs.Onwards.{Ongoing, on_first, on_holding, on_within, on_further, on_ready, on_ends, on_spent, on_takes}
+use Rattle.search.proofs.Onwards.{on_first, on_holding, on_within, on_further, on_ready, on_ends, on_spent, on_takes}
 use Rattle.search.proofs.walk.onward.Goals as goal
 
 pub loop-v-init : goal.loop-v-init

@@ -3,7 +3,7 @@
 use Prim.Native.Nat.{◌-◌}
 use lib.ListN.{length}
 use Rattle.search.specs.Inner.Lent.{input_of, lent_of}
-use Rattle.search.proofs.Onwards.{Ongoing, on_first, on_holding, on_within, on_further, on_ready, on_ends, on_spent, on_takes}
+use Rattle.search.proofs.Onwards.{Ongoing}
 use Rattle.search.proofs.walk.onward.Given as goal
 
 abbrev pub invariant-loop-v : goal.invariant-loop-v

@@ -1,12 +1,11 @@
 -- `search::walk::walk` meets its contract. The invariant: whatever state the buffers hold at the start, the walk from it is the walk from the one that they
 -- hold here. The measure: each turn takes a byte of the pattern, or closes a node for one further out. Assumes nothing.
-use Prim.Native.Nat.{ℕ, ◌+◌, ◌-◌, ◌*◌, ◌<◌}
+use Prim.Native.Nat.{ℕ, ◌-◌, ◌<◌}
 use native.Mathlib.Omega.{arith}
 use mathlib.Core.Path.{◌≡◌}
 use mathlib.Core.List.{List}
 use lib.Dec.{eqb}
 use lib.ListN.{length, drop, get_or}
-use Rattle.search.specs.Inner.Bounds.{Short}
 use Rattle.parts.specs.Packed.{part_in}
 use Rattle.search.specs.Inner.Memory.{outer, LiesIn, Holding}
 use Rattle.search.specs.State.{State, variable_at}

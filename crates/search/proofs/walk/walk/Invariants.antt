@@ -1,10 +1,10 @@
 -- `search::walk::walk` meets its contract. The invariant: whatever state the buffers hold at the start, the walk from it is the walk from the one that they
 -- hold here. The measure: each turn takes a byte of the pattern, or closes a node for one further out. Assumes nothing.
-use Prim.Native.Nat.{◌+◌, ◌-◌, ◌*◌, ◌<◌}
-use lib.ListN.{length, get_or}
-use Rattle.search.specs.Inner.Memory.{outer, LiesIn, Holding}
-use Rattle.search.specs.State.{State, variable_at}
-use Rattle.search.proofs.Walks.{Walking, Turn, asked, closes_inside, walk_starts, walk_stops, walk_fails, walk_closes, walk_opens, walk_passes, walk_binds, walk_puts}
+use Prim.Native.Nat.{◌+◌, ◌-◌, ◌*◌}
+use lib.ListN.{length}
+use Rattle.search.specs.Inner.Memory.{LiesIn}
+use Rattle.search.specs.State.{State}
+use Rattle.search.proofs.Walks.{Walking}
 use Rattle.search.proofs.walk.walk.Given as goal
 
 abbrev pub invariant-loop-stop : goal.invariant-loop-stop
