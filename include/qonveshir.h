@@ -5,7 +5,7 @@
    01 and 02.
 
    Link with target/staticlib/libqonveshir.a (x86-64 Linux), which
-   `rt staticlib qonveshir` builds. The calls keep no state, take no memory
+   `.ci/staticlib` builds. The calls keep no state, take no memory
    and may run in several threads at once.
 
    Every buffer is a pointer and its length in elements (not in bytes). A

@@ -26,8 +26,8 @@ fn main() {
         }
         _ => {
             println!(
-                "cargo::error={} is missing: run `rt staticlib qonveshir` in the repository's \
-                 root, name its folder in QONVESHIR_LIB_DIR, or do without the proved library by \
+                "cargo::error={} is missing: run `.ci/staticlib` in the repository's root, name \
+                 its folder in QONVESHIR_LIB_DIR, or do without the proved library by \
                  --no-default-features",
                 library.display()
             );

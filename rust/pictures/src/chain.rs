@@ -15,12 +15,12 @@ const fn link(words: &'static str, name: &'static str, theorem: &'static str) ->
 }
 
 pub const CHAIN: [Link; 6] = [
-    link("when a pattern holds", "Satisfies", "search-decides"),
+    link("when a pattern holds", "Satisfies", "search_decides"),
     link("the counted search on trees", "answer", "linked"),
-    link("the search on bytes", "searchOf", "search"),
+    link("the search on bytes", "search_of", "search"),
     link("its code, on accepted bytes", "match_checked", "match_one"),
-    link("the call, on all bytes", "answerOf", "qonveshir_match"),
-    link("the call in C", "answerShown", ""),
+    link("the call, on all bytes", "answer_of", "qonveshir_match"),
+    link("the call in C", "answer_shown", ""),
 ];
 
 const BOX: (f64, f64) = (320.0, 28.0);

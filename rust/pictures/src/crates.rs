@@ -5,7 +5,7 @@ use crate::svg;
 const BOX: (f64, f64) = (104.0, 28.0);
 const GAP: (f64, f64) = (22.0, 46.0);
 /// The kit's libraries are not drawn.
-const KIT: [&str; 4] = ["io", "os", "libc", "check"];
+const KIT: [&str; 2] = ["io", "check"];
 
 /// A crate and the crates that it builds on, as places in the list.
 pub struct Crate<'a> {
@@ -18,6 +18,8 @@ pub fn listed(text: &str) -> Vec<Crate<'_>> {
     let mut crates: Vec<Crate> = Vec::new();
     for line in text.lines().filter(|line| !line.starts_with('#')) {
         let Some((name, needs)) = line.split_once(':') else { continue };
+        // A static library has a word behind its name.
+        let name = name.split_whitespace().next().unwrap_or_default();
         let place = |need| {
             let found = crates.iter().position(|one| one.name == need);
             found.unwrap_or_else(|| panic!("{name} builds on {need}, which no line before it has"))

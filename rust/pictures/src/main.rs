@@ -65,7 +65,7 @@ mod tests {
 
     #[test]
     fn a_crate_is_below_all_that_it_builds_on() {
-        let crates = crates::listed("# NAME: needs\na:\nb: a io\nc: a b\n");
+        let crates = crates::listed("# NAME: needs\na:\nb: a io\nc staticlib: a b\n");
         let names: Vec<&str> = crates.iter().map(|one| one.name).collect();
         assert_eq!(names, ["a", "b", "c"]);
         let drawn = picture("a:\nb: a\nc: a b\n");
