@@ -4,7 +4,6 @@ use native.Mathlib.Omega.{arith}
 use mathlib.Core.Path.{◌≡◌, refl, sym, ◌∙◌, ap, ap₂, subst}
 use mathlib.Core.List.{List, [], ◌∷◌, ◌++◌, map, map-map}
 use mathlib.Core.Bool.{true}
-use mathlib.Core.Option.{Option}
 use lib.ListN.{length, get_or, take, drop}
 use lib.Seq.{take_at}
 use Rattle.answers.specs.Part.{part}
@@ -25,7 +24,7 @@ use Rattle.anti_pattern.proofs.Following.{map_among}
 use Rattle.anti_pattern.proofs.Within.{accepted_of}
 use Rattle.parts.specs.Shown.{numbers, answer_width}
 use Rattle.parts.proofs.Shown.{numbers_length}
-use Rattle.reader.specs.Brought.{Brought, classes_of, language_of, brought_accepted}
+use Rattle.reader.specs.Brought.{Brought, language_of, brought_accepted}
 use Rattle.call.specs.Call.{written}
 use Rattle.call.proofs.Brought.{brought_alike}
 use Rattle.matcher.specs.Call.{Input, told, answer_of, bound_parts, buffer_of}

@@ -4,7 +4,6 @@ use native.Mathlib.Omega.{arith}
 use mathlib.Core.Path.{◌≡◌, refl}
 use mathlib.Core.Logic.{◌↔◌}
 use mathlib.Core.List.{List}
-use mathlib.Core.Option.{Option}
 use mathlib.Core.Bool.{true}
 use Rattle.answers.specs.declared.Refusal.{Refusal}
 use Rattle.byte_answers.specs.declared.Read.{Read}

@@ -4,7 +4,6 @@ use native.Mathlib.Omega.{arith}
 use mathlib.Core.Path.{◌≡◌, refl, ap}
 use mathlib.Core.List.{List}
 use mathlib.Core.Bool.{true}
-use mathlib.Core.Option.{Option}
 use lib.ListN.{length}
 use Rattle.answers.specs.Refusal.{number_of}
 use Rattle.answers.specs.Answers.{answer_number}

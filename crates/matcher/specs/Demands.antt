@@ -1,6 +1,6 @@
 -- What is demanded of the call: its answer `a` and the final buffer `after`, where the buffer held `before`.
 use Rattle.std.specs.Prelude.{ℕ, zero, ◌+◌, ◌*◌, ◌<◌, ◌≤◌, ◌≡◌, ◌⊎◌, ◌↔◌, List, [], ◌∷◌, map, true, false, length, get_or, take, drop}
-use Rattle.std.proofs.Math.Option.{Option, none, some}
+use Rattle.std.proofs.Math.Option.{none, some}
 use Rattle.answers.specs.Refusal.{number_of}
 use Rattle.answers.specs.Answers.{answer_number, answer_count}
 use Rattle.answers.specs.declared.Refusal.TheVariants.{Unknown}

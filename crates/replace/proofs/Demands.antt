@@ -11,8 +11,7 @@ use lib.ListN.{length, take, drop}
 use lib.Seq.{take_at}
 use borrow.Author.Tests.{le-ltb}
 use Rattle.answers.specs.Answers.{applied_number, applied_length}
-use Rattle.answers.specs.declared.Refusal.{Refusal}
-use Rattle.answers.specs.declared.Refusal.TheVariants.{Full, Loose, Outgrown}
+use Rattle.answers.specs.declared.Refusal.TheVariants.{Full, Outgrown}
 use Rattle.answers.specs.declared.Applied.{Applied}
 use Rattle.answers.specs.declared.Applied.TheVariants.{Bound, None, Spent, Refused}
 use Rattle.answers.proofs.Numbers.{word_or_refusal}

@@ -14,7 +14,7 @@ use Rattle.term.specs.Table.{is_list, width}
 use Rattle.term.specs.Code.{decode_of}
 use Rattle.term.specs.Tree.{encode}
 use Rattle.term.specs.Term.{Term, Terms, node, nil, ◌::◌, ◌⧺◌, single, count, size, sizes, terms_bytes}
-use Rattle.term.specs.Pattern.{Children, name, symbol, complement, end, plain, run, child_trees, pattern_bytes}
+use Rattle.term.specs.Pattern.{Children, name, symbol, end, plain, run, child_trees, pattern_bytes}
 use Rattle.term.specs.Limits.{Written, Shape, Fits}
 use Rattle.term.specs.Extent.{extent_of}
 use Rattle.term.specs.Part.{part_bytes}

@@ -14,7 +14,6 @@ use Rattle.answers.specs.declared.Refusal.{Refusal}
 use Rattle.answers.specs.declared.Refusal.TheVariants.{Outgrown}
 use Rattle.answers.specs.declared.Answer.{Answer}
 use Rattle.answers.specs.declared.Answer.TheVariants.{Bound as Matches, None as Misses, Spent as Spends, Refused as Refuses}
-use Rattle.answers.specs.declared.Applied.{Applied}
 use Rattle.answers.specs.declared.Applied.TheVariants.{Bound, None, Spent, Refused}
 use Rattle.term.specs.Class.{Alike}
 use Rattle.term.specs.Limits.{nesting, longest_record, longest_pattern}
@@ -24,7 +23,7 @@ use Rattle.term.specs.Term.{Term, Terms, single, count, size, sizes, terms_bytes
 use Rattle.term.specs.Tree.{encode}
 use Rattle.term.proofs.Joins.{sizes_single}
 use Rattle.term.proofs.SameParts.{and_true}
-use Rattle.anti_pattern.specs.Answer.{bound, count_of, matching_of, limit, answer}
+use Rattle.anti_pattern.specs.Answer.{count_of, matching_of, limit, answer}
 use Rattle.anti_pattern.specs.Language.{Language, TermsOf}
 use Rattle.anti_pattern.specs.Meaning.{Assignment}
 use Rattle.anti_pattern.specs.Place.{assigned}

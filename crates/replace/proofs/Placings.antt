@@ -21,7 +21,7 @@ use Rattle.anti_pattern.proofs.Facts.{join_nil, count_join}
 use Rattle.replace.specs.Filling.{longest_part, Run, ChildrenOf, TellsStored, PlacedBytes, placed_terms, part_in, PutsEach, Puts, filled_to, FilledWithin}
 use Rattle.replace.specs.Growth.{nest_all}
 use Rattle.term.specs.Splicing.{same_list}
-use Rattle.replace.specs.Splice.{placed, placed_all}
+use Rattle.replace.specs.Splice.{placed_all}
 use Rattle.replace.specs.declared.Filled.{Filled}
 use Rattle.replace.specs.declared.Filled.TheVariants.{To, Unfit}
 use Rattle.replace.proofs.Fillings.{nest_join, within_more}

@@ -10,7 +10,7 @@ use Rattle.term.specs.Pattern.{Pattern, Children, name, symbol, complement, end,
 use Rattle.term.specs.Splicing.{Spliced}
 use Rattle.term.specs.Table.{is_list}
 use Rattle.term.specs.Term.{Term, Terms, node, nil, ◌::◌, ◌⧺◌, single, count, term_tree, term_trees, term_of}
-use Rattle.term.specs.Tree.{Trees, branch, more}
+use Rattle.term.specs.Tree.{branch, more}
 use Rattle.term.specs.declared.Code.TheVariants.{Symbol}
 use Rattle.term.specs.declared.Edition.{Edition}
 use Rattle.term.specs.declared.Edition.TheVariants.{One, Two}

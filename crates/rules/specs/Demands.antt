@@ -1,6 +1,5 @@
 -- What is demanded of the call: its answer `a` and the final buffer `after`, where the buffer held `before`.
 use Rattle.std.specs.Prelude.{ℕ, ◌+◌, ◌<◌, ◌≤◌, ◌≡◌, ◌⊎◌, ◌↔◌, List, [], ◌∷◌, ◌++◌, true, length}
-use Rattle.std.proofs.Math.Option.{Option}
 use Rattle.answers.specs.Answers.{rule_number, rule_index, rule_count}
 use Rattle.answers.specs.declared.RuleAnswer.{RuleAnswer}
 use Rattle.term.specs.Term.{Term}

@@ -1,7 +1,7 @@
 -- `kinds::put_each_code` meets its contract. The invariant: the lines of the codes from `code` on are still to be stored. The measure is how
 -- many they are.
 use Prim.Native.Nat.{◌-◌}
-use Rattle.kinds.proofs.Codes.{CodeTurn, codes_start, code_room, code_next, codes_done}
+use Rattle.kinds.proofs.Codes.{CodeTurn}
 use Rattle.kinds.proofs.put_each_code.Given as goal
 
 abbrev pub invariant-loop-code : goal.invariant-loop-code

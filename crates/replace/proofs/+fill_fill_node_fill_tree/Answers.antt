@@ -1,5 +1,5 @@
 -- The filling of a template meets its contracts. What stands below a symbol nests one less deep: the measure falls there.
-use Prim.Native.Nat.{ℕ, ◌+◌, ◌-◌, ◌*◌, ◌<◌}
+use Prim.Native.Nat.{ℕ, ◌+◌, ◌-◌, ◌*◌}
 use native.Mathlib.Omega.{arith}
 use mathlib.Core.Path.{refl, sym, subst, ◌∙◌}
 use mathlib.Core.List.{List}
@@ -8,7 +8,7 @@ use Rattle.anti_pattern.specs.Language.{language}
 use Rattle.replace.specs.Filling.{part_room, around_of, Fills, Stores, FillsTree, FilledWithin}
 use Rattle.replace.specs.Splice.{listed_in}
 use Rattle.replace.specs.declared.Filled.{Filled}
-use Rattle.replace.proofs.Fillings.{Fitted, Passing, pass_first, pass_last, pass_tree_unfit, pass_tree, told_node, told_name, told_run, told_complement, told_refused, Noded, put_deep, put_inside_unfit, put_wide, put_node, part_size, filled_within}
+use Rattle.replace.proofs.Fillings.{Fitted, pass_first, pass_last, pass_tree_unfit, pass_tree, told_node, told_name, told_run, told_complement, told_refused, Noded, put_deep, put_inside_unfit, put_wide, put_node, part_size, filled_within}
 use Rattle.replace.proofs.Forests.{own_some, extent_some_at, part_length}
 use Rattle.term.proofs.Pairs.{together}
 use Rattle.term.proofs.Pairs.{together}

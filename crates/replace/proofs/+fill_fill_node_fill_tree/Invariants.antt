@@ -1,10 +1,10 @@
 -- The filling of a template meets its contracts. What stands below a symbol nests one less deep: the measure falls there.
-use Prim.Native.Nat.{ℕ, ◌+◌, ◌-◌, ◌*◌, ◌<◌}
-use lib.ListN.{length, take, drop}
+use Prim.Native.Nat.{◌+◌, ◌-◌, ◌*◌}
+use lib.ListN.{length}
 use Rattle.anti_pattern.specs.Language.{language}
-use Rattle.replace.specs.Filling.{part_room, around_of, Fills, Stores, FillsTree, FilledWithin}
+use Rattle.replace.specs.Filling.{around_of}
 use Rattle.replace.specs.Splice.{listed_in}
-use Rattle.replace.proofs.Fillings.{Fitted, Passing, pass_first, pass_last, pass_tree_unfit, pass_tree, told_node, told_name, told_run, told_complement, told_refused, Noded, put_deep, put_inside_unfit, put_wide, put_node, part_size, filled_within}
+use Rattle.replace.proofs.Fillings.{Passing}
 use Rattle.replace.proofs.+fill_fill_node_fill_tree.Given as goal
 
 abbrev pub decreases-fill_tree : goal.decreases-fill_tree

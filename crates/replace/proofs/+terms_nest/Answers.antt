@@ -1,8 +1,7 @@
 -- `replace::terms_nest` meets its contract.
 use Rattle.replace.proofs.Forests.{extent_some_at, part_length}
-use Rattle.replace.proofs.Parts.{short_tells, deep_tells, Nesting, nesting_first, nesting_next, nesting_stops, nesting_last}
+use Rattle.replace.proofs.Parts.{short_tells, deep_tells, nesting_first, nesting_next, nesting_stops, nesting_last}
 use mathlib.Core.Path.{refl}
-use Prim.Native.Nat.{◌-◌, ◌+◌}
 use native.Mathlib.Omega.{arith}
 use Rattle.replace.proofs.+terms_nest.Goals as goal
 

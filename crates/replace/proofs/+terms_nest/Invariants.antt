@@ -1,7 +1,7 @@
 -- `replace::terms_nest` meets its contract.
-use Rattle.replace.proofs.Parts.{short_tells, deep_tells, Nesting, nesting_first, nesting_next, nesting_stops, nesting_last}
+use Rattle.replace.proofs.Parts.{Nesting}
 use lib.ListN.{length}
-use Prim.Native.Nat.{◌-◌, ◌+◌}
+use Prim.Native.Nat.{◌-◌}
 use Rattle.replace.proofs.+terms_nest.Given as goal
 
 abbrev pub decreases-terms_nest : goal.decreases-terms_nest

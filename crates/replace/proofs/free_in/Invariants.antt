@@ -1,5 +1,5 @@
 -- `replace::free_in_holds` meets its contract.
-use Rattle.replace.proofs.Marks.{none_marked, unmarked_at, Marking, marking_first, marking_symbol, marking_name, marking_run, marking_complement, marking_refused, marking_last, name_below, run_below}
+use Rattle.replace.proofs.Marks.{Marking}
 use lib.ListN.{length}
 use Prim.Native.Nat.{◌-◌}
 use Rattle.replace.proofs.free_in.Given as goal

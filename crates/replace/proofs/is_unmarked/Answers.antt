@@ -1,9 +1,9 @@
 -- `replace::is_unmarked` meets its contract.
-use Rattle.replace.proofs.Marks.{Loosening, loosening_first, loosening_symbol, loosening_name, loosening_run, name_loose, run_loose, complement_loose, refused_loose, loosening_last, name_below, run_below}
+use Rattle.replace.proofs.Marks.{loosening_first, loosening_symbol, loosening_name, loosening_run, name_loose, run_loose, complement_loose, refused_loose, loosening_last, name_below, run_below}
 use Rattle.replace.proofs.Forests.{own_some}
-use lib.ListN.{length, get_or}
+use lib.ListN.{get_or}
 use mathlib.Core.Path.{sym, ap, ◌∙◌}
-use Prim.Native.Nat.{ℕ, ◌-◌}
+use Prim.Native.Nat.{ℕ}
 use mathlib.Core.Bool.{false}
 use native.Mathlib.Omega.{arith}
 use Rattle.replace.proofs.is_unmarked.Goals as goal

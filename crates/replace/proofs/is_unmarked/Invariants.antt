@@ -1,7 +1,7 @@
 -- `replace::is_unmarked` meets its contract.
-use Rattle.replace.proofs.Marks.{Loosening, loosening_first, loosening_symbol, loosening_name, loosening_run, name_loose, run_loose, complement_loose, refused_loose, loosening_last, name_below, run_below}
-use lib.ListN.{length, get_or}
-use Prim.Native.Nat.{ℕ, ◌-◌}
+use Rattle.replace.proofs.Marks.{Loosening}
+use lib.ListN.{length}
+use Prim.Native.Nat.{◌-◌}
 use Rattle.replace.proofs.is_unmarked.Given as goal
 
 abbrev pub invariant-loop-at : goal.invariant-loop-at

@@ -1,12 +1,12 @@
 -- `replace::put_each` meets its contract.
-use Rattle.replace.proofs.Placings.{Placing, place_first, place_last, place_unfit, place_next}
+use Rattle.replace.proofs.Placings.{place_first, place_last, place_unfit, place_next}
 use Rattle.replace.proofs.Splices.{lists}
 use Rattle.replace.proofs.Forests.{extent_some_at, part_length}
 use Rattle.replace.specs.Filling.{around_of}
 use Rattle.replace.specs.Splice.{listed_in}
 use Rattle.term.specs.Splicing.{same_list}
 use Rattle.anti_pattern.specs.Language.{language}
-use lib.ListN.{length, drop, take, length-take}
+use lib.ListN.{drop, take, length-take}
 use mathlib.Core.Path.{refl, ap, ◌∙◌}
 use Prim.Native.Nat.{◌-◌, ◌+◌}
 use native.Mathlib.Omega.{arith}

@@ -1,11 +1,11 @@
 -- `replace::put_each` meets its contract.
-use Rattle.replace.proofs.Placings.{Placing, place_first, place_last, place_unfit, place_next}
+use Rattle.replace.proofs.Placings.{Placing}
 use Rattle.replace.proofs.Splices.{lists}
 use Rattle.replace.specs.Filling.{around_of}
 use Rattle.replace.specs.Splice.{listed_in}
 use Rattle.anti_pattern.specs.Language.{language}
-use lib.ListN.{length, drop, take, length-take}
-use Prim.Native.Nat.{◌-◌, ◌+◌}
+use lib.ListN.{length}
+use Prim.Native.Nat.{◌-◌}
 use Rattle.replace.proofs.put_each.Given as goal
 
 abbrev pub invariant-loop-used : goal.invariant-loop-used

@@ -1,6 +1,5 @@
 -- `replace::store_all` meets its contract.
-use mathlib.Core.Path.{◌≡◌, refl, ◌∙◌}
-use Prim.Native.Nat.{◌-◌, ◌≤◌}
+use mathlib.Core.Path.{refl, ◌∙◌}
 use native.Mathlib.Omega.{arith}
 use Rattle.replace.proofs.Stored.{stored_first, stored_next, stored_last}
 use Rattle.replace.proofs.store_all.Goals as goal

@@ -1,7 +1,7 @@
 -- `replace::store_all` meets its contract.
 use lib.Seq.{sets}
 use lib.ListN.{length, take}
-use mathlib.Core.Path.{◌≡◌, refl, ◌∙◌}
+use mathlib.Core.Path.{◌≡◌}
 use Prim.Native.Nat.{◌-◌, ◌≤◌}
 use Rattle.replace.proofs.store_all.Given as goal
 

@@ -1,10 +1,9 @@
 -- `rules::match_rules_checked` meets its contract. The invariant: the rules before index i are none. The measure is the number of rules left.
-use Prim.Native.Nat.{◌-◌}
 use native.Mathlib.Omega.{arith}
 use mathlib.Core.Path.{ap}
 use lib.ListN.{length}
 use borrow.Author.Rules.{rules}
-use Rattle.rules.proofs.Turns.{narrow_matched, Turn, turn_starts, turn_room, turn_next, turn_stops, turn_ends}
+use Rattle.rules.proofs.Turns.{narrow_matched, turn_starts, turn_room, turn_next, turn_stops, turn_ends}
 use Rattle.rules.proofs.match_rules_checked.Goals as goal
 
 pub returns-then-answer-lt-ANSWER_WIDTH-clause-is : goal.returns-then-answer-lt-ANSWER_WIDTH-clause-is

@@ -1,15 +1,14 @@
 -- `writing::check_each` meets its contract. The invariant: the lengths from `i` on are those of the bytes left, whose records decide.
 -- The measure is what is left of the lengths.
-use Prim.Native.Nat.{◌≤◌, ◌-◌, ◌+◌}
+use Prim.Native.Nat.{◌-◌, ◌+◌}
 use native.Mathlib.Omega.{arith}
-use mathlib.Core.Bool.{true}
 use mathlib.Core.Path.{◌≡◌, refl, sym, ap, ◌∙◌}
 use lib.Seq.{length-take-le}
 use lib.ListN.{length, get_or, take, drop, length-drop}
 use Rattle.term.specs.Language.{language}
 use Rattle.term.proofs.Lists.{rest_part}
-use Rattle.sheet.specs.Contents.{read_entry, check_each}
-use Rattle.writing.specs.Writing.{split, sum}
+use Rattle.sheet.specs.Contents.{read_entry}
+use Rattle.writing.specs.Writing.{sum}
 use Rattle.writing.proofs.Writings.{records_refused, records_read, records_end}
 use Rattle.writing.proofs.Lengths.{sum_next}
 use Rattle.writing.proofs.check_each.Goals as goal

@@ -1,11 +1,11 @@
 -- `writing::check_each` meets its contract. The invariant: the lengths from `i` on are those of the bytes left, whose records decide.
 -- The measure is what is left of the lengths.
-use Prim.Native.Nat.{◌≤◌, ◌-◌, ◌+◌}
+use Prim.Native.Nat.{◌≤◌, ◌-◌}
 use mathlib.Core.Bool.{true}
-use mathlib.Core.Path.{◌≡◌, refl, sym, ap, ◌∙◌}
-use lib.ListN.{length, get_or, take, drop, length-drop}
+use mathlib.Core.Path.{◌≡◌}
+use lib.ListN.{length, drop}
 use Rattle.term.specs.Language.{language}
-use Rattle.sheet.specs.Contents.{read_entry, check_each}
+use Rattle.sheet.specs.Contents.{check_each}
 use Rattle.writing.specs.Writing.{split, sum}
 use Rattle.writing.proofs.check_each.Given as goal
 

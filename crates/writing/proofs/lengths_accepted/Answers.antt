@@ -1,8 +1,7 @@
 -- `writing::lengths_accepted` meets its contract. The invariant: the lengths from `i` on decide, of which the bytes left are to be the sum.
 -- The measure is what is left of the lengths.
-use Prim.Native.Nat.{◌≤◌, ◌-◌}
 use native.Mathlib.Omega.{arith}
-use mathlib.Core.Path.{◌≡◌, refl, sym, ◌∙◌}
+use mathlib.Core.Path.{refl, sym, ◌∙◌}
 use Rattle.writing.proofs.Lengths.{lengths_zero, lengths_over, lengths_next, lengths_end}
 use Rattle.writing.proofs.lengths_accepted.Goals as goal
 

@@ -1,7 +1,7 @@
 -- `writing::lengths_accepted` meets its contract. The invariant: the lengths from `i` on decide, of which the bytes left are to be the sum.
 -- The measure is what is left of the lengths.
 use Prim.Native.Nat.{◌≤◌, ◌-◌}
-use mathlib.Core.Path.{◌≡◌, refl, sym, ◌∙◌}
+use mathlib.Core.Path.{◌≡◌}
 use lib.ListN.{length, drop}
 use Rattle.writing.specs.Writing.{lengths_accepted}
 use Rattle.writing.proofs.lengths_accepted.Given as goal

@@ -1,8 +1,7 @@
 -- `writing::put_directory` meets its contract. The invariant: the pairs from `i` on are still to be stored, and entries of their lengths end
 -- within the longest sheet. The measure is how many pairs they are.
-use Prim.Native.Nat.{◌≤◌, ◌-◌, ◌+◌}
 use native.Mathlib.Omega.{arith}
-use mathlib.Core.Path.{◌≡◌, refl, sym, ◌∙◌}
+use mathlib.Core.Path.{refl, sym, ◌∙◌}
 use Rattle.writing.proofs.Stores.{pairs_next, pairs_end}
 use Rattle.writing.proofs.Lengths.{sum_next}
 use Rattle.writing.proofs.put_directory.Goals as goal

@@ -1,7 +1,7 @@
 -- `writing::put_directory` meets its contract. The invariant: the pairs from `i` on are still to be stored, and entries of their lengths end
 -- within the longest sheet. The measure is how many pairs they are.
 use Prim.Native.Nat.{◌≤◌, ◌-◌, ◌+◌}
-use mathlib.Core.Path.{◌≡◌, refl, sym, ◌∙◌}
+use mathlib.Core.Path.{◌≡◌}
 use lib.Seq.{sets}
 use lib.ListN.{length, drop}
 use Rattle.sheet.specs.Word.{word_bytes}

@@ -1,5 +1,4 @@
 -- `plain::check::is_distinct` meets its contract. The invariant: from here on the bytes must be distinct after the variables seen so far.
-use Prim.Native.Nat.{◌-◌}
 use native.Mathlib.Omega.{arith}
 use mathlib.Core.Path.{sym, ◌∙◌, ap, subst}
 use mathlib.Core.Bool.{false≢true}
@@ -7,7 +6,7 @@ use Rattle.term.specs.Code.{VariableBelow}
 use Rattle.term.proofs.Codes.{decode_below}
 use Rattle.plain.specs.Bytes.{root_bytes}
 use Rattle.plain.proofs.Among.{here_once}
-use Rattle.plain.proofs.Sight.{root_within, Sighted, sighted_first, sighted_next, sighted_end}
+use Rattle.plain.proofs.Sight.{root_within, sighted_first, sighted_next, sighted_end}
 use Rattle.plain.proofs.check.is_distinct.Goals as goal
 
 pub returns-then-n-eq0 : goal.returns-then-n-eq0

@@ -1,10 +1,8 @@
 -- `plain::check::is_plain` meets its contract. The invariant: whether the pattern is plain is whether it is from here on.
-use Prim.Native.Nat.{◌-◌}
 use native.Mathlib.Omega.{arith}
-use mathlib.Core.Path.{◌≡◌, refl, sym, ◌∙◌, subst}
-use mathlib.Core.Bool.{false}
+use mathlib.Core.Path.{sym, ◌∙◌, subst}
 use Rattle.term.proofs.Lists.{rest_length}
-use Rattle.plain.specs.Bytes.{LookWithin, plain_from}
+use Rattle.plain.specs.Bytes.{LookWithin}
 use Rattle.plain.proofs.Turns.{plain_end, plain_stops, plain_passes}
 use Rattle.plain.proofs.check.is_plain.Goals as goal
 

@@ -1,9 +1,9 @@
 -- `plain::check::is_plain` meets its contract. The invariant: whether the pattern is plain is whether it is from here on.
 use Prim.Native.Nat.{◌-◌}
-use mathlib.Core.Path.{◌≡◌, refl, sym, ◌∙◌, subst}
+use mathlib.Core.Path.{◌≡◌}
 use mathlib.Core.Bool.{false}
 use lib.ListN.{length, drop}
-use Rattle.plain.specs.Bytes.{LookWithin, plain_from}
+use Rattle.plain.specs.Bytes.{plain_from}
 use Rattle.plain.proofs.check.is_plain.Given as goal
 
 abbrev pub invariant-loop-at : goal.invariant-loop-at

@@ -1,8 +1,7 @@
 -- `plain::check::weights` meets its contract. The invariant: the weights are those found so far and those from here on.
-use Prim.Native.Nat.{◌-◌}
 use native.Mathlib.Omega.{arith}
 use Rattle.plain.specs.Bytes.{weight_of}
-use Rattle.plain.proofs.Among.{Summed, summed_first, summed_next, summed_end}
+use Rattle.plain.proofs.Among.{summed_first, summed_next, summed_end}
 use Rattle.plain.proofs.Sight.{weight_most}
 use Rattle.plain.proofs.check.weights.Goals as goal
 

@@ -2,7 +2,7 @@
 use Prim.Native.Nat.{◌-◌}
 use lib.ListN.{length}
 use Rattle.plain.specs.Bytes.{weight_of}
-use Rattle.plain.proofs.Among.{Summed, summed_first, summed_next, summed_end}
+use Rattle.plain.proofs.Among.{Summed}
 use Rattle.plain.proofs.Sight.{weight_most}
 use Rattle.plain.proofs.check.weights.Given as goal
 

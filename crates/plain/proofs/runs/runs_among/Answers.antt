@@ -1,12 +1,10 @@
 -- `plain::runs::runs_among` meets its contract. The invariant: the run names are those found so far and those among the children left.
-use Prim.Native.Nat.{◌+◌, ◌≤◌}
 use native.Mathlib.Omega.{arith}
 use mathlib.Core.Path.{sym, ◌∙◌, ap}
-use lib.ListN.{length}
 use Rattle.term.proofs.Lists.{rest_length}
 use Rattle.term.specs.declared.Code.{Code}
 use Rattle.plain.specs.Bytes.{also_run, is_leaf}
-use Rattle.plain.proofs.Among.{Among, among_first, among_short, among_end, among_next}
+use Rattle.plain.proofs.Among.{among_first, among_short, among_end, among_next}
 use Rattle.plain.proofs.Holding.{among_leaf}
 use Rattle.term.proofs.Pairs.{together}
 use Rattle.term.proofs.Pairs.{together}

@@ -1,5 +1,5 @@
 -- `plain::runs::runs_among` meets its contract. The invariant: the run names are those found so far and those among the children left.
-use Rattle.plain.proofs.Among.{Among, among_first, among_short, among_end, among_next}
+use Rattle.plain.proofs.Among.{Among}
 use Rattle.plain.proofs.runs.runs_among.Given as goal
 
 abbrev pub invariant-loop-left : goal.invariant-loop-left

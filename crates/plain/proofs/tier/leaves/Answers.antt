@@ -1,9 +1,8 @@
 -- `plain::tier::leaves` meets its contract. The invariant: so many hold, and those from here on.
-use Prim.Native.Nat.{◌-◌}
 use native.Mathlib.Omega.{arith}
 use mathlib.Core.Path.{◌∙◌, ap}
 use Rattle.plain.specs.Bytes.{is_leaf}
-use Rattle.plain.proofs.Holding.{Held, held_first, held_end, held_cut, held_other, held_differs, held_next}
+use Rattle.plain.proofs.Holding.{held_first, held_end, held_cut, held_other, held_differs, held_next}
 use Rattle.term.proofs.Pairs.{together}
 use Rattle.term.proofs.Pairs.{together}
 use Rattle.term.proofs.Pairs.{together}

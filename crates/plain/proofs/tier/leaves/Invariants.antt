@@ -1,7 +1,7 @@
 -- `plain::tier::leaves` meets its contract. The invariant: so many hold, and those from here on.
 use Prim.Native.Nat.{◌-◌}
 use lib.ListN.{length}
-use Rattle.plain.proofs.Holding.{Held, held_first, held_end, held_cut, held_other, held_differs, held_next}
+use Rattle.plain.proofs.Holding.{Held}
 use Rattle.plain.proofs.tier.leaves.Given as goal
 
 abbrev pub invariant-loop-n : goal.invariant-loop-n

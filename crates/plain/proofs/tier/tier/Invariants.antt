@@ -1,7 +1,7 @@
 -- `plain::tier::tier` meets its contract. The invariant: the tier is what the loop has so far and what is left of it.
-use Prim.Native.Nat.{ℕ, ◌+◌, ◌-◌, ◌≤◌}
-use lib.ListN.{length, get_or}
-use Rattle.plain.proofs.Turns.{Turning, turning_first, turning_end, turning_fails, enters_within, notes_within, name_within, run_within, turning_leaves, turning_enters, turning_notes, turning_name, turning_run}
+use Prim.Native.Nat.{◌-◌}
+use lib.ListN.{length}
+use Rattle.plain.proofs.Turns.{Turning}
 use Rattle.plain.proofs.tier.tier.Given as goal
 
 abbrev pub invariant-loop-at : goal.invariant-loop-at

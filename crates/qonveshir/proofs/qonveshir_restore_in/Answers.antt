@@ -1,0 +1,28 @@
+-- `qonveshir::qonveshir_restore_in` meets its contract.
+use mathlib.Core.Path.{refl, sym, ap, ◌∙◌}
+use Rattle.qonveshir.specs.Shown.{move_shown}
+use Rattle.qonveshir.proofs.qonveshir_restore_in.Goals as goal
+
+pub returns-in_default-clause-shown : goal.returns-in_default-clause-shown
+returns-in_default-clause-shown c = let none = sym c.edition_of-t.ensures ∙ c.in_default.is in
+    rw none c.no_edition.ensures
+
+pub returns-in_default-clause-contents : goal.returns-in_default-clause-contents
+returns-in_default-clause-contents c = let none = sym c.edition_of-t.ensures ∙ c.in_default.is in
+    rw none refl
+
+pub returns-in_default-clause-demand : goal.returns-in_default-clause-demand
+returns-in_default-clause-demand c = let none = sym c.edition_of-t.ensures ∙ c.in_default.is in
+    rw none tt
+
+pub returns-clause-shown : goal.returns-clause-shown
+returns-clause-shown c = let told = sym c.edition_of-t.ensures ∙ c.in-In.is in
+    rw told (c.move_shown.ensures ∙ ap move_shown c.restore_in-m.ensures.answer)
+
+pub returns-clause-contents : goal.returns-clause-contents
+returns-clause-contents c = let told = sym c.edition_of-t.ensures ∙ c.in-In.is in
+    rw told c.restore_in-m.ensures.contents
+
+pub returns-clause-demand : goal.returns-clause-demand
+returns-clause-demand c = let told = sym c.edition_of-t.ensures ∙ c.in-In.is in
+    rw told (rw c.move_shown.ensures c.restore_in-m.ensures.demand)
