@@ -1,12 +1,12 @@
 -- `example::advance` meets its contract.
 use Rattle.example.specs.Odometer.{Advances}
 use Prim.Native.Nat.{◌-◌}
-use lib.ListN.{length-set, get_or}
-use mathlib.Core.Path.{refl, ◌∙◌, subst}
+use lib.ListN.{get_or}
+use mathlib.Core.Path.{refl, subst}
 use native.Mathlib.Omega.{arith}
 use Rattle.example.specs.Odometer.{Rises}
 use Rattle.example.proofs.Records.{octets_bytes}
-use Rattle.example.proofs.Stepping.{Turned, turned_start, turned_steps, turned_again, turned_end}
+use Rattle.example.proofs.Stepping.{turned_start, turned_steps, turned_again, turned_end}
 use Rattle.example.proofs.advance.Goals as goal
 
 pub loop-i-init : goal.loop-i-init

@@ -1,6 +1,5 @@
 -- `example::advance` meets its contract.
-use Prim.Native.Nat.{◌-◌}
-use Rattle.example.proofs.Stepping.{Turned, turned_start, turned_steps, turned_again, turned_end}
+use Rattle.example.proofs.Stepping.{Turned}
 use Rattle.example.proofs.advance.Given as goal
 
 abbrev pub invariant-loop-i : goal.invariant-loop-i

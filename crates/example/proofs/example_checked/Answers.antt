@@ -1,7 +1,7 @@
 -- `example::example_checked` meets its contract.
 use mathlib.Core.Path.{sym}
 use lib.Seq.{length-take-le}
-use lib.ListN.{take, length}
+use lib.ListN.{take}
 use native.Mathlib.Omega.{arith}
 use Rattle.example.proofs.Calls.{take_short, shows_bound, shows_spent, shows_none}
 use Rattle.anti_pattern.specs.Language.{language}

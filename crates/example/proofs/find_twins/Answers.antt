@@ -1,8 +1,8 @@
 -- `example::find_twins` meets its contract.
-use lib.ListN.{length, replicate}
+use lib.ListN.{replicate}
 use mathlib.Core.List.{List}
-use mathlib.Core.Path.{sym, ◌∙◌, ap, subst}
-use Prim.Native.Nat.{ℕ, ◌≤◌, ◌-◌}
+use mathlib.Core.Path.{sym, subst}
+use Prim.Native.Nat.{ℕ}
 use native.Mathlib.Omega.{arith}
 use Rattle.example.specs.Inner.{Standing}
 use Rattle.example.proofs.Notes.{standing_start_holds, standing_plus, standing_finds}

@@ -1,6 +1,6 @@
 -- `example::find_twins` meets its contract.
-use lib.ListN.{length, replicate}
-use Prim.Native.Nat.{ℕ, ◌≤◌, ◌-◌}
+use lib.ListN.{length}
+use Prim.Native.Nat.{◌≤◌, ◌-◌}
 use Rattle.example.specs.Inner.{Standing}
 use Rattle.example.proofs.find_twins.Given as goal
 

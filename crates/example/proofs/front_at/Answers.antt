@@ -1,10 +1,9 @@
 -- `example::front_at` meets its contract.
 use mathlib.Core.Path.{sym, ◌∙◌, subst}
-use Prim.Native.Nat.{◌-◌}
 use borrow.Author.Tests.{not-true, not-false}
 use native.Mathlib.Omega.{arith}
 use Rattle.example.specs.Inner.{DownBy}
-use Rattle.example.proofs.Fronts.{Fronted, fronted_start, fronted_dead, fronted_one, fronted_two}
+use Rattle.example.proofs.Fronts.{fronted_start, fronted_dead, fronted_one, fronted_two}
 use mathlib.Core.Bool.{not}
 use mathlib.Core.Path.{ap}
 use Rattle.example.proofs.front_at.Goals as goal

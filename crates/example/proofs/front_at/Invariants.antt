@@ -1,7 +1,7 @@
 -- `example::front_at` meets its contract.
 use lib.ListN.{length}
 use Prim.Native.Nat.{◌-◌}
-use Rattle.example.proofs.Fronts.{Fronted, fronted_start, fronted_dead, fronted_one, fronted_two}
+use Rattle.example.proofs.Fronts.{Fronted}
 use Rattle.example.proofs.front_at.Given as goal
 
 abbrev pub invariant-loop-at : goal.invariant-loop-at

@@ -1,10 +1,9 @@
 -- `example::keep_symbols` meets its contract.
 use Prim.Native.Nat.{ℕ}
-use lib.ListN.{length, length-set}
-use mathlib.Core.Path.{◌≡◌, sym, ◌∙◌}
-use Prim.Native.Nat.{◌≤◌, ◌-◌}
+use lib.ListN.{length-set}
+use mathlib.Core.Path.{◌∙◌}
 use native.Mathlib.Omega.{arith}
-use Rattle.example.proofs.Notes.{MarksTo, marks_next}
+use Rattle.example.proofs.Notes.{marks_next}
 use Rattle.example.proofs.keep_symbols.Goals as goal
 
 pub loop-i-init : goal.loop-i-init

@@ -1,8 +1,8 @@
 -- `example::keep_symbols` meets its contract.
-use lib.ListN.{length, length-set}
-use mathlib.Core.Path.{◌≡◌, sym, ◌∙◌}
+use lib.ListN.{length}
+use mathlib.Core.Path.{◌≡◌}
 use Prim.Native.Nat.{◌≤◌, ◌-◌}
-use Rattle.example.proofs.Notes.{MarksTo, marks_next}
+use Rattle.example.proofs.Notes.{MarksTo}
 use Rattle.example.proofs.keep_symbols.Given as goal
 
 abbrev pub invariant-loop-i : goal.invariant-loop-i

@@ -1,10 +1,9 @@
 -- `example::look_at` meets its contract.
-use lib.ListN.{length, get_or}
+use lib.ListN.{get_or}
 use mathlib.Core.Path.{sym, ◌∙◌, subst}
-use Prim.Native.Nat.{◌-◌}
 use native.Mathlib.Omega.{arith}
 use Rattle.example.specs.Inner.{NeedlessBy}
-use Rattle.example.proofs.Walks.{Walk, walk_start, stops_over, stops_code, stops_needless, stops_stuck, walks_at}
+use Rattle.example.proofs.Walks.{walk_start, stops_over, stops_code, stops_needless, stops_stuck, walks_at}
 use Rattle.example.proofs.look_at.Goals as goal
 
 pub loop-at-init : goal.loop-at-init

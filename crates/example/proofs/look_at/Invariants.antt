@@ -1,7 +1,7 @@
 -- `example::look_at` meets its contract.
-use lib.ListN.{length, get_or}
+use lib.ListN.{length}
 use Prim.Native.Nat.{◌-◌}
-use Rattle.example.proofs.Walks.{Walk, walk_start, stops_over, stops_code, stops_needless, stops_stuck, walks_at}
+use Rattle.example.proofs.Walks.{Walk}
 use Rattle.example.proofs.look_at.Given as goal
 
 abbrev pub invariant-loop-at : goal.invariant-loop-at

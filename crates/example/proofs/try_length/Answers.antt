@@ -1,10 +1,9 @@
 -- `example::try_length` meets its contract.
 use mathlib.Core.Path.{subst}
-use Prim.Native.Nat.{◌-◌}
 use Rattle.anti_pattern.specs.Language.{language}
 use Rattle.example.specs.declared.Tried.{Tried}
 use Rattle.example.specs.Inner.{TriesNext}
-use Rattle.example.proofs.Trying.{Running, running_start, running_bound, running_spent, running_steps, running_ends, running_long}
+use Rattle.example.proofs.Trying.{running_start, running_bound, running_spent, running_steps, running_ends}
 use Rattle.term.proofs.Pairs.{together}
 use Rattle.term.proofs.Pairs.{together}
 use Rattle.term.proofs.Pairs.{together}

@@ -3,7 +3,7 @@ use lib.ListN.{length}
 use Prim.Native.Nat.{◌-◌}
 use Rattle.anti_pattern.specs.Language.{language}
 use Rattle.example.proofs.Ranks.{rank, power_of}
-use Rattle.example.proofs.Trying.{Running, running_start, running_bound, running_spent, running_steps, running_ends, running_long}
+use Rattle.example.proofs.Trying.{Running}
 use Rattle.example.proofs.try_length.Given as goal
 
 abbrev pub invariant-loop-n : goal.invariant-loop-n

@@ -1,10 +1,9 @@
 -- `example::try_sizes` meets its contract.
-use mathlib.Core.Path.{sym, ◌∙◌, ap}
-use lib.Seq.{length-take-le, length_front}
-use Prim.Native.Nat.{suc, ◌-◌}
+use mathlib.Core.Path.{sym}
+use lib.Seq.{length-take-le}
 use Rattle.anti_pattern.specs.Language.{language}
 use native.Mathlib.Omega.{arith}
-use Rattle.example.proofs.Trying.{Sizing, sizing_start, sizing_long, sizing_part, sizing_bound, sizing_spent, sizing_again, sizing_end}
+use Rattle.example.proofs.Trying.{sizing_start, sizing_long, sizing_part, sizing_bound, sizing_spent, sizing_again, sizing_end}
 use Rattle.example.proofs.try_sizes.Goals as goal
 
 pub loop-n-init : goal.loop-n-init

@@ -1,7 +1,7 @@
 -- `example::try_sizes` meets its contract.
 use Prim.Native.Nat.{suc, ◌-◌}
 use Rattle.anti_pattern.specs.Language.{language}
-use Rattle.example.proofs.Trying.{Sizing, sizing_start, sizing_long, sizing_part, sizing_bound, sizing_spent, sizing_again, sizing_end}
+use Rattle.example.proofs.Trying.{Sizing}
 use Rattle.example.proofs.try_sizes.Given as goal
 
 abbrev pub invariant-loop-n : goal.invariant-loop-n
