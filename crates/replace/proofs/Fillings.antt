@@ -21,7 +21,7 @@ use Rattle.term.specs.Part.{part_bytes}
 use Rattle.term.specs.declared.Code.{Code}
 use Rattle.term.specs.declared.Code.TheVariants.{Symbol, Name, Run, Complement}
 use Rattle.term.proofs.Joins.{bytes_join, sizes_join}
-use Rattle.term.proofs.SameParts.{and-true as both_true}
+use Rattle.term.proofs.SameParts.{and_true as both_true}
 use Rattle.term.proofs.Sizes.{encodes_append, terms_sizes, node_bytes}
 use Rattle.anti_pattern.specs.Language.{simple}
 use Rattle.anti_pattern.specs.Meaning.{Assignment}

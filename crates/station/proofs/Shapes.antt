@@ -16,4 +16,4 @@ pub record Shaped (s : Station) : Type 0 where
 pub shaped : (s : Station) → Is T.the_row s (LL.val T.the_type T'.the_laws s ∷ []) → Shaped s
 shaped s is =
     let owed = LL.owed T.the_type T'.the_laws s _ is in
-    record { names = sym (length-map s.names (λ (v : ℕ). v)) ∙ owed.1.0.1.0.1; lengths = sym (length-map s.lengths (λ (v : ℕ). v)) ∙ owed.1.1.0.1.0.1 }
+    record { names = owed.1.0.1.0.1; lengths = owed.1.1.0.1.0.1 }

@@ -1,0 +1,12 @@
+-- `station::put_current` meets its contract. The invariant: the bytes from `i` on are still to be stored. The measure is how many they are.
+use Prim.Native.Nat.{◌≤◌, ◌-◌}
+use mathlib.Core.Path.{◌≡◌, refl, sym, ◌∙◌}
+use lib.Seq.{sets}
+use lib.ListN.{length, drop, get_or, length-set}
+use Rattle.station.proofs.put_current.Given as goal
+
+abbrev pub invariant-loop-i : goal.invariant-loop-i
+invariant-loop-i l = (l.i ≤ length l.bytes) × (length l.records ≡ length l.initial.records) × (sets l.initial.records 0 l.bytes ≡ sets l.records l.i (drop l.i l.bytes))
+
+abbrev pub decreases-loop-i : goal.decreases-loop-i
+decreases-loop-i l = length l.bytes - l.i
