@@ -20,7 +20,8 @@ pub fn open<R: Files>(rt: &R, name: &[u8]) -> io::Result<R::File> {
     }
 }
 
-// Reads until the buffer is full or the file ends, and answers how many bytes lie at its front.
+// Reads until the buffer is full or the file ends, and answers how many bytes lie at its front. An error is the reader's; what was read before it
+// lies in the buffer.
 pub fn fill<R: Read>(reader: &mut R, buffer: &mut [u8]) -> io::Result<usize>
     ensures within { IfOk result (λ n. n ≤ length buffer.old) }
     ensures bytes { IfOk result (λ n. Consumes (R.remaining reader.old) (R.remaining reader.new) (take n buffer.new)) }

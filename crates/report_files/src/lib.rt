@@ -143,7 +143,7 @@ fn put_loaded(
     )
 }
 
-// Puts the report on the files of these names, and answers its length.
+// Puts the report on the files of these names, and answers its length. A name that is no text, in UTF-8, names no file that can be read.
 pub fn read_report<'a, R: Files>(
     rt: &R,
     table: &'a [u8],
@@ -170,7 +170,7 @@ fn first(bytes: &[u8], n: usize) -> &[u8]
     bytes
 }
 
-// The report on the files of these names, to standard output.
+// The report on the files of these names, to standard output. An error is the output's; a file that can't be read is the report's own matter.
 pub fn report<'a, R: Files + Print>(
     rt: &R,
     table: &'a [u8],
