@@ -4,7 +4,6 @@ use native.Mathlib.Omega.{arith}
 use mathlib.Core.Path.{◌≡◌, refl, sym, ◌∙◌, ap, subst}
 use mathlib.Core.List.{List, []}
 use mathlib.Core.Bool.{Bool, true, false}
-use mathlib.Core.Option.{some}
 use lib.ListN.{length, drop, drop_of_length-le}
 use Rattle.answers.specs.declared.Played.{Played}
 use Rattle.term.specs.Term.{Term}

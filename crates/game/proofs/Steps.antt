@@ -1,5 +1,5 @@
 -- What each step of the code comes to, on accepted input.
-use Prim.Native.Nat.{ℕ, zero, suc, ◌+◌, ◌-◌, ◌≤◌}
+use Prim.Native.Nat.{ℕ, zero, suc, ◌+◌, ◌≤◌}
 use native.Mathlib.Omega.{arith}
 use mathlib.Core.Path.{◌≡◌, refl, sym, ◌∙◌, ap, subst}
 use mathlib.Core.List.{List, []}
@@ -33,7 +33,7 @@ use Rattle.sheet.specs.Entry.{part_at}
 use Rattle.game.specs.Call.{Side, Input, told}
 use Rattle.game.specs.Handed.{Sheets}
 use Rattle.game.specs.Move.{Rule, Game, rule_at}
-use Rattle.game.specs.Search.{Ruling, forced, stopped, unneeded, Turn, to, nowhere, spends, turn_by, turn, goal_first, loader_turn, sender_turn, loader_moves, sender_moves, each}
+use Rattle.game.specs.Search.{Ruling, forced, stopped, unneeded, Turn, to, nowhere, spends, turn_by, goal_first, loader_turn, sender_turn, loader_moves, sender_moves, each}
 use Rattle.game.specs.Turns.{left_by, told_left, followed, LoaderTurns, LoaderMoves, LoaderRule, SenderTurns, SenderMoves, SenderRule, Plays}
 use Rattle.game.specs.declared.Left.{Left}
 use Rattle.game.specs.declared.Left.TheVariants.{Forced, Stopped, NoMove}

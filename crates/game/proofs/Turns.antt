@@ -11,7 +11,7 @@ use Rattle.term.specs.Limits.{TermAccepted}
 use Rattle.term.specs.Pattern.{Pattern, pattern_bytes}
 use Rattle.term.specs.Table.{table_accepted}
 use Rattle.term.specs.Term.{Term, term_bytes}
-use Rattle.anti_pattern.specs.Answer.{Matching, bound, nothing, spent, count_of, answer}
+use Rattle.anti_pattern.specs.Answer.{Matching, bound, nothing, spent, count_of}
 use Rattle.anti_pattern.specs.Language.{Language, TermOf}
 use Rattle.anti_pattern.specs.Variables.{free}
 use Rattle.anti_pattern.specs.Search.{Env, first_answer, whole}

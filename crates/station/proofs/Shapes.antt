@@ -1,8 +1,7 @@
 -- A station of a program has eight names and nine lengths: its type says so.
-use Prim.Native.Nat.{ℕ}
-use mathlib.Core.Path.{◌≡◌, sym, ◌∙◌}
+use mathlib.Core.Path.{◌≡◌}
 use mathlib.Core.List.{[], ◌∷◌}
-use lib.ListN.{length, length-map}
+use lib.ListN.{length}
 use denote.Laws.{Is}
 use denote.Struct.Laws as LL
 use Rattle.station.specs.declared.Station.{Station}

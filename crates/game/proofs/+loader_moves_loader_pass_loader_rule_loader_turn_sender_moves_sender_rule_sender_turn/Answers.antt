@@ -1,10 +1,7 @@
 -- The turns of loader and sender, and their moves, meet their contracts. The measure is thrice the turns left, and 2, 1 or 0 for turn, moves and rule.
-use Prim.Native.Nat.{ℕ, ◌<◌, ◌+◌, ◌*◌, ◌-◌}
 use native.Mathlib.Omega.{arith}
 use mathlib.Core.Path.{refl}
-use borrow.Author.Rules.{rules}
-use Rattle.sheet.specs.Check.{edition_of}
-use Rattle.game.proofs.Moves.{LoaderAt, SenderAt, loader_starts, sender_starts, loader_forced, loader_stopped, loader_moved, loader_unmoved, loader_ends, loader_passes, sender_unforced, sender_stopped, sender_moved, sender_unmoved, sender_ends, sender_passes, loader_over, sender_over, pass_over, loader_passed}
+use Rattle.game.proofs.Moves.{loader_starts, sender_starts, loader_forced, loader_stopped, loader_moved, loader_unmoved, loader_ends, loader_passes, sender_unforced, sender_stopped, sender_moved, sender_unmoved, sender_ends, sender_passes, loader_over, sender_over, pass_over, loader_passed}
 use Rattle.game.proofs.Steps.{loader_bound, loader_spent, loader_none, loader_refused, sender_bound, sender_spent, sender_none, sender_refused, loader_rule_spent, loader_rule_none, loader_rule_refused, loader_rule_bound, loader_rule_over, sender_rule_spent, sender_rule_none, sender_rule_refused, sender_rule_bound, sender_rule_over}
 use Rattle.game.proofs.+loader_moves_loader_pass_loader_rule_loader_turn_sender_moves_sender_rule_sender_turn.Goals as goal
 

@@ -1,10 +1,9 @@
 -- The turns of loader and sender, and their moves, meet their contracts. The measure is thrice the turns left, and 2, 1 or 0 for turn, moves and rule.
-use Prim.Native.Nat.{ℕ, ◌<◌, ◌+◌, ◌*◌, ◌-◌}
-use borrow.Author.Rules.{rules}
+use Prim.Native.Nat.{◌+◌, ◌*◌, ◌-◌}
 use Rattle.term.specs.Language.{language}
 use Rattle.sheet.specs.Check.{edition_of}
 use Rattle.game.specs.Handed.{sheets_of}
-use Rattle.game.proofs.Moves.{LoaderAt, SenderAt, loader_starts, sender_starts, loader_forced, loader_stopped, loader_moved, loader_unmoved, loader_ends, loader_passes, sender_unforced, sender_stopped, sender_moved, sender_unmoved, sender_ends, sender_passes, loader_over, sender_over, pass_over, loader_passed}
+use Rattle.game.proofs.Moves.{LoaderAt, SenderAt}
 use Rattle.game.proofs.+loader_moves_loader_pass_loader_rule_loader_turn_sender_moves_sender_rule_sender_turn.Given as goal
 
 abbrev pub decreases-sender_turn : goal.decreases-sender_turn

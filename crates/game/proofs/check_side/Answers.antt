@@ -2,7 +2,6 @@
 use mathlib.Core.Path.{sym, ◌∙◌}
 use Rattle.reader.specs.Brought.{brought_by}
 use Rattle.game.proofs.Templates.{rules_fail, sheet_fails, numbers_fail, templates_tell}
-use borrow.Author.Rules.{rules}
 use Rattle.game.proofs.check_side.Goals as goal
 
 pub returns-in-Refused : goal.returns-in-Refused

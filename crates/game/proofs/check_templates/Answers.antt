@@ -1,10 +1,8 @@
 -- `game::check_templates` meets its contract.
-use Prim.Native.Nat.{◌-◌}
 use native.Mathlib.Omega.{arith}
 use mathlib.Core.Path.{sym, ◌∙◌}
 use Rattle.term.specs.Language.{language}
-use Rattle.game.proofs.Templates.{CheckedTo, check_starts, check_ends, template_refused, template_loose, template_passes}
-use borrow.Author.Rules.{rules}
+use Rattle.game.proofs.Templates.{check_starts, check_ends, template_refused, template_loose, template_passes}
 use Rattle.game.proofs.check_templates.Goals as goal
 
 pub loop-i-init : goal.loop-i-init

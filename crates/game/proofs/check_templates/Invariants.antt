@@ -1,8 +1,7 @@
 -- `game::check_templates` meets its contract.
 use Prim.Native.Nat.{◌-◌}
 use Rattle.term.specs.Language.{language}
-use Rattle.game.proofs.Templates.{CheckedTo, check_starts, check_ends, template_refused, template_loose, template_passes}
-use borrow.Author.Rules.{rules}
+use Rattle.game.proofs.Templates.{CheckedTo}
 use Rattle.game.proofs.check_templates.Given as goal
 
 abbrev pub invariant-loop-i : goal.invariant-loop-i

@@ -1,7 +1,6 @@
 -- `report_lines::match_state` meets its contract.
 use native.Mathlib.Omega.{arith}
 use Rattle.report_lines.proofs.States.{matched_answer}
-use borrow.Author.Rules.{rules}
 use Rattle.report_lines.proofs.match_state.Goals as goal
 
 pub returns : goal.returns

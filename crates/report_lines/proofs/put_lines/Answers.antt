@@ -1,9 +1,8 @@
 -- `report_lines::put_lines` meets its contract. The invariant: the lines of the states from `state` on are still to be stored. The measure is how
 -- many they are.
-use Prim.Native.Nat.{◌-◌}
 use native.Mathlib.Omega.{arith}
 use Rattle.report_lines.specs.Line.{header}
-use Rattle.report_lines.proofs.Turns.{Turn, state_counted, turn_starts, turn_room, turn_next, turn_done, turn_same}
+use Rattle.report_lines.proofs.Turns.{state_counted, turn_starts, turn_room, turn_next, turn_done, turn_same}
 use Rattle.term.proofs.Pairs.{together}
 use Rattle.term.proofs.Pairs.{together}
 use Rattle.report_lines.proofs.put_lines.Goals as goal

@@ -1,8 +1,7 @@
 -- `report_lines::put_lines` meets its contract. The invariant: the lines of the states from `state` on are still to be stored. The measure is how
 -- many they are.
 use Prim.Native.Nat.{◌-◌}
-use Rattle.report_lines.proofs.Turns.{Turn, state_counted, turn_starts, turn_room, turn_next, turn_done, turn_same}
-use borrow.Author.Rules.{rules}
+use Rattle.report_lines.proofs.Turns.{Turn}
 use Rattle.report_lines.proofs.put_lines.Given as goal
 
 abbrev pub invariant-loop-state : goal.invariant-loop-state

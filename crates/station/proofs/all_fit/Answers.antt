@@ -1,7 +1,6 @@
 -- `station::all_fit` meets its contract. The invariant: the lengths from `i` on decide. The measure is what is left of them.
-use Prim.Native.Nat.{◌≤◌, ◌-◌}
 use native.Mathlib.Omega.{arith}
-use mathlib.Core.Path.{◌≡◌, refl, sym, ◌∙◌}
+use mathlib.Core.Path.{refl, sym, ◌∙◌}
 use Rattle.station.proofs.Checks.{fit_none, fit_over, fit_next, fit_end}
 use Rattle.station.proofs.all_fit.Goals as goal
 

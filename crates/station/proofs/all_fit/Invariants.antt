@@ -1,6 +1,6 @@
 -- `station::all_fit` meets its contract. The invariant: the lengths from `i` on decide. The measure is what is left of them.
 use Prim.Native.Nat.{◌≤◌, ◌-◌}
-use mathlib.Core.Path.{◌≡◌, refl, sym, ◌∙◌}
+use mathlib.Core.Path.{◌≡◌}
 use lib.ListN.{length, drop, take}
 use Rattle.station.specs.Check.{all_fit}
 use Rattle.station.proofs.all_fit.Given as goal

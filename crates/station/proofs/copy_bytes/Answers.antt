@@ -1,10 +1,10 @@
 -- `station::copy_bytes` meets its contract. The invariant: the bytes from `i` on are still to be stored, and those to copy are as they were. The measure
 -- is how many they are.
-use Prim.Native.Nat.{◌≤◌, ◌-◌, ◌+◌}
+use Prim.Native.Nat.{◌+◌}
 use native.Mathlib.Omega.{arith}
 use native.Mathlib.Nat.{add-zero}
 use mathlib.Core.Path.{◌≡◌, refl, sym, ap, ◌∙◌}
-use lib.ListN.{length, drop, take, get_or, length-set}
+use lib.ListN.{drop, take, get_or, length-set}
 use Rattle.station.proofs.Copies.{kept_clear, stretch_at, stretch_length, copy_next, copy_end}
 use Rattle.station.proofs.copy_bytes.Goals as goal
 

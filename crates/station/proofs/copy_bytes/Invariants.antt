@@ -1,8 +1,8 @@
 -- `station::copy_bytes` meets its contract. The invariant: the bytes from `i` on are still to be stored, and those to copy are as they were. The measure
 -- is how many they are.
 use Prim.Native.Nat.{◌≤◌, ◌-◌, ◌+◌}
-use mathlib.Core.Path.{◌≡◌, refl, sym, ap, ◌∙◌}
-use lib.ListN.{length, drop, take, get_or, length-set}
+use mathlib.Core.Path.{◌≡◌}
+use lib.ListN.{length, drop, take}
 use lib.Seq.{sets}
 use Rattle.station.proofs.copy_bytes.Given as goal
 

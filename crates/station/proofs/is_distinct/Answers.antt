@@ -1,7 +1,6 @@
 -- `station::is_distinct` meets its contract. The invariant: the names from `i` on decide. The measure is what is left of them.
-use Prim.Native.Nat.{◌≤◌, ◌-◌}
 use native.Mathlib.Omega.{arith}
-use mathlib.Core.Path.{◌≡◌, refl, sym, ◌∙◌}
+use mathlib.Core.Path.{refl, sym, ◌∙◌}
 use Rattle.station.proofs.Checks.{distinct_twice, distinct_next, distinct_end}
 use Rattle.station.proofs.is_distinct.Goals as goal
 

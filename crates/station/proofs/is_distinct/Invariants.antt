@@ -1,6 +1,6 @@
 -- `station::is_distinct` meets its contract. The invariant: the names from `i` on decide. The measure is what is left of them.
 use Prim.Native.Nat.{◌≤◌, ◌-◌}
-use mathlib.Core.Path.{◌≡◌, refl, sym, ◌∙◌}
+use mathlib.Core.Path.{◌≡◌}
 use lib.ListN.{length, drop, take}
 use Rattle.station.specs.Check.{distinct}
 use Rattle.station.proofs.is_distinct.Given as goal

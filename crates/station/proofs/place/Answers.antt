@@ -1,7 +1,6 @@
 -- `station::place` meets its contract. The invariant: the place is the one from `i` on. The measure is what is left of the names.
-use Prim.Native.Nat.{◌≤◌, ◌-◌, ◌+◌}
 use native.Mathlib.Omega.{arith}
-use mathlib.Core.Path.{◌≡◌, refl, sym, ◌∙◌}
+use mathlib.Core.Path.{refl, sym, ◌∙◌}
 use Rattle.station.proofs.Checks.{place_here, place_next, place_end}
 use Rattle.station.proofs.place.Goals as goal
 

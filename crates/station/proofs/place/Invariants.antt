@@ -1,6 +1,6 @@
 -- `station::place` meets its contract. The invariant: the place is the one from `i` on. The measure is what is left of the names.
 use Prim.Native.Nat.{◌≤◌, ◌-◌, ◌+◌}
-use mathlib.Core.Path.{◌≡◌, refl, sym, ◌∙◌}
+use mathlib.Core.Path.{◌≡◌}
 use lib.ListN.{length, drop, take}
 use Rattle.station.specs.Check.{place_of}
 use Rattle.station.proofs.place.Given as goal

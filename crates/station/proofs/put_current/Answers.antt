@@ -1,8 +1,7 @@
 -- `station::put_current` meets its contract. The invariant: the bytes from `i` on are still to be stored. The measure is how many they are.
-use Prim.Native.Nat.{◌≤◌, ◌-◌}
 use native.Mathlib.Omega.{arith}
-use mathlib.Core.Path.{◌≡◌, refl, sym, ◌∙◌}
-use lib.ListN.{length, drop, get_or, length-set}
+use mathlib.Core.Path.{refl, sym, ◌∙◌}
+use lib.ListN.{get_or, length-set}
 use Rattle.station.proofs.Copies.{front_next, front_end}
 use Rattle.station.proofs.put_current.Goals as goal
 

@@ -1,8 +1,8 @@
 -- `station::put_current` meets its contract. The invariant: the bytes from `i` on are still to be stored. The measure is how many they are.
 use Prim.Native.Nat.{◌≤◌, ◌-◌}
-use mathlib.Core.Path.{◌≡◌, refl, sym, ◌∙◌}
+use mathlib.Core.Path.{◌≡◌}
 use lib.Seq.{sets}
-use lib.ListN.{length, drop, get_or, length-set}
+use lib.ListN.{length, drop}
 use Rattle.station.proofs.put_current.Given as goal
 
 abbrev pub invariant-loop-i : goal.invariant-loop-i
