@@ -45,7 +45,7 @@ loop-at-preserved-then-entry-lt-LIST c = let turn = c.loop-at in (
   omega arith,
   rw c.wide-end.ensures
       (pass_fixed _ _ turn.invariant.2 c.loop-at-test.true _ _ (omega arith) c.wide-entry_at.ensures (omega arith) refl
-      (omega (arith, turn.invariant.2.few, c.if-parents-eq-FEW_PARENTS.false)) c.if-entry-lt-LIST.true),
+      (omega (arith, turn.invariant.2.few)) c.if-entry-lt-LIST.true),
 )
 
 pub overflow_add-end-in-loop-at : goal.overflow_add-end-in-loop-at
@@ -71,7 +71,7 @@ loop-at-preserved c = let turn = c.loop-at in (
   turn.invariant.0,
   omega arith,
   pass_list _ _ turn.invariant.2 c.loop-at-test.true _ _ (omega arith) c.wide-entry_at.ensures (omega arith) refl _
-      (omega (arith, turn.invariant.2.few, c.if-parents-eq-FEW_PARENTS.false)) (omega (arith, c.if-entry-lt-LIST.false, c.type_inv.table c.wide-entry_at.result))
+      (omega (arith, turn.invariant.2.few)) (omega (arith, c.if-entry-lt-LIST.false, c.type_inv.table c.wide-entry_at.result))
       (omega arith) c.wide.ensures,
 )
 
