@@ -23,11 +23,11 @@ use Rattle.anti_pattern.specs.Search.{finish, behind, search}
 use Rattle.anti_pattern.specs.Variables.{among, NoName, free_runs}
 use Rattle.anti_pattern.proofs.Alike.{term_eq, one_refl}
 use Rattle.anti_pattern.proofs.Answers.{spent_exactly, none_exactly, bound_exactly, larger_allowance}
-use Rattle.anti_pattern.proofs.Cost.{cost_bound as cost-told}
+use Rattle.anti_pattern.proofs.Cost.{cost_bound as cost_told}
 use Rattle.anti_pattern.proofs.Crossed.{ride_language, crossed, sides, left_first, right_first, left_in, right_out}
 use Rattle.anti_pattern.proofs.First.{found_first, failed_none, equal_lengths}
 use Rattle.anti_pattern.proofs.OverTable.{satisfies_over}
-use Rattle.anti_pattern.proofs.Following.{next_exact as next_told, every_answer as every-told}
+use Rattle.anti_pattern.proofs.Following.{next_exact as next_told, every_answer as every_told}
 use Rattle.anti_pattern.proofs.Placed.{free_placed, others_absent, shown_at_first_place}
 use Rattle.anti_pattern.proofs.Published.{published_agrees as published}
 use Rattle.anti_pattern.proofs.Renamed.{any_way, some_way, no_clash}
@@ -61,7 +61,7 @@ module _ (l : Language) (k : Alike l.table l.classes) (q : Pattern) (t : Term) (
     next_exact given allowance = next_told l k q t g apart given allowance
 
     pub every_answer : ((v : ℕ) → among v (free_runs q) ≡ true → v < variables) → EveryAnswer l q t
-    every_answer few = every-told l k q t g apart few
+    every_answer few = every_told l k q t g apart few
 
   pub published_agrees : (n : NoRuns q) (allowance : ℕ) → PublishedAgrees l q t n allowance
   published_agrees n allowance = published l q t g n k allowance
@@ -74,7 +74,7 @@ over_table l c q t g a = (
 
 -- in any language, of any term
 pub cost_bound : (l : Language) (q : Pattern) → NoRuns q → (t : Term) → CostBound l q t
-cost_bound = cost-told
+cost_bound = cost_told
 
 pub choices_agree : (l : Language) (q : Anti ℕ) (t : Term) → TermOf l t → ChoicesAgree l q t
 choices_agree l q t g = record {

@@ -182,22 +182,22 @@ module _ {X : Type 0} where
     pub outermost? : (q : Anti X) → Dec (Outermost q)
     outermost? (var x) = no (λ ω. ω)
     outermost? (neg q) = yes tt
-    outermost? (app f qs) = outermostIn? qs
+    outermost? (app f qs) = outermost_in? qs
 
-    outermostIn? : (qs : Antis X) → Dec (OutermostIn qs)
-    outermostIn? ε = no (λ ω. ω)
-    outermostIn? (q ▸ qs) = either? (outermost? q) (outermostIn? qs)
+    outermost_in? : (qs : Antis X) → Dec (OutermostIn qs)
+    outermost_in? ε = no (λ ω. ω)
+    outermost_in? (q ▸ qs) = either? (outermost? q) (outermost_in? qs)
 
   module _ (same? : (x y : X) → Dec (x ≡ y)) where
     unfoldable mutual
       pub occurs? : (x : X) (q : Anti X) → Dec (Occurs x q)
       occurs? x (var y) = same? x y
       occurs? x (neg q) = occurs? x q
-      occurs? x (app f qs) = occursIn? x qs
+      occurs? x (app f qs) = occurs_in? x qs
 
-      occursIn? : (x : X) (qs : Antis X) → Dec (OccursIn x qs)
-      occursIn? x ε = no (λ h. h)
-      occursIn? x (q ▸ qs) = either? (occurs? x q) (occursIn? x qs)
+      occurs_in? : (x : X) (qs : Antis X) → Dec (OccursIn x qs)
+      occurs_in? x ε = no (λ h. h)
+      occurs_in? x (q ▸ qs) = either? (occurs? x q) (occurs_in? x qs)
 
 module _ (l : Language) {X : Type 0} where
   -- terms of the language

@@ -81,7 +81,7 @@ module _ {X : Type 0} (brought : Brought) (width : ℕ) (own : Verdict X) where
       go true false c e = faults_same e
       go false b c e = faults_same e
 
-  -- Accepted input is a brought.table that is accepted and an own reading that passes
+  -- Accepted input is a brought table that is accepted and an own reading that passes
   module _ (Accepted : X → Type 0) (reads : (x : X) → Accepted x ↔ ((table_accepted brought.table ≡ true) × (own ≡ passed x))) (x : X) where
     pub passed_exactly : (checks brought width own ≡ passed x) ↔ ((answer_width ≤ width) × (brought_accepted brought ≡ true) × Accepted x)
     passed_exactly = (

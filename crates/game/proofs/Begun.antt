@@ -194,29 +194,29 @@ module _ (l : Language) (a : ℕ) where
           rw (answer_within l g.goal t a (ltb-false a c e), answer_within l g.goal t c (omega arith), e) (by o)
 
   -- a rule, by what follows its move and what comes after
-  at_begun : {A : Type 0} (r : Rule) (t : Term) (limited free : Term → Ruling A) (limitedNext freeNext : Unit {0} → Ruling A) (follow : Term → Searches) (rest : Searches)
-      → ((u : Term) → limited u ≡ stop_if (over l a (follow u)) (free u)) → limitedNext tt ≡ stop_if (over l a rest) (freeNext tt)
-      → at_turn (turn l (each a) r t) limited limitedNext
-      ≡ stop_if (over l a ((r.pattern, t) ∷ if_move (turn l (count_of l) r t) follow rest)) (at_turn (turn l (count_of l) r t) free freeNext)
-  at_begun {A} r t limited free limitedNext freeNext follow rest h k = go (ltb a c) refl
+  at_begun : {A : Type 0} (r : Rule) (t : Term) (limited free : Term → Ruling A) (limited_next free_next : Unit {0} → Ruling A) (follow : Term → Searches) (rest : Searches)
+      → ((u : Term) → limited u ≡ stop_if (over l a (follow u)) (free u)) → limited_next tt ≡ stop_if (over l a rest) (free_next tt)
+      → at_turn (turn l (each a) r t) limited limited_next
+      ≡ stop_if (over l a ((r.pattern, t) ∷ if_move (turn l (count_of l) r t) follow rest)) (at_turn (turn l (count_of l) r t) free free_next)
+  at_begun {A} r t limited free limited_next free_next follow rest h k = go (ltb a c) refl
     where
       c : ℕ
       c = count_of l r.pattern t
 
-      by : (x : Turn) → at_turn x limited limitedNext ≡ stop_if (over l a (if_move x follow rest)) (at_turn x free freeNext)
+      by : (x : Turn) → at_turn x limited limited_next ≡ stop_if (over l a (if_move x follow rest)) (at_turn x free free_next)
       by (to u) = h u
       by nowhere = k
       by spends = sym (stop_stopped (over l a rest))
 
-      go : (b : Bool) → ltb a c ≡ b → at_turn (turn l (each a) r t) limited limitedNext
-          ≡ stop_if (ltb a c || over l a (if_move (turn l (count_of l) r t) follow rest)) (at_turn (turn l (count_of l) r t) free freeNext)
+      go : (b : Bool) → ltb a c ≡ b → at_turn (turn l (each a) r t) limited limited_next
+          ≡ stop_if (ltb a c || over l a (if_move (turn l (count_of l) r t) follow rest)) (at_turn (turn l (count_of l) r t) free free_next)
       go true e =
-          ap (λ (x : Turn). at_turn x limited limitedNext) (turn_over l (each a) r t e)
-          ∙ sym (ap (λ (b : Bool). stop_if (b || over l a (if_move (turn l (count_of l) r t) follow rest)) (at_turn (turn l (count_of l) r t) free freeNext)) e)
+          ap (λ (x : Turn). at_turn x limited limited_next) (turn_over l (each a) r t e)
+          ∙ sym (ap (λ (b : Bool). stop_if (b || over l a (if_move (turn l (count_of l) r t) follow rest)) (at_turn (turn l (count_of l) r t) free free_next)) e)
       go false e =
-          ap (λ (x : Turn). at_turn x limited limitedNext) (turn_settled l (each a) r t (ltb-false a c e) ∙ sym (turn_settled l (count_of l) r t (omega arith)))
+          ap (λ (x : Turn). at_turn x limited limited_next) (turn_settled l (each a) r t (ltb-false a c e) ∙ sym (turn_settled l (count_of l) r t (omega arith)))
           ∙ by (turn l (count_of l) r t)
-          ∙ sym (ap (λ (b : Bool). stop_if (b || over l a (if_move (turn l (count_of l) r t) follow rest)) (at_turn (turn l (count_of l) r t) free freeNext)) e)
+          ∙ sym (ap (λ (b : Bool). stop_if (b || over l a (if_move (turn l (count_of l) r t) follow rest)) (at_turn (turn l (count_of l) r t) free free_next)) e)
 
   loader_begun_holds : (limited free : Term → Ruling (Unit {0})) (follow : Term → Searches) → ((u : Term) → limited u ≡ stop_if (over l a (follow u)) (free u))
       → (t : Term) (i : ℕ) (moved : Bool) (rs : List Rule)

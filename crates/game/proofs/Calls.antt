@@ -165,13 +165,13 @@ told_spent n stopped e = (refl, refl)
 passed_same : {X : Type 0} {x y : X} → ◌≡◌ {A = Verdict X} (passed x) (passed y) → x ≡ y
 passed_same e = cc
 
-module _ (turns : ℕ) (brought : Brought) (s : Sheets) (bytes : List ℕ) (loader-octets : Octets s.loader) (loader-templates-octets : Octets s.loader_templates)
-    (sender-octets : Octets s.sender) (sender-templates-octets : Octets s.sender_templates) (goal-octets : Octets s.goal) (record-octets : Octets bytes) where
+module _ (turns : ℕ) (brought : Brought) (s : Sheets) (bytes : List ℕ) (loader_octets : Octets s.loader) (loader_templates_octets : Octets s.loader_templates)
+    (sender_octets : Octets s.sender) (sender_templates_octets : Octets s.sender_templates) (goal_octets : Octets s.goal) (record_octets : Octets bytes) where
   abbrev l : Language
   l = language_of brought
 
-  abbrev Read-as : Trees → Type 0
-  Read-as x = Input (language_of brought) s bytes (game x) x.1.1
+  abbrev ReadAs : Trees → Type 0
+  ReadAs x = Input (language_of brought) s bytes (game x) x.1.1
 
   abbrev loading : Verdict (List Rule)
   loading = side brought s.loader s.loader_templates
@@ -180,15 +180,15 @@ module _ (turns : ℕ) (brought : Brought) (s : Sheets) (bytes : List ℕ) (load
   sending = side brought s.sender s.sender_templates
 
   -- accepted input is what is read
-  reads : brought_accepted brought ≡ true → (x : Trees) → Read-as x ↔ ((table_accepted brought.table ≡ true) × (trees (with brought s) bytes ≡ passed x))
+  reads : brought_accepted brought ≡ true → (x : Trees) → ReadAs x ↔ ((table_accepted brought.table ≡ true) × (trees (with brought s) bytes ≡ passed x))
   reads k x = (
     λ i. (
       i.table_accepted_holds,
       rw (
-        side_read brought s.loader s.loader_templates i.table_accepted_holds k loader-octets loader-templates-octets x.0.0 i.loader,
-        side_read brought s.sender s.sender_templates i.table_accepted_holds k sender-octets sender-templates-octets x.0.1 i.sender,
-        (pattern_iff l s.goal goal-octets x.1.0).1 (i.goal_bytes, i.goal_accepted),
-        (record_iff l bytes record-octets x.1.1).1 (i.record_bytes, i.record_accepted),
+        side_read brought s.loader s.loader_templates i.table_accepted_holds k loader_octets loader_templates_octets x.0.0 i.loader,
+        side_read brought s.sender s.sender_templates i.table_accepted_holds k sender_octets sender_templates_octets x.0.1 i.sender,
+        (pattern_iff l s.goal goal_octets x.1.0).1 (i.goal_bytes, i.goal_accepted),
+        (record_iff l bytes record_octets x.1.1).1 (i.record_bytes, i.record_accepted),
       ),
     ),
     λ e.
@@ -197,11 +197,11 @@ module _ (turns : ℕ) (brought : Brought) (s : Sheets) (bytes : List ℕ) (load
         let c = every.both_passed (reading (read_pattern l s.goal)) (reading (read_record l bytes)) x.1.0 x.1.1 a.1 in
         let p = every.reading_passed (read_pattern l s.goal) x.1.0 c.0 in
         let r = every.reading_passed (read_record l bytes) x.1.1 c.1 in
-        let y = pattern_read l s.goal goal-octets p.0 x.1.0 p.1 in
-        let t = record_read l bytes record-octets r.0 x.1.1 r.1 in record {
+        let y = pattern_read l s.goal goal_octets p.0 x.1.0 p.1 in
+        let t = record_read l bytes record_octets r.0 x.1.1 r.1 in record {
           table_accepted_holds = e.0;
-          loader = read_side brought s.loader s.loader_templates e.0 k loader-octets loader-templates-octets x.0.0 b.0;
-          sender = read_side brought s.sender s.sender_templates e.0 k sender-octets sender-templates-octets x.0.1 b.1;
+          loader = read_side brought s.loader s.loader_templates e.0 k loader_octets loader_templates_octets x.0.0 b.0;
+          sender = read_side brought s.sender s.sender_templates e.0 k sender_octets sender_templates_octets x.0.1 b.1;
           goal_bytes = y.0;
           goal_accepted = y.1;
           record_bytes = t.0;
@@ -209,15 +209,15 @@ module _ (turns : ℕ) (brought : Brought) (s : Sheets) (bytes : List ℕ) (load
         },
   )
 
-  checked_from : turns ≤ most_turns → brought_accepted brought ≡ true → (x : Trees) → Read-as x → checked turns (with brought s) bytes ≡ passed x
+  checked_from : turns ≤ most_turns → brought_accepted brought ≡ true → (x : Trees) → ReadAs x → checked turns (with brought s) bytes ≡ passed x
   checked_from h a x i =
-      rw (le-leb turns most_turns h) ((every.passed_exactly brought answer_width (trees (with brought s) bytes) Read-as (reads a) x).1 (omega arith, a, i))
+      rw (le-leb turns most_turns h) ((every.passed_exactly brought answer_width (trees (with brought s) bytes) ReadAs (reads a) x).1 (omega arith, a, i))
 
-  checked_to : (x : Trees) → checked turns (with brought s) bytes ≡ passed x → (turns ≤ most_turns) × (brought_accepted brought ≡ true) × Read-as x
+  checked_to : (x : Trees) → checked turns (with brought s) bytes ≡ passed x → (turns ≤ most_turns) × (brought_accepted brought ≡ true) × ReadAs x
   checked_to x e = go (leb turns most_turns) refl e
     where
       go : (b : Bool) → leb turns most_turns ≡ b → check b Turns (checks brought answer_width (trees (with brought s) bytes)) ≡ passed x
-          → (turns ≤ most_turns) × (brought_accepted brought ≡ true) × Read-as x
+          → (turns ≤ most_turns) × (brought_accepted brought ≡ true) × ReadAs x
       go false h e = absurd (every.fault_passed e)
       go true h e =
           let a = every.passed_checks brought answer_width (trees (with brought s) bytes) x e in
@@ -294,19 +294,19 @@ module _ (turns : ℕ) (brought : Brought) (s : Sheets) (bytes : List ℕ) (load
     unfolding play_of
     demanded = demanded_by (checked turns (with brought s) bytes) refl
 
-    abbrev Called-as : Played → Type 0
-    Called-as a = Called turns (with brought s) bytes allowance a
+    abbrev CalledAs : Played → Type 0
+    CalledAs a = Called turns (with brought s) bytes allowance a
 
-    called : (a : Played) → a ≡ play_of turns (with brought s) bytes allowance → Called-as a
+    called : (a : Played) → a ≡ play_of turns (with brought s) bytes allowance → CalledAs a
     called a e = (e, subst (Demanded turns (with brought s) bytes allowance) (sym e) demanded)
 
     -- the code's answer where a check fails, and where all pass
-    pub play_fails : (r : Refusal) (i : ℕ) → check_of (checked turns (with brought s) bytes) ≡ Failed r i → Called-as (Played.Refused r i)
+    pub play_fails : (r : Refusal) (i : ℕ) → check_of (checked turns (with brought s) bytes) ≡ Failed r i → CalledAs (Played.Refused r i)
     unfolding play_of
     play_fails r i e = called (Played.Refused r i) (rw (check_failed (checked turns (with brought s) bytes) r i e))
 
     pub play_passes : (classes : List ℕ) → classes ≡ classes_of brought → check_of (checked turns (with brought s) bytes) ≡ Passed → (a : Played)
-        → Plays (language brought.edition brought.table classes) s allowance turns bytes a → Called-as a
+        → Plays (language brought.edition brought.table classes) s allowance turns bytes a → CalledAs a
     unfolding play_of
     play_passes classes is e a f =
         let x = check_passed (checked turns (with brought s) bytes) e in

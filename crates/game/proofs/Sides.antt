@@ -19,7 +19,7 @@ use Rattle.sheet.proofs.Entries.{part_entry, entries_at}
 use Rattle.sheet.proofs.Readings.{written_read, written_directed, written_length, written_edition}
 use Rattle.replace.specs.Call.{Input as ReplaceInput}
 use Rattle.rules.specs.Call.{AllAccepted, rules_bytes}
-use Rattle.rules.proofs.Rules.{rule_at as patternAt, rule_bytes, rules_none_empty}
+use Rattle.rules.proofs.Rules.{rule_at as pattern_at, rule_bytes, rules_none_empty}
 use Rattle.game.specs.Accepted.{RuleAccepted, EachAccepted}
 use Rattle.game.specs.Call.{patterns, templates, Side}
 use Rattle.game.specs.Move.{Rule, rule_at}
@@ -54,12 +54,12 @@ rule_accepted l [] i x a e = absurd (no_some e)
 rule_accepted l (r ∷ rs) zero x a e = subst (RuleAccepted l) (some_rule e) a.0
 rule_accepted l (r ∷ rs) (suc i) x a e = rule_accepted l rs i x a.1 e
 
-pattern_of_holds : (rs : List Rule) (i : ℕ) (x : Rule) → rule_at rs i ≡ some x → patternAt (patterns rs) i ≡ x.pattern
+pattern_of_holds : (rs : List Rule) (i : ℕ) (x : Rule) → rule_at rs i ≡ some x → pattern_at (patterns rs) i ≡ x.pattern
 pattern_of_holds [] i x e = absurd (no_some e)
 pattern_of_holds (r ∷ rs) zero x e = ap (λ (y : Rule). y.pattern) (some_rule e)
 pattern_of_holds (r ∷ rs) (suc i) x e = pattern_of_holds rs i x e
 
-template_of : (rs : List Rule) (i : ℕ) (x : Rule) → rule_at rs i ≡ some x → patternAt (templates rs) i ≡ x.template
+template_of : (rs : List Rule) (i : ℕ) (x : Rule) → rule_at rs i ≡ some x → pattern_at (templates rs) i ≡ x.template
 template_of [] i x e = absurd (no_some e)
 template_of (r ∷ rs) zero x e = ap (λ (y : Rule). y.template) (some_rule e)
 template_of (r ∷ rs) (suc i) x e = template_of rs i x e
@@ -95,21 +95,21 @@ module _ (l : Language) (sheet : List ℕ) (qs : List Pattern) (e : sheet_bytes 
   pub written_like : edition_of sheet ≡ l.edition
   written_like = ap edition_of (sym e) ∙ written_edition l.edition (rules_bytes l.table qs) few_entries
 
-  written_part : (i : ℕ) → i < length qs → pattern_bytes l.table (patternAt qs i) [] ≡ part_at sheet i
+  written_part : (i : ℕ) → i < length qs → pattern_bytes l.table (pattern_at qs i) [] ≡ part_at sheet i
   written_part i b =
       sym (rule_bytes l.table qs i b) ∙ ap (λ (es : List (List ℕ)). get_or es i []) (sym written_entries) ∙ part_of_holds sheet (length qs) i written_sheet b
 
-module _ (l : Language) (ruleSheet templateSheet : List ℕ) (rs : List Rule) (side : Side l ruleSheet templateSheet rs) where
-  pub side_counted : entry_count ruleSheet ≡ length rs
-  side_counted = (written_sheet l ruleSheet (patterns rs) side.rules_bytes_holds side.rules_short).counted ∙ length-map rs (λ r. r.pattern)
+module _ (l : Language) (rule_sheet template_sheet : List ℕ) (rs : List Rule) (side : Side l rule_sheet template_sheet rs) where
+  pub side_counted : entry_count rule_sheet ≡ length rs
+  side_counted = (written_sheet l rule_sheet (patterns rs) side.rules_bytes_holds side.rules_short).counted ∙ length-map rs (λ r. r.pattern)
 
   -- with a state, the parts of an index are input that is accepted for a replacement
   module _ (tabled : table_accepted l.table ≡ true) (t : Term) (bytes : List ℕ) (stands : term_bytes l.table t [] ≡ bytes) (st : TermAccepted l t) where
-    pub side_input : (i : ℕ) (x : Rule) → rule_at rs i ≡ some x → ReplaceInput l (part_at ruleSheet i) (part_at templateSheet i) bytes x.pattern x.template t
+    pub side_input : (i : ℕ) (x : Rule) → rule_at rs i ≡ some x → ReplaceInput l (part_at rule_sheet i) (part_at template_sheet i) bytes x.pattern x.template t
     side_input i x e =
         let b = rule_below rs i x e in
-        let m = written_part l ruleSheet (patterns rs) side.rules_bytes_holds side.rules_short i (omega (arith, b, length-map rs (λ r. r.pattern))) in
-        let n = written_part l templateSheet (templates rs) side.templates_bytes side.templates_short i (omega (arith, b, length-map rs (λ r. r.template))) in
+        let m = written_part l rule_sheet (patterns rs) side.rules_bytes_holds side.rules_short i (omega (arith, b, length-map rs (λ r. r.pattern))) in
+        let n = written_part l template_sheet (templates rs) side.templates_bytes side.templates_short i (omega (arith, b, length-map rs (λ r. r.template))) in
         let a = rule_accepted l rs i x side.accepted e in
         record {
           matched = record {

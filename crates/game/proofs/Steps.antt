@@ -23,7 +23,7 @@ use Rattle.anti_pattern.specs.Language.{Language, language, Classed}
 use Rattle.parts.specs.Shown.{answer_width}
 use Rattle.link.specs.Input.{Input as MatchInput}
 use Rattle.link.proofs.Linked.{linked}
-use Rattle.matcher.specs.Call.{told as matchTold, answer_on_bytes}
+use Rattle.matcher.specs.Call.{told as match_told, answer_on_bytes}
 use Rattle.replace.specs.Call.{Input as ReplaceInput, Replacement, result, nothing as unbound, spent as overspent, replacement, measured, unless_full, written}
 use Rattle.replace.specs.Demands.{Applies}
 use Rattle.replace.specs.Growth.{within_limits}
@@ -56,29 +56,29 @@ sender_first l allowance g (suc n) t = refl
 
 -- by what the match tells
 
-goal_bound : {A : Type 0} (a : A) (x : Matching) (next : Unit {0} → Ruling A) (n : ℕ) → matchTold x ≡ Answer.Bound n → goal_first a x next ≡ forced a
+goal_bound : {A : Type 0} (a : A) (x : Matching) (next : Unit {0} → Ruling A) (n : ℕ) → match_told x ≡ Answer.Bound n → goal_first a x next ≡ forced a
 goal_bound a (bound ps m) next n e = refl
 goal_bound a (nothing m) next n e = let z : ◌≡◌ {A = ℕ} 0 1 = cc in absurd (omega arith)
 goal_bound a (spent m) next n e = let z : ◌≡◌ {A = ℕ} 0 1 = cc in absurd (omega arith)
 
-goal_none : {A : Type 0} (a : A) (x : Matching) (next : Unit {0} → Ruling A) (n : ℕ) → matchTold x ≡ Answer.None n → goal_first a x next ≡ next tt
+goal_none : {A : Type 0} (a : A) (x : Matching) (next : Unit {0} → Ruling A) (n : ℕ) → match_told x ≡ Answer.None n → goal_first a x next ≡ next tt
 goal_none a (bound ps m) next n e = let z : ◌≡◌ {A = ℕ} 0 1 = cc in absurd (omega arith)
 goal_none a (nothing m) next n e = refl
 goal_none a (spent m) next n e = let z : ◌≡◌ {A = ℕ} 0 1 = cc in absurd (omega arith)
 
-goal_spent : {A : Type 0} (a : A) (x : Matching) (next : Unit {0} → Ruling A) (n : ℕ) → matchTold x ≡ Answer.Spent n → goal_first a x next ≡ stopped
+goal_spent : {A : Type 0} (a : A) (x : Matching) (next : Unit {0} → Ruling A) (n : ℕ) → match_told x ≡ Answer.Spent n → goal_first a x next ≡ stopped
 goal_spent a (bound ps m) next n e = let z : ◌≡◌ {A = ℕ} 0 1 = cc in absurd (omega arith)
 goal_spent a (nothing m) next n e = let z : ◌≡◌ {A = ℕ} 0 1 = cc in absurd (omega arith)
 goal_spent a (spent m) next n e = refl
 
-goal_refused : (x : Matching) (r : Refusal) → matchTold x ≡ Answer.Refused r → ⊥
+goal_refused : (x : Matching) (r : Refusal) → match_told x ≡ Answer.Refused r → ⊥
 goal_refused (bound ps m) r e = let z : ◌≡◌ {A = ℕ} 0 1 = cc in omega arith
 goal_refused (nothing m) r e = let z : ◌≡◌ {A = ℕ} 0 1 = cc in omega arith
 goal_refused (spent m) r e = let z : ◌≡◌ {A = ℕ} 0 1 = cc in omega arith
 
 module _ (l : Language) (s : Sheets) (allowance : ℕ) where
   goal_told : (state : List ℕ) (a : Answer) → a ≡ answer_on_bytes l.table l.classes s.goal state allowance answer_width → Classed l
-      → (g : Game) (t : Term) → Input l s state g t → matchTold (answer l g.goal t allowance) ≡ a
+      → (g : Game) (t : Term) → Input l s state g t → match_told (answer l g.goal t allowance) ≡ a
   unfolding answer_on_bytes
   goal_told state a e k g t i =
       let m : MatchInput l s.goal state g.goal t = record {
@@ -88,7 +88,7 @@ module _ (l : Language) (s : Sheets) (allowance : ℕ) where
         record_bytes = i.record_bytes;
         record_accepted = i.record_accepted;
       } in
-      ap matchTold (linked l s.goal state (classed_alike l k) g.goal t m allowance) ∙ sym e
+      ap match_told (linked l s.goal state (classed_alike l k) g.goal t m allowance) ∙ sym e
 
   module _ (left : ℕ) (state : List ℕ) (a : Answer) (e : a ≡ answer_on_bytes l.table l.classes s.goal state allowance answer_width) where
     module _ (n : ℕ) where
@@ -186,7 +186,7 @@ module _ (l : Language) (s : Sheets) (allowance : ℕ) where
   told_accepted r t spends u d e = let z : ◌≡◌ {A = ℕ} 0 1 = cc in absurd (omega arith)
 
   -- the rule of an index at a state of accepted input
-  module _ (rules templates : List ℕ) (state : List ℕ) (i : ℕ) (rule template : List ℕ) (is_rule : rule ≡ part_at rules i) (is-template : template ≡ part_at templates i)
+  module _ (rules templates : List ℕ) (state : List ℕ) (i : ℕ) (rule template : List ℕ) (is_rule : rule ≡ part_at rules i) (is_template : template ≡ part_at templates i)
       (before : List ℕ) (room : length before ≡ longest_record) (a : Applied) (after : List ℕ)
       (applies : Applies l rule template state allowance before a after) where
     rule_applied : Classed l → (g : Game) (t : Term) → Input l s state g t → (rs : List Rule) → Side l rules templates rs
@@ -196,7 +196,7 @@ module _ (l : Language) (s : Sheets) (allowance : ℕ) where
         let both = side_input l rules templates rs side j.table_accepted_holds t state j.record_bytes j.record_accepted i x e in
         let c = applies.answer k x.pattern x.template t
         (subst (λ (y : List ℕ). ReplaceInput l y template state x.pattern x.template t) (sym is_rule)
-        (subst (λ (y : List ℕ). ReplaceInput l (part_at rules i) y state x.pattern x.template t) (sym is-template) both)) in
+        (subst (λ (y : List ℕ). ReplaceInput l (part_at rules i) y state x.pattern x.template t) (sym is_template) both)) in
         rw (c.0, c.1) (applying l (replacement l x.pattern x.template t allowance) before room)
 
 turn_spent : (table : List ℕ) (x : Replacement) (after : List ℕ) (a : Applied) (n : ℕ) → Applying table x after a → a ≡ Applied.Spent n → turn_by table x ≡ spends
@@ -229,18 +229,18 @@ turn_bound table x after a m n (over k h) e = let z : ◌≡◌ {A = ℕ} 0 1 = 
 
 module _ (own : Edition) (table classes : List ℕ) (s : Sheets) (allowance left : ℕ) (i : ℕ) (state rule template : List ℕ) (before : List ℕ) (room : length before ≡ longest_record)
     (a : Applied) (after : List ℕ) (edition : Edition) (like : edition ≡ own)
-    (appliesTold : Applies (language edition table classes) rule template state allowance before a after) where
+    (applies_told : Applies (language edition table classes) rule template state allowance before a after) where
   abbrev l : Language
   l = language own table classes
 
   applies : Applies l rule template state allowance before a after
-  applies = subst (λ (x : Edition). Applies (language x table classes) rule template state allowance before a after) like appliesTold
+  applies = subst (λ (x : Edition). Applies (language x table classes) rule template state allowance before a after) like applies_told
 
-  module _ (is_rule : rule ≡ part_at s.loader i) (is-template : template ≡ part_at s.loader_templates i) where
+  module _ (is_rule : rule ≡ part_at s.loader i) (is_template : template ≡ part_at s.loader_templates i) where
     loader_applied : Classed l → (g : Game) (t : Term) → Input l s state g t → (x : Rule) → rule_at g.loader i ≡ some x
         → Applying l.table (replacement l x.pattern x.template t allowance) after a
     loader_applied k g t j x e =
-        rule_applied l s allowance s.loader s.loader_templates state i rule template is_rule is-template before room a after applies k g t j g.loader j.loader x e
+        rule_applied l s allowance s.loader s.loader_templates state i rule template is_rule is_template before room a after applies k g t j g.loader j.loader x e
 
     pub loader_rule_spent : (n : ℕ) → a ≡ Applied.Spent n → LoaderRule l s allowance left i state Stopped
     unfolding LoaderRule
@@ -269,11 +269,11 @@ module _ (own : Edition) (table classes : List ℕ) (s : Sheets) (allowance left
         ∙ ap (λ (y : ℕ). told_left (sender_turn l (each allowance) g y c.0)) z
         ∙ sym (ap (λ (y : Turn). followed y (λ u. told_left (sender_turn l (each allowance) g p u))) c.1)
 
-  module _ (is_rule : rule ≡ part_at s.sender i) (is-template : template ≡ part_at s.sender_templates i) where
+  module _ (is_rule : rule ≡ part_at s.sender i) (is_template : template ≡ part_at s.sender_templates i) where
     sender_applied : Classed l → (g : Game) (t : Term) → Input l s state g t → (x : Rule) → rule_at g.sender i ≡ some x
         → Applying l.table (replacement l x.pattern x.template t allowance) after a
     sender_applied k g t j x e =
-        rule_applied l s allowance s.sender s.sender_templates state i rule template is_rule is-template before room a after applies k g t j g.sender j.sender x e
+        rule_applied l s allowance s.sender s.sender_templates state i rule template is_rule is_template before room a after applies k g t j g.sender j.sender x e
 
     pub sender_rule_spent : (n : ℕ) → a ≡ Applied.Spent n → SenderRule l s allowance left i state Stopped
     unfolding SenderRule
@@ -293,12 +293,12 @@ module _ (own : Edition) (table classes : List ℕ) (s : Sheets) (allowance left
     pub sender_rule_bound : (m n : ℕ) → a ≡ Applied.Bound m n → (below : ℕ) → left ≡ below + 1 → (next : List ℕ) → next ≡ take n after → (q : Played)
         → LoaderTurns l s allowance below next q → (r : Left) → r ≡ left_by q → SenderRule l s allowance left i state r
     unfolding SenderRule LoaderTurns
-    sender_rule_bound m n h below b next is_next q f r is-left k g t j p x d e =
+    sender_rule_bound m n h below b next is_next q f r is_left k g t j p x d e =
         let c = turn_bound _ _ after a m n (sender_applied k g t j x e) h in
         let ok = rule_accepted l g.sender i x j.sender.accepted e in
         let w = told_accepted l s allowance x t _ c.0 (turn_told l (classed_alike l k) j.table_accepted_holds x ok t j.record_accepted (each allowance)) c.1 in
         let z : below ≡ p = omega (arith, b, d) in
-        is-left ∙ ap left_by (f k g c.0 (next_input l s allowance state next g t c.0 j w (sym c.2 ∙ sym is_next)))
+        is_left ∙ ap left_by (f k g c.0 (next_input l s allowance state next g t c.0 j w (sym c.2 ∙ sym is_next)))
         ∙ ap (λ (y : ℕ). left_by (told allowance (loader_turn l (each allowance) g y c.0))) z
         ∙ sym (ap (λ (y : Turn). followed y (λ u. left_by (told allowance (loader_turn l (each allowance) g p u)))) c.1)
 

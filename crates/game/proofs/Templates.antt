@@ -40,7 +40,7 @@ use Rattle.replace.specs.Loose.{loose}
 use Rattle.replace.proofs.Templates.{template_exactly}
 use Rattle.rules.specs.Call.{AllAccepted, rules_bytes, rules_by, rules_of}
 use Rattle.rules.proofs.Checks.{rules_length, rules_read, rules_written, rules_passed}
-use Rattle.rules.proofs.Rules.{rule_at as patternAt, rule_bytes, rule_accepted}
+use Rattle.rules.proofs.Rules.{rule_at as pattern_at, rule_bytes, rule_accepted}
 use Rattle.game.specs.Accepted.{EachAccepted}
 use Rattle.game.specs.Call.{patterns, templates, Side, with_rule, with_template, templates_from, templates_by, check_own, check_templates, side_by, side}
 use Rattle.game.specs.Move.{Rule}
@@ -67,70 +67,70 @@ module _ {A : Type 0} where
   drop_next : (xs : List A) (i : ℕ) (d : A) → i < length xs → drop i xs ≡ get_or xs i d ∷ drop (i + 1) xs
   drop_next xs i d h = let z : suc i ≡ i + 1 = omega arith in drop-cons xs i d h ∙ ap (λ (m : ℕ). get_or xs i d ∷ drop m xs) z
 
-module _ (l : Language) (ruleSheet templateSheet : List ℕ) where
+module _ (l : Language) (rule_sheet template_sheet : List ℕ) where
   abbrev ps : List Pattern
-  ps = rules_of l (entries ruleSheet)
+  ps = rules_of l (entries rule_sheet)
 
   abbrev es : List (List ℕ)
-  es = entries templateSheet
+  es = entries template_sheet
 
   -- the templates before index i pass
   pub record CheckedTo (k i : ℕ) : Type 0 where
-    pub counted : k ≡ entry_count templateSheet
+    pub counted : k ≡ entry_count template_sheet
     pub few : k ≤ 65535
-    pub going : (n : ℕ) → RulesChecked l ruleSheet n → check_sheet templateSheet ≡ Accepted n
+    pub going : (n : ℕ) → RulesChecked l rule_sheet n → check_sheet template_sheet ≡ Accepted n
         → check_of (templates_from l 0 ps es) ≡ check_of (templates_from l i (drop i ps) (drop i es))
 
-  pub check_starts : (k : ℕ) → k ≡ entry_count templateSheet → k ≤ 65535 → CheckedTo k 0
+  pub check_starts : (k : ℕ) → k ≡ entry_count template_sheet → k ≤ 65535 → CheckedTo k 0
   check_starts k c f = record { counted = c; few = f; going = λ n a b. refl }
 
-  module _ (rules-octets : Octets ruleSheet) (templates-octets : Octets templateSheet) (k i : ℕ) (at : CheckedTo k i) where
+  module _ (rules_octets : Octets rule_sheet) (templates_octets : Octets template_sheet) (k i : ℕ) (at : CheckedTo k i) where
     -- past the last
-    pub check_ends : k ≤ i → ChecksTemplates l ruleSheet templateSheet Passed
+    pub check_ends : k ≤ i → ChecksTemplates l rule_sheet template_sheet Passed
     unfolding ChecksTemplates templates_from
     check_ends h n a b =
-        let c = (accepted_directed templateSheet n b).counted in
-        let z = rules_length l (entries ruleSheet) 0 n a.each in
+        let c = (accepted_directed template_sheet n b).counted in
+        let z = rules_length l (entries rule_sheet) 0 n a.each in
         sym (at.going n a b
         ∙ ap₂ (λ (ys : List Pattern) (zs : List (List ℕ)). check_of (templates_from l i ys zs)) (drop_of_length-le ps {i = i} (omega (arith, z, at.counted, c)))
-        (drop_of_length-le es {i = i} (omega (arith, entries_count templateSheet n b, at.counted, c))))
+        (drop_of_length-le es {i = i} (omega (arith, entries_count template_sheet n b, at.counted, c))))
 
-    module _ (below : i < k) (rule template : List ℕ) (is_rule : rule ≡ part_at ruleSheet i) (is-template : template ≡ part_at templateSheet i) where
+    module _ (below : i < k) (rule template : List ℕ) (is_rule : rule ≡ part_at rule_sheet i) (is_template : template ≡ part_at template_sheet i) where
       -- the rule of the index, and what is left
-      next_rule : (n : ℕ) → RulesChecked l ruleSheet n → check_sheet templateSheet ≡ Accepted n
+      next_rule : (n : ℕ) → RulesChecked l rule_sheet n → check_sheet template_sheet ≡ Accepted n
           → (p : Pattern) × (pattern_bytes l.table p [] ≡ rule) × PatternAccepted l p
           × (check_of (templates_from l 0 ps es) ≡ check_of (with_template i p (read_pattern l template) (templates_from l (i + 1) (drop (i + 1) ps) (drop (i + 1) es))))
       unfolding templates_from
       next_rule n a b =
-          let c = accepted_directed templateSheet n b in
-          let d = accepted_directed ruleSheet n a.directory in
-          let z = rules_length l (entries ruleSheet) 0 n a.each in
-          let y = rules_read l (entries ruleSheet) (entries_octets ruleSheet rules-octets) 0 n a.each in
+          let c = accepted_directed template_sheet n b in
+          let d = accepted_directed rule_sheet n a.directory in
+          let z = rules_length l (entries rule_sheet) 0 n a.each in
+          let y = rules_read l (entries rule_sheet) (entries_octets rule_sheet rules_octets) 0 n a.each in
           let low : i < n = omega (arith, at.counted, c.counted) in
           let few : i < length ps = omega (arith, z) in
           let dp = drop_next ps i (name 0) few in
           let de : drop i es ≡ template ∷ drop (i + 1) es =
-          drop_next es i [] (omega (arith, entries_count templateSheet n b)) ∙ ap (λ (e : List ℕ). e ∷ drop (i + 1) es) (part_of_holds templateSheet n i c low ∙ sym is-template) in (
-            patternAt ps i,
-            sym (rule_bytes l.table ps i few) ∙ ap (λ (ys : List (List ℕ)). get_or ys i []) y.0 ∙ part_of_holds ruleSheet n i d low ∙ sym is_rule,
+          drop_next es i [] (omega (arith, entries_count template_sheet n b)) ∙ ap (λ (e : List ℕ). e ∷ drop (i + 1) es) (part_of_holds template_sheet n i c low ∙ sym is_template) in (
+            pattern_at ps i,
+            sym (rule_bytes l.table ps i few) ∙ ap (λ (ys : List (List ℕ)). get_or ys i []) y.0 ∙ part_of_holds rule_sheet n i d low ∙ sym is_rule,
             rule_accepted l ps i few y.1,
             at.going n a b ∙ ap₂ (λ (ys : List Pattern) (zs : List (List ℕ)). check_of (templates_from l i ys zs)) dp de,
           )
 
-      pub template_refused : (r : Refusal) → shown (read_pattern l template) ≡ Read.Refused r → ChecksTemplates l ruleSheet templateSheet (Failed r i)
+      pub template_refused : (r : Refusal) → shown (read_pattern l template) ≡ Read.Refused r → ChecksTemplates l rule_sheet template_sheet (Failed r i)
       unfolding ChecksTemplates
       template_refused r e n a b =
           let x = next_rule n a b in
           sym (x.3 ∙ ap (λ (y : Parsed Pattern). check_of (with_template i x.0 y (templates_from l (i + 1) (drop (i + 1) ps) (drop (i + 1) es))))
           (refused_shown (read_pattern l template) r e))
 
-      template_octets : (n : ℕ) → check_sheet templateSheet ≡ Accepted n → Octets template
+      template_octets : (n : ℕ) → check_sheet template_sheet ≡ Accepted n → Octets template
       template_octets n b =
-          let c = accepted_directed templateSheet n b in
-          subst Octets (sym (is-template ∙ part_entry templateSheet n i c (omega (arith, at.counted, c.counted)))) (entry_octets templateSheet templates-octets i)
+          let c = accepted_directed template_sheet n b in
+          subst Octets (sym (is_template ∙ part_entry template_sheet n i c (omega (arith, at.counted, c.counted)))) (entry_octets template_sheet templates_octets i)
 
       read_on : (m : ℕ) → shown (read_pattern l template) ≡ Ends m → (r : Bool) → TellsLoose l.table rule template r → (n : ℕ)
-          → RulesChecked l ruleSheet n → check_sheet templateSheet ≡ Accepted n
+          → RulesChecked l rule_sheet n → check_sheet template_sheet ≡ Accepted n
           → check_of (templates_from l 0 ps es) ≡ check_of (cond r (fault Loose i) (templates_from l (i + 1) (drop (i + 1) ps) (drop (i + 1) es)))
       unfolding TellsLoose
       read_on m e r f n a b =
@@ -150,7 +150,7 @@ module _ (l : Language) (ruleSheet templateSheet : List ℕ) where
           by false p q = rule_checked_holds p q (templates_from l (i + 1) (drop (i + 1) ps) (drop (i + 1) es))
 
       pub template_loose : (m : ℕ) → shown (read_pattern l template) ≡ Ends m → (r : Bool) → TellsLoose l.table rule template r → r ≡ true
-          → ChecksTemplates l ruleSheet templateSheet (Failed Loose i)
+          → ChecksTemplates l rule_sheet template_sheet (Failed Loose i)
       unfolding ChecksTemplates
       template_loose m e r f t n a b =
           sym (read_on m e r f n a b ∙ ap (λ (w : Bool). check_of (cond w (fault Loose i) (templates_from l (i + 1) (drop (i + 1) ps) (drop (i + 1) es)))) t)
@@ -177,58 +177,58 @@ edition_same One Two h = let z : ◌≡◌ {A = ℕ} 0 1 = cc in absurd (omega a
 edition_same Two One h = let z : ◌≡◌ {A = ℕ} 0 1 = cc in absurd (omega arith)
 edition_same Two Two h = refl
 
-module _ (brought : Brought) (ruleSheet templateSheet : List ℕ) where
+module _ (brought : Brought) (rule_sheet template_sheet : List ℕ) where
   abbrev lang : Language
   lang = language_of brought
 
   abbrev rules : List Pattern
-  rules = rules_of lang (entries ruleSheet)
+  rules = rules_of lang (entries rule_sheet)
 
-  pub rules_fail : (r : Refusal) (i : ℕ) → check_own brought ruleSheet ≡ Checked.Refused r i → Failed r i ≡ check_of (side brought ruleSheet templateSheet)
+  pub rules_fail : (r : Refusal) (i : ℕ) → check_own brought rule_sheet ≡ Checked.Refused r i → Failed r i ≡ check_of (side brought rule_sheet template_sheet)
   unfolding side
   rules_fail r i e = rw e
 
-  module _ (n : ℕ) (own : check_own brought ruleSheet ≡ Accepted n) where
-    own_passed : ContentsPassed false (Only brought.edition) brought.table brought.list ruleSheet n
-    own_passed = contents_passed false (Only brought.edition) brought.table brought.list ruleSheet n own
+  module _ (n : ℕ) (own : check_own brought rule_sheet ≡ Accepted n) where
+    own_passed : ContentsPassed false (Only brought.edition) brought.table brought.list rule_sheet n
+    own_passed = contents_passed false (Only brought.edition) brought.table brought.list rule_sheet n own
 
-    own_like : edition_of ruleSheet ≡ brought.edition
-    own_like = same_edition_holds brought.edition (edition_of ruleSheet) own_passed.like
+    own_like : edition_of rule_sheet ≡ brought.edition
+    own_like = same_edition_holds brought.edition (edition_of rule_sheet) own_passed.like
 
-    rules_checked : RulesChecked lang ruleSheet n
+    rules_checked : RulesChecked lang rule_sheet n
     rules_checked = record { tabled = own_passed.tabled; directory = own_passed.sheet; each = rw own_like at own_passed.each }
 
-    pub sheet_fails : (r : Refusal) (i : ℕ) → check_templates lang templateSheet ≡ Checked.Refused r i → Failed r i ≡ check_of (side brought ruleSheet templateSheet)
+    pub sheet_fails : (r : Refusal) (i : ℕ) → check_templates lang template_sheet ≡ Checked.Refused r i → Failed r i ≡ check_of (side brought rule_sheet template_sheet)
     unfolding side
     sheet_fails r i e = rw (own, e)
 
     rules_counted : length rules ≡ n
-    rules_counted = omega (arith, rules_length lang (entries ruleSheet) 0 n rules_checked.each)
+    rules_counted = omega (arith, rules_length lang (entries rule_sheet) 0 n rules_checked.each)
 
-    entries_counted : entry_count ruleSheet ≡ n
-    entries_counted = (accepted_directed ruleSheet n rules_checked.directory).counted
+    entries_counted : entry_count rule_sheet ≡ n
+    entries_counted = (accepted_directed rule_sheet n rules_checked.directory).counted
 
-    templates_sheet : (m : ℕ) → check_templates lang templateSheet ≡ Accepted m → check_sheet templateSheet ≡ Accepted m
-    templates_sheet m e = (among_sheet (Only brought.edition) templateSheet m e).0
+    templates_sheet : (m : ℕ) → check_templates lang template_sheet ≡ Accepted m → check_sheet template_sheet ≡ Accepted m
+    templates_sheet m e = (among_sheet (Only brought.edition) template_sheet m e).0
 
-    pub numbers_fail : (m : ℕ) → check_templates lang templateSheet ≡ Accepted m → (entry_count templateSheet ≡ entry_count ruleSheet → ⊥)
-        → Failed Directory 0 ≡ check_of (side brought ruleSheet templateSheet)
+    pub numbers_fail : (m : ℕ) → check_templates lang template_sheet ≡ Accepted m → (entry_count template_sheet ≡ entry_count rule_sheet → ⊥)
+        → Failed Directory 0 ≡ check_of (side brought rule_sheet template_sheet)
     unfolding side
     numbers_fail m e d = rw (own, e) (go (eqb m (length rules)) refl)
       where
-        go : (b : Bool) → eqb m (length rules) ≡ b → Failed Directory 0 ≡ check_of (cond b (templates_from lang 0 rules (entries templateSheet)) (fault Directory 0))
+        go : (b : Bool) → eqb m (length rules) ≡ b → Failed Directory 0 ≡ check_of (cond b (templates_from lang 0 rules (entries template_sheet)) (fault Directory 0))
         go true h =
-            absurd (d ((accepted_directed templateSheet m (templates_sheet m e)).counted ∙ eqb-true m (length rules) h ∙ rules_counted ∙ sym entries_counted))
+            absurd (d ((accepted_directed template_sheet m (templates_sheet m e)).counted ∙ eqb-true m (length rules) h ∙ rules_counted ∙ sym entries_counted))
         go false h = refl
 
-    pub templates_tell : (m : ℕ) → check_templates lang templateSheet ≡ Accepted m → entry_count templateSheet ≡ entry_count ruleSheet → (r : Check) (list : List ℕ)
-        → list ≡ or_empty brought.list → ChecksTemplates (language brought.edition brought.table list) ruleSheet templateSheet r
-        → r ≡ check_of (side brought ruleSheet templateSheet)
+    pub templates_tell : (m : ℕ) → check_templates lang template_sheet ≡ Accepted m → entry_count template_sheet ≡ entry_count rule_sheet → (r : Check) (list : List ℕ)
+        → list ≡ or_empty brought.list → ChecksTemplates (language brought.edition brought.table list) rule_sheet template_sheet r
+        → r ≡ check_of (side brought rule_sheet template_sheet)
     unfolding side ChecksTemplates
     templates_tell m e c r list is f =
-        let z : m ≡ n = sym (accepted_directed templateSheet m (templates_sheet m e)).counted ∙ c ∙ entries_counted in
+        let z : m ≡ n = sym (accepted_directed template_sheet m (templates_sheet m e)).counted ∙ c ∙ entries_counted in
         let w : eqb m (length rules) ≡ true = eq-eqb m (length rules) (z ∙ sym rules_counted) in
-        let g = subst (λ (y : List ℕ). ChecksTemplates (language brought.edition brought.table y) ruleSheet templateSheet r) is f in
+        let g = subst (λ (y : List ℕ). ChecksTemplates (language brought.edition brought.table y) rule_sheet template_sheet r) is f in
         rw (own, e, w) (g n rules_checked (templates_sheet m e ∙ ap Accepted z))
 
 -- the templates that pass, and those that are written
@@ -278,74 +278,74 @@ module _ (l : Language) where
       let rest = templates_written rs a.1 (λ j. o (suc j)) (i + 1) in
       rw ((pattern_iff l _ (o 0) r.template).1 (refl, a.0.template), (template_exactly r.pattern r.template).1 a.0.of_rule, rest)
 
-module _ (brought : Brought) (ruleSheet templateSheet : List ℕ) (tabled : table_accepted brought.table ≡ true) (classed : brought_accepted brought ≡ true)
-    (rules-octets : Octets ruleSheet) (templates-octets : Octets templateSheet) where
+module _ (brought : Brought) (rule_sheet template_sheet : List ℕ) (tabled : table_accepted brought.table ≡ true) (classed : brought_accepted brought ≡ true)
+    (rules_octets : Octets rule_sheet) (templates_octets : Octets template_sheet) where
   abbrev l : Language
   l = language_of brought
 
-  pub side_read : (rs : List Rule) → Side l ruleSheet templateSheet rs → side brought ruleSheet templateSheet ≡ passed rs
+  pub side_read : (rs : List Rule) → Side l rule_sheet template_sheet rs → side brought rule_sheet template_sheet ≡ passed rs
   unfolding side
   side_read rs d =
-      let ae = written_entries l ruleSheet (patterns rs) d.rules_bytes_holds d.rules_short in
-      let ad = written_sheet l ruleSheet (patterns rs) d.rules_bytes_holds d.rules_short in
-      let al = written_like l ruleSheet (patterns rs) d.rules_bytes_holds d.rules_short in
-      let be = written_entries l templateSheet (templates rs) d.templates_bytes d.templates_short in
-      let bd = written_sheet l templateSheet (templates rs) d.templates_bytes d.templates_short in
-      let bl = written_like l templateSheet (templates rs) d.templates_bytes d.templates_short in
-      let w = rules_written l (patterns rs) (patterns_accepted l rs d.accepted) (λ j. rw (← ae) (entries_octets ruleSheet rules-octets j)) 0 in
-      let x : check_among (Only brought.edition) ruleSheet ≡ Accepted (length (patterns rs)) =
-      among_checked (Only brought.edition) ruleSheet (length (patterns rs)) true (directed_accepted ruleSheet (length (patterns rs)) ad) (edition_same brought.edition (edition_of ruleSheet) al) in
-      let y : check_templates l templateSheet ≡ Accepted (length (templates rs)) =
-      among_checked (Only brought.edition) templateSheet (length (templates rs)) true (directed_accepted templateSheet (length (templates rs)) bd) (edition_same brought.edition (edition_of templateSheet) bl) in
-      let c : check_own brought ruleSheet ≡ Accepted (length (patterns rs)) =
-      contents_each false (Only brought.edition) brought.table brought.list ruleSheet tabled classed (length (patterns rs)) x
+      let ae = written_entries l rule_sheet (patterns rs) d.rules_bytes_holds d.rules_short in
+      let ad = written_sheet l rule_sheet (patterns rs) d.rules_bytes_holds d.rules_short in
+      let al = written_like l rule_sheet (patterns rs) d.rules_bytes_holds d.rules_short in
+      let be = written_entries l template_sheet (templates rs) d.templates_bytes d.templates_short in
+      let bd = written_sheet l template_sheet (templates rs) d.templates_bytes d.templates_short in
+      let bl = written_like l template_sheet (templates rs) d.templates_bytes d.templates_short in
+      let w = rules_written l (patterns rs) (patterns_accepted l rs d.accepted) (λ j. rw (← ae) (entries_octets rule_sheet rules_octets j)) 0 in
+      let x : check_among (Only brought.edition) rule_sheet ≡ Accepted (length (patterns rs)) =
+      among_checked (Only brought.edition) rule_sheet (length (patterns rs)) true (directed_accepted rule_sheet (length (patterns rs)) ad) (edition_same brought.edition (edition_of rule_sheet) al) in
+      let y : check_templates l template_sheet ≡ Accepted (length (templates rs)) =
+      among_checked (Only brought.edition) template_sheet (length (templates rs)) true (directed_accepted template_sheet (length (templates rs)) bd) (edition_same brought.edition (edition_of template_sheet) bl) in
+      let c : check_own brought rule_sheet ≡ Accepted (length (patterns rs)) =
+      contents_each false (Only brought.edition) brought.table brought.list rule_sheet tabled classed (length (patterns rs)) x
       (le-leb (length (patterns rs)) most_rules (omega (arith, length-map rs (λ r. r.pattern), d.few_rules)))
       ∙ ap₂ (λ (v : Edition) (es : List (List ℕ)). check_each false (language_in v brought.table brought.list) 0 es) al ae
       ∙ w.1 ∙ ap Accepted (let z : 0 + length (patterns rs) ≡ length (patterns rs) = omega arith in z) in
       let z : eqb (length (templates rs)) (length (patterns rs)) ≡ true = eq-eqb (length (templates rs)) (length (patterns rs)) (omega (arith, length-map rs (λ r. r.pattern), length-map rs (λ r. r.template))) in
       rw (c, ae, w.0, y, z, be)
-      (templates_written l rs d.accepted (λ j. rw (← be) (entries_octets templateSheet templates-octets j)) 0)
+      (templates_written l rs d.accepted (λ j. rw (← be) (entries_octets template_sheet templates_octets j)) 0)
 
-  pub read_side : (rs : List Rule) → side brought ruleSheet templateSheet ≡ passed rs → Side l ruleSheet templateSheet rs
+  pub read_side : (rs : List Rule) → side brought rule_sheet template_sheet ≡ passed rs → Side l rule_sheet template_sheet rs
   unfolding side
-  read_side rs e = go (rules_by (check_own brought ruleSheet) (rules_of l (entries ruleSheet))) refl e
+  read_side rs e = go (rules_by (check_own brought rule_sheet) (rules_of l (entries rule_sheet))) refl e
     where
-      by_sheet : (n : ℕ) → check_own brought ruleSheet ≡ Accepted n → (x : Checked) → check_templates l templateSheet ≡ x
-          → templates_by l (rules_of l (entries ruleSheet)) templateSheet x ≡ passed rs → Side l ruleSheet templateSheet rs
+      by_sheet : (n : ℕ) → check_own brought rule_sheet ≡ Accepted n → (x : Checked) → check_templates l template_sheet ≡ x
+          → templates_by l (rules_of l (entries rule_sheet)) template_sheet x ≡ passed rs → Side l rule_sheet template_sheet rs
       by_sheet n own (Checked.Refused r i) f e = absurd (fault_passed e)
       by_sheet n own (Accepted m) f e = by_number (eqb m (length ps)) refl e
         where
           ps : List Pattern
-          ps = rules_of l (entries ruleSheet)
+          ps = rules_of l (entries rule_sheet)
 
-          by_number : (b : Bool) → eqb m (length ps) ≡ b → cond b (templates_from l 0 ps (entries templateSheet)) (fault Directory 0) ≡ passed rs
-              → Side l ruleSheet templateSheet rs
+          by_number : (b : Bool) → eqb m (length ps) ≡ b → cond b (templates_from l 0 ps (entries template_sheet)) (fault Directory 0) ≡ passed rs
+              → Side l rule_sheet template_sheet rs
           by_number false h e = absurd (fault_passed e)
           by_number true h e =
-              let o = own_passed brought ruleSheet templateSheet n own in
-              let x = rules_checked brought ruleSheet templateSheet n own in
-              let like = own_like brought ruleSheet templateSheet n own in
-              let theirs = among_sheet (Only brought.edition) templateSheet m f in
-              let likewise = same_edition_holds brought.edition (edition_of templateSheet) theirs.1 in
-              let d = accepted_directed ruleSheet n x.directory in
-              let c = accepted_directed templateSheet m theirs.0 in
-              let y = rules_read l (entries ruleSheet) (entries_octets ruleSheet rules-octets) 0 n x.each in
-              let z = rules_length l (entries ruleSheet) 0 n x.each in
+              let o = own_passed brought rule_sheet template_sheet n own in
+              let x = rules_checked brought rule_sheet template_sheet n own in
+              let like = own_like brought rule_sheet template_sheet n own in
+              let theirs = among_sheet (Only brought.edition) template_sheet m f in
+              let likewise = same_edition_holds brought.edition (edition_of template_sheet) theirs.1 in
+              let d = accepted_directed rule_sheet n x.directory in
+              let c = accepted_directed template_sheet m theirs.0 in
+              let y = rules_read l (entries rule_sheet) (entries_octets rule_sheet rules_octets) 0 n x.each in
+              let z = rules_length l (entries rule_sheet) 0 n x.each in
               let k = eqb-true m (length ps) h in
-              let t = templates_read l ps (entries templateSheet) (entries_octets templateSheet templates-octets) (entries_count templateSheet m theirs.0 ∙ k) y.1 0 rs e in
+              let t = templates_read l ps (entries template_sheet) (entries_octets template_sheet templates_octets) (entries_count template_sheet m theirs.0 ∙ k) y.1 0 rs e in
               record {
-                rules_bytes_holds = rw (t.0, y.0, ← like) (accepted_reading ruleSheet n rules-octets d).bytes;
+                rules_bytes_holds = rw (t.0, y.0, ← like) (accepted_reading rule_sheet n rules_octets d).bytes;
                 rules_short = d.short;
-                templates_bytes = rw (t.1, ← likewise) (accepted_reading templateSheet m templates-octets c).bytes;
+                templates_bytes = rw (t.1, ← likewise) (accepted_reading template_sheet m templates_octets c).bytes;
                 templates_short = c.short;
                 few_rules = omega (arith, length-map rs (λ r. r.pattern), ap length t.0, z, leb-true n most_rules o.not_many);
                 accepted = t.2;
               }
 
-      go : (v : Verdict (List Pattern)) → rules_by (check_own brought ruleSheet) (rules_of l (entries ruleSheet)) ≡ v → side_by l templateSheet v ≡ passed rs
-          → Side l ruleSheet templateSheet rs
+      go : (v : Verdict (List Pattern)) → rules_by (check_own brought rule_sheet) (rules_of l (entries rule_sheet)) ≡ v → side_by l template_sheet v ≡ passed rs
+          → Side l rule_sheet template_sheet rs
       go (fault r i) h e = absurd (fault_passed e)
       go (passed qs) h e =
-          let p = rules_passed (check_own brought ruleSheet) (rules_of l (entries ruleSheet)) qs h in
-          by_sheet p.0 p.1 (check_templates l templateSheet) refl
-          (ap (λ (ys : List Pattern). templates_by l ys templateSheet (check_templates l templateSheet)) p.2 ∙ e)
+          let p = rules_passed (check_own brought rule_sheet) (rules_of l (entries rule_sheet)) qs h in
+          by_sheet p.0 p.1 (check_templates l template_sheet) refl
+          (ap (λ (ys : List Pattern). templates_by l ys template_sheet (check_templates l template_sheet)) p.2 ∙ e)

@@ -40,11 +40,11 @@ abbrev pub templates : List Rule → List Pattern
 templates rs = map (λ r. r.template) rs
 
 -- "Each has a rule sheet with a template for each rule": two sheets of the language's edition, and the rules that they hold
-pub record Side (l : Language) (ruleSheet templateSheet : List ℕ) (rs : List Rule) : Type 0 where
-  pub rules_bytes_holds : sheet_bytes l.edition (rules_bytes l.table (patterns rs)) ≡ ruleSheet
-  pub rules_short : length ruleSheet ≤ longest_sheet
-  pub templates_bytes : sheet_bytes l.edition (rules_bytes l.table (templates rs)) ≡ templateSheet
-  pub templates_short : length templateSheet ≤ longest_sheet
+pub record Side (l : Language) (rule_sheet template_sheet : List ℕ) (rs : List Rule) : Type 0 where
+  pub rules_bytes_holds : sheet_bytes l.edition (rules_bytes l.table (patterns rs)) ≡ rule_sheet
+  pub rules_short : length rule_sheet ≤ longest_sheet
+  pub templates_bytes : sheet_bytes l.edition (rules_bytes l.table (templates rs)) ≡ template_sheet
+  pub templates_short : length template_sheet ≤ longest_sheet
   pub few_rules : length rs ≤ most_rules
   pub accepted : EachAccepted l rs
 
@@ -88,12 +88,12 @@ abbrev pub check_templates : Language → List ℕ → Checked
 check_templates l sheet = check_among (Only l.edition) sheet
 
 abbrev pub side_by : Language → List ℕ → Verdict (List Pattern) → Verdict (List Rule)
-side_by l templateSheet (fault r i) = fault r i
-side_by l templateSheet (passed ps) = templates_by l ps templateSheet (check_templates l templateSheet)
+side_by l template_sheet (fault r i) = fault r i
+side_by l template_sheet (passed ps) = templates_by l ps template_sheet (check_templates l template_sheet)
 
 unfoldable pub side : Brought → List ℕ → List ℕ → Verdict (List Rule)
-side brought ruleSheet templateSheet =
-    side_by (language_of brought) templateSheet (rules_by (check_own brought ruleSheet) (rules_of (language_of brought) (entries ruleSheet)))
+side brought rule_sheet template_sheet =
+    side_by (language_of brought) template_sheet (rules_by (check_own brought rule_sheet) (rules_of (language_of brought) (entries rule_sheet)))
 
 abbrev pub Trees : Type 0
 Trees = (List Rule × List Rule) × (Pattern × Term)

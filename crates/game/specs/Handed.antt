@@ -18,11 +18,11 @@ pub record Sheets : Type 0 where
   pub goal : List ℕ
 
 abbrev pub sheets_of : List ℕ → List ℕ → List ℕ → List ℕ → List ℕ → Sheets
-sheets_of loader loaderTemplates sender senderTemplates goal = record {
+sheets_of loader loader_templates sender sender_templates goal = record {
   loader = loader;
-  loader_templates = loaderTemplates;
+  loader_templates = loader_templates;
   sender = sender;
-  sender_templates = senderTemplates;
+  sender_templates = sender_templates;
   goal = goal;
 }
 
@@ -39,7 +39,7 @@ abbrev pub Bytes : Type 0 → Type 0
 Bytes A = Both (Bor (List ℕ)) A
 
 abbrev pub sheets : {A B C D E : Type 0} → Bytes A → Bytes B → Bytes C → Bytes D → Bytes E → Sheets
-sheets loader loaderTemplates sender senderTemplates goal = sheets_of (old loader) (old loaderTemplates) (old sender) (old senderTemplates) (old goal)
+sheets loader loader_templates sender sender_templates goal = sheets_of (old loader) (old loader_templates) (old sender) (old sender_templates) (old goal)
 
 -- the language that the loader's sheet is in
 abbrev pub spoken : {A B C : Type 0} → Bytes A → Bytes B → Bytes C → Language
@@ -48,8 +48,8 @@ spoken loader table classes = language (edition_of (old loader)) (old table) (ol
 -- with no class list, with one, and with one if it is brought
 module _ {A B C D E F : Type 0} where
   abbrev given : Option (List ℕ) → Bytes A → Bytes B → Bytes C → Bytes D → Bytes E → Bytes F → Handed
-  given list table loader loaderTemplates sender senderTemplates goal =
-      with (in_sheet (old loader) (old table) list) (sheets loader loaderTemplates sender senderTemplates goal)
+  given list table loader loader_templates sender sender_templates goal =
+      with (in_sheet (old loader) (old table) list) (sheets loader loader_templates sender sender_templates goal)
 
   abbrev pub handed : Bytes A → Bytes B → Bytes C → Bytes D → Bytes E → Bytes F → Handed
   handed = given none

@@ -86,8 +86,8 @@ pub record RulesChecked (l : Language) (sheet : List ℕ) (n : ℕ) : Type 0 whe
 
 -- the templates of as many rules
 unfoldable pub ChecksTemplates : Language → List ℕ → List ℕ → Check → Type 0
-ChecksTemplates l ruleSheet templateSheet r = (n : ℕ) → RulesChecked l ruleSheet n → check_sheet templateSheet ≡ Accepted n
-    → r ≡ check_of (templates_from l 0 (rules_of l (entries ruleSheet)) (entries templateSheet))
+ChecksTemplates l rule_sheet template_sheet r = (n : ℕ) → RulesChecked l rule_sheet n → check_sheet template_sheet ≡ Accepted n
+    → r ≡ check_of (templates_from l 0 (rules_of l (entries rule_sheet)) (entries template_sheet))
 
 -- answer and demands in one
 abbrev pub Called : ℕ → Handed → List ℕ → ℕ → Played → Type 0

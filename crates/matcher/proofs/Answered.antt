@@ -210,14 +210,14 @@ module _ (brought : Brought) (pattern bytes : List ℕ) (k : Alike brought.table
   count_told (found e m o) n = refl
   count_told failed n = refl
 
-  module _ (before : List ℕ) (pattern-octets : Octets pattern) (record-octets : Octets bytes) (wide : answer_width ≤ length before)
+  module _ (before : List ℕ) (pattern_octets : Octets pattern) (record_octets : Octets bytes) (wide : answer_width ≤ length before)
       (accepted : brought_accepted brought ≡ true) where
     pub same_call : (more : ℕ) → answer (language_of brought) q t more ≡ answer (language_of brought) q t allowance
         → (answer_of brought pattern bytes more (length before) ≡ told (answer (language_of brought) q t allowance))
         × (buffer_of brought pattern bytes more before ≡ written (bound_parts (answer (language_of brought) q t allowance)) before)
     unfolding answer_of buffer_of
     same_call more z =
-        rw ((checked_exactly brought pattern bytes pattern-octets record-octets (length before) q t).1 (wide, accepted, i))
+        rw ((checked_exactly brought pattern bytes pattern_octets record_octets (length before) q t).1 (wide, accepted, i))
         (ap told z, ap (λ (o : Matching). written (bound_parts o) before) z)
 
     pub answered : Answered brought pattern bytes before allowance q t (told (answer (language_of brought) q t allowance)) (written (bound_parts (answer (language_of brought) q t allowance)) before)

@@ -34,7 +34,7 @@ use Rattle.matcher.proofs.Answered.{shown_at, none_told, bound_told, same_call}
 use Rattle.link.proofs.Followed.{free_runs_are, next_accepted, every_accepted}
 use Rattle.matcher.proofs.Follows.{is_none, is_bound, same_next}
 
-module _ (brought : Brought) (pattern bytes : List ℕ) (pattern-octets : Octets pattern) (record-octets : Octets bytes)
+module _ (brought : Brought) (pattern bytes : List ℕ) (pattern_octets : Octets pattern) (record_octets : Octets bytes)
     (accepted : brought_accepted brought ≡ true) (q : Pattern) (t : Term) (i : Input (language_of brought) pattern bytes q t) where
   abbrev l : Language
   l = language_of brought
@@ -58,7 +58,7 @@ module _ (brought : Brought) (pattern bytes : List ℕ) (pattern-octets : Octets
   module _ (given : List ℕ) (allowance : ℕ) (before : List ℕ) (wide : answer_width ≤ length before) where
     next_told : (next_of brought pattern bytes given allowance (length before) ≡ told_next (next l q t given allowance))
         × (next_buffer_of brought pattern bytes given allowance before ≡ written (bound_next (next l q t given allowance)) before)
-    next_told = same_next brought pattern bytes given before allowance pattern-octets record-octets wide accepted q t i allowance refl
+    next_told = same_next brought pattern bytes given before allowance pattern_octets record_octets wide accepted q t i allowance refl
 
     module _ (ps : List Part) (n : ℕ) (e : next l q t given allowance ≡ follows (bound ps n)) where
       next_all : length ps ≡ variables
@@ -78,7 +78,7 @@ module _ (brought : Brought) (pattern bytes : List ℕ) (pattern-octets : Octets
     first_told : (answer_of brought pattern bytes allowance (length before) ≡ told (answer l q t allowance))
         × (buffer_of brought pattern bytes allowance before ≡ written (bound_parts (answer l q t allowance)) before)
     first_told =
-        same_call brought pattern bytes (brought_alike brought accepted) q t i allowance before pattern-octets record-octets wide accepted allowance refl
+        same_call brought pattern bytes (brought_alike brought accepted) q t i allowance before pattern_octets record_octets wide accepted allowance refl
 
     module _ (ps : List Part) (n : ℕ) (e : answer l q t allowance ≡ bound ps n) where
       first_all : length ps ≡ variables

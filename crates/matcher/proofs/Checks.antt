@@ -23,23 +23,23 @@ use Rattle.call.proofs.Checks as every
 use Rattle.matcher.specs.Call.{Input, AcceptedTrees, trees, rule_checked, checked, check_of}
 use Rattle.matcher.specs.declared.Check.TheVariants.{Passed, Failed}
 
-module _ (brought : Brought) (pattern bytes : List ℕ) (pattern-octets : Octets pattern) (record-octets : Octets bytes) where
+module _ (brought : Brought) (pattern bytes : List ℕ) (pattern_octets : Octets pattern) (record_octets : Octets bytes) where
   -- accepted input is what is read
   pub reads : (x : Pattern × Term) → AcceptedTrees (language_of brought) pattern bytes x ↔ ((table_accepted brought.table ≡ true) × (trees (language_of brought) pattern bytes ≡ passed x))
   reads x = (
     λ i. (
       i.table_accepted_holds,
       rw (
-        (pattern_iff (language_of brought) pattern pattern-octets x.0).1 (i.pattern_bytes_holds, i.pattern_accepted),
-        (record_iff (language_of brought) bytes record-octets x.1).1 (i.record_bytes, i.record_accepted),
+        (pattern_iff (language_of brought) pattern pattern_octets x.0).1 (i.pattern_bytes_holds, i.pattern_accepted),
+        (record_iff (language_of brought) bytes record_octets x.1).1 (i.record_bytes, i.record_accepted),
       ),
     ),
     λ e.
         let b = every.both_passed (reading (read_pattern (language_of brought) pattern)) (reading (read_record (language_of brought) bytes)) x.0 x.1 e.1 in
         let p = every.reading_passed (read_pattern (language_of brought) pattern) x.0 b.0 in
         let r = every.reading_passed (read_record (language_of brought) bytes) x.1 b.1 in
-        let q = pattern_read (language_of brought) pattern pattern-octets p.0 x.0 p.1 in
-        let t = record_read (language_of brought) bytes record-octets r.0 x.1 r.1 in record {
+        let q = pattern_read (language_of brought) pattern pattern_octets p.0 x.0 p.1 in
+        let t = record_read (language_of brought) bytes record_octets r.0 x.1 r.1 in record {
           table_accepted_holds = e.0;
           pattern_bytes_holds = q.0;
           pattern_accepted = q.1;

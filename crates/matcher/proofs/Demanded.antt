@@ -40,7 +40,7 @@ told_unbound (bound ps n) h = absurd (h refl)
 told_unbound (nothing n) h = refl
 told_unbound (spent n) h = refl
 
-module _ (brought : Brought) (pattern bytes before : List ℕ) (allowance : ℕ) (pattern-octets : Octets pattern) (record-octets : Octets bytes) where
+module _ (brought : Brought) (pattern bytes before : List ℕ) (allowance : ℕ) (pattern_octets : Octets pattern) (record_octets : Octets bytes) where
   -- the work on trees
   abbrev work : Pattern × Term → Matching
   work x = answer (language_of brought) x.0 x.1 allowance
@@ -57,18 +57,18 @@ module _ (brought : Brought) (pattern bytes before : List ℕ) (allowance : ℕ)
   unfolding answer_of buffer_of
   demanded_of same = record {
     answered = λ wide a q t i.
-        let z = same_call brought pattern bytes (brought_alike brought a) q t i allowance before pattern-octets record-octets wide a allowance refl in
-        rw (z.0, z.1) (answered brought pattern bytes (brought_alike brought a) q t i allowance before pattern-octets record-octets wide a);
+        let z = same_call brought pattern bytes (brought_alike brought a) q t i allowance before pattern_octets record_octets wide a allowance refl in
+        rw (z.0, z.1) (answered brought pattern bytes (brought_alike brought a) q t i allowance before pattern_octets record_octets wide a);
     published = λ wide a q t i n.
-        let z = same_call brought pattern bytes (brought_alike brought a) q t i allowance before pattern-octets record-octets wide a allowance refl in
-        rw (z.0, z.1) (published brought pattern bytes (brought_alike brought a) q t i allowance before pattern-octets record-octets wide a n);
+        let z = same_call brought pattern bytes (brought_alike brought a) q t i allowance before pattern_octets record_octets wide a allowance refl in
+        rw (z.0, z.1) (published brought pattern bytes (brought_alike brought a) q t i allowance before pattern_octets record_octets wide a n);
     bounded = λ wide a q t i n.
         let k = brought_alike brought a in
-        let z = same_call brought pattern bytes k q t i allowance before pattern-octets record-octets wide a allowance refl in
+        let z = same_call brought pattern bytes k q t i allowance before pattern_octets record_octets wide a allowance refl in
         let l = language_of brought in
         rw z.0 (bounded l q i.pattern_accepted n t allowance (answer_exact l k q t (accepted_of l t i.record_accepted) allowance));
     handled = handled refusal tells binds before brought (trees (language_of brought) pattern bytes) (AcceptedTrees (language_of brought) pattern bytes) (λ x. ⊥)
-        (reads brought pattern bytes pattern-octets record-octets) answer_number answer_count
+        (reads brought pattern bytes pattern_octets record_octets) answer_number answer_count
         (record {
           numbered = λ r i. refl;
           uncounted = λ r i. refl;
@@ -100,7 +100,7 @@ module _ (brought : Brought) (pattern bytes before : List ℕ) (allowance : ℕ)
   unfolding answer_of buffer_of
   passes_called e f classes same a after m =
       let c = check_passed (checked brought pattern bytes (length before)) (sym f ∙ e) in
-      let i = (checked_exactly brought pattern bytes pattern-octets record-octets (length before) c.0.0 c.0.1).0 c.1 in
+      let i = (checked_exactly brought pattern bytes pattern_octets record_octets (length before) c.0.0 c.0.1).0 c.1 in
       let g = bytes_answered brought.table (classes_of brought) pattern bytes before allowance i.0 brought.edition (brought_alike brought i.1) c.0.0 c.0.1 i.2 in
       let n = rw same at m in
       passes refusal tells binds before (checked brought pattern bytes (length before)) (Demanded brought pattern bytes before allowance) demanded_of

@@ -39,8 +39,8 @@ pub is_bound : (f : Following) → answer_number (told_next f) ≡ 0 → (ps : L
 is_bound (follows o) e = let s = bound_told o e in (s.0, s.1, ap follows s.2)
 is_bound unknown e = absurd (omega (arith, e))
 
-module _ (brought : Brought) (pattern bytes given before : List ℕ) (allowance : ℕ) (pattern-octets : Octets pattern)
-    (record-octets : Octets bytes) (wide : answer_width ≤ length before) (accepted : brought_accepted brought ≡ true) (q : Pattern) (t : Term)
+module _ (brought : Brought) (pattern bytes given before : List ℕ) (allowance : ℕ) (pattern_octets : Octets pattern)
+    (record_octets : Octets bytes) (wide : answer_width ≤ length before) (accepted : brought_accepted brought ≡ true) (q : Pattern) (t : Term)
     (i : Input (language_of brought) pattern bytes q t) where
   abbrev following : ℕ → Following
   following n = next (language_of brought) q t given n
@@ -50,5 +50,5 @@ module _ (brought : Brought) (pattern bytes given before : List ℕ) (allowance 
       × (next_buffer_of brought pattern bytes given more before ≡ written (bound_next (following allowance)) before)
   unfolding next_of next_buffer_of
   same_next more z =
-      rw ((checked_exactly brought pattern bytes pattern-octets record-octets (length before) q t).1 (wide, accepted, i))
+      rw ((checked_exactly brought pattern bytes pattern_octets record_octets (length before) q t).1 (wide, accepted, i))
       (ap told_next z, ap (λ (x : Following). written (bound_next x) before) z)

@@ -118,8 +118,8 @@ next_unbound : (f : Following) → (answer_number (told_next f) ≡ 0 → ⊥) �
 next_unbound (follows o) h = told_unbound o h
 next_unbound unknown h = refl
 
-module _ (brought : Brought) (pattern bytes given before : List ℕ) (allowance : ℕ) (pattern-octets : Octets pattern)
-    (record-octets : Octets bytes) where
+module _ (brought : Brought) (pattern bytes given before : List ℕ) (allowance : ℕ) (pattern_octets : Octets pattern)
+    (record_octets : Octets bytes) where
   module _ (wide : answer_width ≤ length before) (accepted : brought_accepted brought ≡ true) (q : Pattern) (t : Term)
       (i : Input (language_of brought) pattern bytes q t) where
     abbrev following : ℕ → Following
@@ -172,8 +172,8 @@ module _ (brought : Brought) (pattern bytes given before : List ℕ) (allowance 
             (refl, h.0, (h.1.0, h.1.1, h.1.2, h.1.3, refl))),
       );
       bound_shows = λ h. let s = is_bound (following allowance) h in bound_next_holds s.0 s.1 s.2;
-      larger_allowance = λ more h k. same_next brought pattern bytes given before allowance pattern-octets record-octets wide accepted q t i more (exact.larger_allowance more h k);
-      every = every_call brought pattern bytes pattern-octets record-octets accepted q t i before wide;
+      larger_allowance = λ more h k. same_next brought pattern bytes given before allowance pattern_octets record_octets wide accepted q t i more (exact.larger_allowance more h k);
+      every = every_call brought pattern bytes pattern_octets record_octets accepted q t i before wide;
     }
       where
         number : Following → ℕ
@@ -203,7 +203,7 @@ module _ (brought : Brought) (pattern bytes given before : List ℕ) (allowance 
   unfolding next_of next_buffer_of
   demanded_of same = record {
     handled = handled refusal tells binds before brought (trees (language_of brought) pattern bytes) (AcceptedTrees (language_of brought) pattern bytes)
-        (λ x. UnknownLengths (language_of brought) x.0 x.1 given allowance) (reads brought pattern bytes pattern-octets record-octets) answer_number answer_count
+        (λ x. UnknownLengths (language_of brought) x.0 x.1 given allowance) (reads brought pattern bytes pattern_octets record_octets) answer_number answer_count
         (record {
           numbered = λ r i. refl;
           uncounted = λ r i. refl;
@@ -213,9 +213,9 @@ module _ (brought : Brought) (pattern bytes given before : List ℕ) (allowance 
         (λ wide a x i.
         let u = (next_answered wide a x.0 x.1 i).unknown_exactly in
         (λ e. u.0 (refused_unknown (work x) e.0 e.1), λ h. (Unknown, u.1 h))) same;
-    answered = λ wide a q t i. let z = same_next brought pattern bytes given before allowance pattern-octets record-octets wide a q t i allowance refl in rw (z.0, z.1) (next_answered wide a q t i);
+    answered = λ wide a q t i. let z = same_next brought pattern bytes given before allowance pattern_octets record_octets wide a q t i allowance refl in rw (z.0, z.1) (next_answered wide a q t i);
     bounded = λ wide a q t i n.
-        rw (same_next brought pattern bytes given before allowance pattern-octets record-octets wide a q t i allowance refl).0
+        rw (same_next brought pattern bytes given before allowance pattern_octets record_octets wide a q t i allowance refl).0
         (next_bounded (language_of brought) q i.pattern_accepted n t allowance given
         (next_accepted (language_of brought) pattern bytes q t i (brought_alike brought a) given allowance));
   }
@@ -237,7 +237,7 @@ module _ (brought : Brought) (pattern bytes given before : List ℕ) (allowance 
   unfolding next_of next_buffer_of
   next_passes e f classes same a after m =
       let c = check_passed (checked brought pattern bytes (length before)) (sym f ∙ e) in
-      let i = (checked_exactly brought pattern bytes pattern-octets record-octets (length before) c.0.0 c.0.1).0 c.1 in
+      let i = (checked_exactly brought pattern bytes pattern_octets record_octets (length before) c.0.0 c.0.1).0 c.1 in
       let g = bytes_followed brought.table (classes_of brought) pattern bytes given before allowance brought.edition i.0 (brought_alike brought i.1) c.0.0 c.0.1 i.2 in
       let n = rw same at m in
       passes refusal tells binds before (checked brought pattern bytes (length before)) (NextDemanded brought pattern bytes given before allowance) demanded_of

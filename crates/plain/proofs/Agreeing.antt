@@ -15,7 +15,7 @@ use Rattle.anti_pattern.specs.Language.{Language}
 use Rattle.anti_pattern.specs.Search.{Env, bind, start, Answers, first_answer, Result, if_true, if_some, same_or, Deferred, Continuation, finish, freely, every, try_run, search, searches, whole}
 use Rattle.anti_pattern.specs.Variables.{vars, vars_all, free, among}
 use Rattle.plain.specs.Plain.{NoComplement, NoComplements, Once, run_names, plain_children, OneRun, OneRuns, Plain}
-use Rattle.plain.specs.Tier.{Tiered, if_true as tierTrue, comes_out, taken, left, run_length, and_then, tier, tiers, whole_tier}
+use Rattle.plain.specs.Tier.{Tiered, if_true as tier_true, comes_out, taken, left, run_length, and_then, tier, tiers, whole_tier}
 use Rattle.plain.proofs.Failing.{right_length, unequal_fails, fewer_fails}
 
 -- none of the variables is assigned
@@ -93,7 +93,7 @@ module _ (table classes : List ℕ) where
       where
         go : (m b : Bool) → Number qs ts b
             → (ComesOut qs ts → Agree k put vs (first_answer (searches table classes freely qs ts (at + width table r) e put k).out) (tiers table classes qs ts (at + width table r) e).out)
-            → Agree k put vs (first_answer (if_true m (λ u. searches table classes freely qs ts (at + width table r) e put k)).out) (tierTrue (m && b) (λ u. tiers table classes qs ts (at + width table r) e)).out
+            → Agree k put vs (first_answer (if_true m (λ u. searches table classes freely qs ts (at + width table r) e put k)).out) (tier_true (m && b) (λ u. tiers table classes qs ts (at + width table r) e)).out
         go true true (comes n) next = next n
         go true false (unequal i n) next =
             subst (λ (x : Answers). Agree k put vs (first_answer x) none) (sym (unequal_fails table classes qs ts (at + width table r) e put k i n)) fails

@@ -50,16 +50,16 @@ plainly_passed (passed p) w q t = go (is_plain p) refl
       λ e. absurd (true≢false (sym e.1 ∙ sym (ap is_plain (first_passed p w q t e.0)) ∙ h)),
     )
 
-module _ (brought : Brought) (pattern bytes : List ℕ) (pattern-octets : Octets pattern) (record-octets : Octets bytes) where
+module _ (brought : Brought) (pattern bytes : List ℕ) (pattern_octets : Octets pattern) (record_octets : Octets bytes) where
   -- accepted input is what is read
   pub reads : (x : Pattern × Term) → AcceptedPlain (language_of brought) pattern bytes x ↔ ((table_accepted brought.table ≡ true) × (plain_trees (language_of brought) pattern bytes ≡ passed x))
   reads x = (
     λ a.
-        let i = (matched.reads brought pattern bytes pattern-octets record-octets x).0 a.0 in
+        let i = (matched.reads brought pattern bytes pattern_octets record_octets x).0 a.0 in
         (i.0, both_plain.1 (i.1, (check_exact x.0).1 a.1)),
     λ e.
         let p = both_plain.0 e.1 in
-        ((matched.reads brought pattern bytes pattern-octets record-octets x).1 (e.0, p.0), (check_exact x.0).0 p.1),
+        ((matched.reads brought pattern bytes pattern_octets record_octets x).1 (e.0, p.0), (check_exact x.0).0 p.1),
   )
     where
       both_plain : (plain_trees (language_of brought) pattern bytes ≡ passed x)
@@ -107,9 +107,9 @@ module _ (brought : Brought) (pattern bytes : List ℕ) (width : ℕ) where
     pub plain_fails : plain_from brought.table pattern false 0 ≡ false → Failed NotPlain ≡ check_of (plain_checked brought pattern bytes width)
     plain_fails h = rw (by_plain, h)
 
-    module _ (is-plain : plain_from brought.table pattern false 0 ≡ true) where
+    module _ (plain_is : plain_from brought.table pattern false 0 ≡ true) where
       pub record_fails : (r : Refusal) → shown (read_record (language_of brought) bytes) ≡ Read.Refused r → Failed r ≡ check_of (plain_checked brought pattern bytes width)
-      record_fails r e = rw (by_plain, is-plain, refused_shown (read_record (language_of brought) bytes) r e)
+      record_fails r e = rw (by_plain, plain_is, refused_shown (read_record (language_of brought) bytes) r e)
 
       pub all_pass : (m : ℕ) → shown (read_record (language_of brought) bytes) ≡ Ends m → Passed ≡ check_of (plain_checked brought pattern bytes width)
-      all_pass m e = rw (by_plain, is-plain, (ends_shown (read_record (language_of brought) bytes) m e).1)
+      all_pass m e = rw (by_plain, plain_is, (ends_shown (read_record (language_of brought) bytes) m e).1)

@@ -20,7 +20,7 @@ use Rattle.term.specs.Code.{variables}
 use Rattle.term.specs.Limits.{Octets}
 use Rattle.term.specs.Pattern.{Pattern}
 use Rattle.term.specs.Term.{Term}
-use Rattle.reader.specs.Reading.{read_record, shown as shownRead}
+use Rattle.reader.specs.Reading.{read_record, shown as shown_read}
 use Rattle.reader.proofs.Typed.{pattern_iff}
 use Rattle.anti_pattern.specs.Answer.{answer, count_of, matching_of}
 use Rattle.anti_pattern.specs.Language.{Language, language}
@@ -75,13 +75,13 @@ own_count table none n = refl
 
 -- The call
 
-module _ (brought : Brought) (pattern bytes before : List ℕ) (pattern-octets : Octets pattern) (record-octets : Octets bytes) where
+module _ (brought : Brought) (pattern bytes before : List ℕ) (pattern_octets : Octets pattern) (record_octets : Octets bytes) where
   abbrev lang : Language
   lang = language_of brought
 
   module _ (wide : answer_width ≤ length before) (classed : brought_accepted brought ≡ true) (q : Pattern) (t : Term) (i : Input (language_of brought) pattern bytes q t) (p : Plain q) where
     accepted_passes : plain_checked brought pattern bytes (length before) ≡ passed (q, t)
-    accepted_passes = (checked_exactly brought pattern bytes pattern-octets record-octets (length before) q t).1 (wide, classed, (i, p))
+    accepted_passes = (checked_exactly brought pattern bytes pattern_octets record_octets (length before) q t).1 (wide, classed, (i, p))
 
     as_found : plain_answer lang q t ≡ shown_tier brought.table (first_answer (whole lang q t).out) (whole_tier lang q t).cost
     unfolding plain_answer
@@ -99,11 +99,11 @@ module _ (brought : Brought) (pattern bytes before : List ℕ) (pattern-octets :
       buffers_same = rw (as_found, within_is) (same_written brought.table (whole lang q t).out (whole_tier lang q t).cost (count_of lang q t) before)
 
     full : (allowance : ℕ) → Answered brought pattern bytes before allowance q t (told (answer lang q t allowance)) (written (bound_parts (answer lang q t allowance)) before)
-    full allowance = answered brought pattern bytes (brought_alike brought classed) q t i allowance before pattern-octets record-octets wide classed
+    full allowance = answered brought pattern bytes (brought_alike brought classed) q t i allowance before pattern_octets record_octets wide classed
 
     call : (allowance : ℕ) → (answer_of brought pattern bytes allowance (length before) ≡ told (answer lang q t allowance))
         × (buffer_of brought pattern bytes allowance before ≡ written (bound_parts (answer lang q t allowance)) before)
-    call allowance = same_call brought pattern bytes (brought_alike brought classed) q t i allowance before pattern-octets record-octets wide classed allowance refl
+    call allowance = same_call brought pattern bytes (brought_alike brought classed) q t i allowance before pattern_octets record_octets wide classed allowance refl
 
     unspent : (allowance : ℕ) → (answer_number (answer_of brought pattern bytes allowance (length before)) ≡ 11 → ⊥) → count_of lang q t ≤ allowance
     unspent allowance h = go (leb (count_of lang q t) allowance) refl
@@ -151,7 +151,7 @@ module _ (brought : Brought) (pattern bytes before : List ℕ) (pattern-octets :
   unfolding plain_of plain_buffer_of
   demanded_of same = record {
     handled = handled refusal tells binds before brought (plain_trees (language_of brought) pattern bytes) (AcceptedPlain (language_of brought) pattern bytes) (λ x. ⊥)
-        (reads brought pattern bytes pattern-octets record-octets) answer_number answer_count
+        (reads brought pattern bytes pattern_octets record_octets) answer_number answer_count
         (record {
           numbered = λ r i. refl;
           uncounted = λ r i. refl;
@@ -159,10 +159,10 @@ module _ (brought : Brought) (pattern bytes before : List ℕ) (pattern-octets :
           unbound = λ x. told_unbound (plain_answer lang x.0 x.1);
         })
         (λ wide a x i. (λ e. told_refused (plain_answer lang x.0 x.1) e.0 e.1, λ h. absurd h)) same;
-    not_plain = λ wide tabled classed q is-bytes fits h.
+    not_plain = λ wide tabled classed q is_bytes fits h.
         rw (
           own_checked brought pattern bytes (length before) wide tabled classed,
-          (pattern_iff (language_of brought) pattern pattern-octets q).1 (is-bytes, fits),
+          (pattern_iff (language_of brought) pattern pattern_octets q).1 (is_bytes, fits),
           not_plain q h,
         ) refl;
     answered = λ wide classed q t i p. rw (accepted_passes wide classed q t i p) (plain_answered wide classed q t i p);
@@ -185,21 +185,21 @@ module _ (brought : Brought) (pattern bytes before : List ℕ) (pattern-octets :
 
   module _ (rule : Passed ≡ check_of (rule_checked brought pattern (length before))) where
     pub plain_called : plain_from brought.table pattern false 0 ≡ false → Called (Refused NotPlain) before
-    plain_called h = fails_called NotPlain (plain_fails brought pattern bytes (length before) pattern-octets rule h)
+    plain_called h = fails_called NotPlain (plain_fails brought pattern bytes (length before) pattern_octets rule h)
 
-    module _ (is-plain : plain_from brought.table pattern false 0 ≡ true) where
-      pub record_called : (r : Refusal) → shownRead (read_record (language_of brought) bytes) ≡ Read.Refused r → Called (Refused r) before
-      record_called r h = fails_called r (record_fails brought pattern bytes (length before) pattern-octets rule is-plain r h)
+    module _ (plain_is : plain_from brought.table pattern false 0 ≡ true) where
+      pub record_called : (r : Refusal) → shown_read (read_record (language_of brought) bytes) ≡ Read.Refused r → Called (Refused r) before
+      record_called r h = fails_called r (record_fails brought pattern bytes (length before) pattern_octets rule plain_is r h)
 
       -- the tier takes the class list that is brought, or an empty one
-      pub passes_called : (m : ℕ) → shownRead (read_record (language_of brought) bytes) ≡ Ends m → (classes : List ℕ) → classes ≡ classes_of brought → (a : Answer) (after : List ℕ)
+      pub passes_called : (m : ℕ) → shown_read (read_record (language_of brought) bytes) ≡ Ends m → (classes : List ℕ) → classes ≡ classes_of brought → (a : Answer) (after : List ℕ)
           → (a ≡ told_ending (tier_on brought.table classes pattern bytes no_parts)) × (after ≡ shown_ending (tier_on brought.table classes pattern bytes no_parts) before)
           → length after ≡ length before → Called a after
       unfolding plain_of plain_buffer_of
       passes_called m ends classes same a after h =
-          let e = all_pass brought pattern bytes (length before) pattern-octets rule is-plain m ends in
+          let e = all_pass brought pattern bytes (length before) pattern_octets rule plain_is m ends in
           let c = check_passed (plain_checked brought pattern bytes (length before)) e in
-          let i = (checked_exactly brought pattern bytes pattern-octets record-octets (length before) c.0.0 c.0.1).0 c.1 in
+          let i = (checked_exactly brought pattern bytes pattern_octets record_octets (length before) c.0.0 c.0.1).0 c.1 in
           let z = linked (language_of brought) pattern bytes (brought_alike brought i.1) c.0.0 c.0.1 i.2.0 i.2.1 before i.0 in
           let n = rw same at h in
           passes refusal tells binds before (plain_checked brought pattern bytes (length before)) (PlainDemanded brought pattern bytes before) demanded_of
@@ -207,8 +207,8 @@ module _ (brought : Brought) (pattern bytes before : List ℕ) (pattern-octets :
 
 -- What is read with the class list that is brought, or an empty one
 pub read_with : (brought : Brought) (bytes classes : List ℕ) → classes ≡ classes_of brought → {a b : Read}
-    → a ≡ shownRead (read_record (language brought.edition brought.table classes) bytes) → a ≡ b → shownRead (read_record (language_of brought) bytes) ≡ b
-read_with brought bytes classes same e f = ap (λ cs. shownRead (read_record (language brought.edition brought.table cs) bytes)) (sym same) ∙ sym e ∙ f
+    → a ≡ shown_read (read_record (language brought.edition brought.table classes) bytes) → a ≡ b → shown_read (read_record (language_of brought) bytes) ≡ b
+read_with brought bytes classes same e f = ap (λ cs. shown_read (read_record (language brought.edition brought.table cs) bytes)) (sym same) ∙ sym e ∙ f
 
 -- The match of bytes as they are
 

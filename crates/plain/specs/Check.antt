@@ -1,4 +1,4 @@
--- The check for a plain pattern, in one pass: 23 otherwise. It says exactly whether the pattern is plain (proofs/Checking: check-exact).
+-- The check for a plain pattern, in one pass: 23 otherwise. It says exactly whether the pattern is plain (proofs/Checking: check_exact).
 use Rattle.std.specs.Prelude.{ℕ, List, [], ◌∷◌, Bool, true, false, leb}
 use Rattle.std.proofs.Math.Option.{Option, none, some}
 use Rattle.term.specs.Pattern.{Pattern, Children, name, symbol, complement, end, plain, run}

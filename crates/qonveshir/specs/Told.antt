@@ -10,7 +10,7 @@ use Rattle.cost.specs.Demands.{Demanded as CostDemanded}
 use Rattle.writing.specs.Writing.{writing, output_after}
 use Rattle.writing.specs.Demands.{Demanded as SheetDemanded}
 use Rattle.stored.specs.Demands.{StoreDemanded, RestoreDemanded}
-use Rattle.stored.specs.Move.{storing, restoring, moved, output_after as outputMoved}
+use Rattle.stored.specs.Move.{storing, restoring, moved, output_after as output_moved}
 use Rattle.replace.specs.Call.{look_of, apply_of, output_of}
 use Rattle.replace.specs.Demands.{DemandedOf as ApplyDemandedOf, LookDemandedOf}
 use Rattle.qonveshir.specs.Demands.{PlainDemandedOf}
@@ -80,7 +80,7 @@ module _ (edition : ℕ) (table classes : List ℕ) where
   store_in bytes room = shows (λ b. move_shown (moved (storing b bytes) room))
 
   abbrev pub store_left : List ℕ → List ℕ → List ℕ
-  store_left bytes before = leaves (λ b. outputMoved (storing b bytes) before) before
+  store_left bytes before = leaves (λ b. output_moved (storing b bytes) before) before
 
   abbrev pub StoreDemandedIn : List ℕ → List ℕ → ℕ → ℕ → List ℕ → Type 0
   StoreDemandedIn bytes before number size after = Demands (λ b. StoreDemanded b bytes before number size after)
@@ -89,7 +89,7 @@ module _ (edition : ℕ) (table classes : List ℕ) where
   restore_in stored room = shows (λ b. move_shown (moved (restoring b stored) room))
 
   abbrev pub restore_left : List ℕ → List ℕ → List ℕ
-  restore_left stored before = leaves (λ b. outputMoved (restoring b stored) before) before
+  restore_left stored before = leaves (λ b. output_moved (restoring b stored) before) before
 
   abbrev pub RestoreDemandedIn : List ℕ → List ℕ → ℕ → ℕ → List ℕ → Type 0
   RestoreDemandedIn stored before number size after = Demands (λ b. RestoreDemanded b stored before number size after)

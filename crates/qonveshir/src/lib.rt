@@ -16,16 +16,16 @@ ghost use Rattle.matcher.specs.Call.{answer_of, buffer_of};
 ghost use Rattle.matcher.specs.Demands.{DemandedOf, NextDemandedOf};
 ghost use Rattle.matcher.specs.Next.{next_of, next_buffer_of};
 ghost use Rattle.plain.specs.Call.{plain_of, plain_buffer_of};
-ghost use Rattle.rules.specs.Call.{in_sheet, answer_of as rulesAnswer, buffer_of as rulesBuffer};
+ghost use Rattle.rules.specs.Call.{in_sheet, answer_of as rules_answer, buffer_of as rules_buffer};
 ghost use Rattle.rules.specs.Demands.{DemandedOf as RulesDemandedOf};
 ghost use Rattle.sheet.specs.Entry.{place_of};
 ghost use Rattle.sheet.specs.Contents.{check_rules, check_states};
 ghost use Rattle.writing.specs.Writing.{writing, output_after};
 ghost use Rattle.writing.specs.Demands.{Demanded as SheetDemanded};
 ghost use Rattle.stored.specs.Demands.{StoreDemanded, RestoreDemanded};
-ghost use Rattle.stored.specs.Move.{storing, restoring, moved, output_after as outputMoved};
+ghost use Rattle.stored.specs.Move.{storing, restoring, moved, output_after as output_moved};
 ghost use Rattle.splice.specs.Call.{call, shown_of};
-ghost use Rattle.splice.specs.Converting.{output_after as outputSpliced};
+ghost use Rattle.splice.specs.Converting.{output_after as output_spliced};
 ghost use Rattle.splice.specs.Demands.{Demanded as SpliceDemanded};
 ghost use Rattle.replace.specs.Call.{look_of, apply_of, output_of};
 ghost use Rattle.replace.specs.Demands.{DemandedOf as ApplyDemandedOf, LookDemandedOf};
@@ -310,8 +310,8 @@ pub extern "C" fn qonveshir_match_rules(
     allowance: u32,
     answer: &mut [u16],
 ) -> Outcome
-    ensures is { result ≡ rules_shown (rulesAnswer (in_sheet rules.now table.now none) rules.now «record».now allowance (length answer.old)) }
-    ensures buffer { answer.new ≡ rulesBuffer (in_sheet rules.now table.now none) rules.now «record».now allowance answer.old }
+    ensures is { result ≡ rules_shown (rules_answer (in_sheet rules.now table.now none) rules.now «record».now allowance (length answer.old)) }
+    ensures buffer { answer.new ≡ rules_buffer (in_sheet rules.now table.now none) rules.now «record».now allowance answer.old }
     ensures demand { RulesDemandedOf (in_sheet rules.now table.now none) rules.now «record».now answer.old allowance answer.new }
 {
     let a = rules::match_rules(table, rules, record, allowance, answer);
@@ -328,8 +328,8 @@ pub extern "C" fn qonveshir_match_rules_in(
     allowance: u32,
     answer: &mut [u16],
 ) -> Outcome
-    ensures is { result ≡ rules_shown (rulesAnswer (in_sheet rules.now table.now (some classes.now)) rules.now «record».now allowance (length answer.old)) }
-    ensures buffer { answer.new ≡ rulesBuffer (in_sheet rules.now table.now (some classes.now)) rules.now «record».now allowance answer.old }
+    ensures is { result ≡ rules_shown (rules_answer (in_sheet rules.now table.now (some classes.now)) rules.now «record».now allowance (length answer.old)) }
+    ensures buffer { answer.new ≡ rules_buffer (in_sheet rules.now table.now (some classes.now)) rules.now «record».now allowance answer.old }
     ensures demand { RulesDemandedOf (in_sheet rules.now table.now (some classes.now)) rules.now «record».now answer.old allowance answer.new }
 {
     let a = rules::match_rules_in(table, classes, rules, record, allowance, answer);
@@ -448,7 +448,7 @@ pub extern "C" fn qonveshir_cost_in(
 #[unsafe(no_mangle)]
 pub extern "C" fn qonveshir_store(table: &[u8], record: &[u8], output: &mut [u8]) -> Outcome
     ensures shown { result ≡ move_shown (moved (storing (simply table.now) «record».now) (length output.old)) }
-    ensures contents { output.new ≡ outputMoved (storing (simply table.now) «record».now) output.old }
+    ensures contents { output.new ≡ output_moved (storing (simply table.now) «record».now) output.old }
     ensures demand { StoreDemanded (simply table.now) «record».now output.old result.number result.count output.new }
 {
     let m = stored::store(table, record, output);
@@ -480,7 +480,7 @@ pub extern "C" fn qonveshir_store_in(
 #[unsafe(no_mangle)]
 pub extern "C" fn qonveshir_restore(table: &[u8], stored: &[u8], output: &mut [u8]) -> Outcome
     ensures shown { result ≡ move_shown (moved (restoring (simply table.now) stored.now) (length output.old)) }
-    ensures contents { output.new ≡ outputMoved (restoring (simply table.now) stored.now) output.old }
+    ensures contents { output.new ≡ output_moved (restoring (simply table.now) stored.now) output.old }
     ensures demand { RestoreDemanded (simply table.now) stored.now output.old result.number result.count output.new }
 {
     let m = stored::restore(table, stored, output);
@@ -512,7 +512,7 @@ pub extern "C" fn qonveshir_restore_in(
 #[unsafe(no_mangle)]
 pub extern "C" fn qonveshir_splice_record(table: &[u8], record: &[u8], output: &mut [u8]) -> Outcome
     ensures shown { result ≡ move_shown (shown_of (call true table.now none (length output.old) «record».now)) }
-    ensures contents { output.new ≡ outputSpliced output.old (call true table.now none (length output.old) «record».now) }
+    ensures contents { output.new ≡ output_spliced output.old (call true table.now none (length output.old) «record».now) }
     ensures demand { SpliceDemanded true table.now none «record».now output.old result.number result.count output.new }
 {
     let m = splice::splice_record(table, record, output);
@@ -528,7 +528,7 @@ pub extern "C" fn qonveshir_splice_record_in(
     output: &mut [u8],
 ) -> Outcome
     ensures shown { result ≡ move_shown (shown_of (call true table.now (some classes.now) (length output.old) «record».now)) }
-    ensures contents { output.new ≡ outputSpliced output.old (call true table.now (some classes.now) (length output.old) «record».now) }
+    ensures contents { output.new ≡ output_spliced output.old (call true table.now (some classes.now) (length output.old) «record».now) }
     ensures demand { SpliceDemanded true table.now (some classes.now) «record».now output.old result.number result.count output.new }
 {
     let m = splice::splice_record_in(table, classes, record, output);
@@ -543,7 +543,7 @@ pub extern "C" fn qonveshir_splice_pattern(
     output: &mut [u8],
 ) -> Outcome
     ensures shown { result ≡ move_shown (shown_of (call false table.now none (length output.old) pattern.now)) }
-    ensures contents { output.new ≡ outputSpliced output.old (call false table.now none (length output.old) pattern.now) }
+    ensures contents { output.new ≡ output_spliced output.old (call false table.now none (length output.old) pattern.now) }
     ensures demand { SpliceDemanded false table.now none pattern.now output.old result.number result.count output.new }
 {
     let m = splice::splice_pattern(table, pattern, output);
@@ -559,7 +559,7 @@ pub extern "C" fn qonveshir_splice_pattern_in(
     output: &mut [u8],
 ) -> Outcome
     ensures shown { result ≡ move_shown (shown_of (call false table.now (some classes.now) (length output.old) pattern.now)) }
-    ensures contents { output.new ≡ outputSpliced output.old (call false table.now (some classes.now) (length output.old) pattern.now) }
+    ensures contents { output.new ≡ output_spliced output.old (call false table.now (some classes.now) (length output.old) pattern.now) }
     ensures demand { SpliceDemanded false table.now (some classes.now) pattern.now output.old result.number result.count output.new }
 {
     let m = splice::splice_pattern_in(table, classes, pattern, output);

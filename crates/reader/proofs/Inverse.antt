@@ -193,35 +193,35 @@ sound lang records left stand s = sound_by lang records (length s) left stand s
 
 -- The theorem
 
-unfoldable pub Read-whole : Language → Bool → List ℕ → Tree → ℕ → Type 0
-Read-whole lang records s t n = (encode lang.table t [] ≡ s) × (n ≡ length s) × (Octets s → Accepted lang records t)
+unfoldable pub ReadWhole : Language → Bool → List ℕ → Tree → ℕ → Type 0
+ReadWhole lang records s t n = (encode lang.table t [] ≡ s) × (n ≡ length s) × (Octets s → Accepted lang records t)
 
 module _ (lang : Language) (records : Bool) (s : List ℕ) where
-  whole_sound : length s ≤ longest records → (a : Parsed Tree) → Got (TreeSound lang records nesting Elsewhere s) a → Got (Read-whole lang records s) (unless_spare s a)
-  unfolding unless_spare Read-whole
+  whole_sound : length s ≤ longest records → (a : Parsed Tree) → Got (TreeSound lang records nesting Elsewhere s) a → Got (ReadWhole lang records s) (unless_spare s a)
+  unfolding unless_spare ReadWhole
   whole_sound l (refused r) h = tt
   whole_sound l (read t n) h =
-      cond_all (Got (Read-whole lang records s)) (eqb n (length s))
+      cond_all (Got (ReadWhole lang records s)) (eqb n (length s))
       (λ e.
       let z : n ≡ length s = eqb-true n (length s) e in
       let b : encode lang.table t [] ≡ s = sym (h.bytes ∙ ap (λ (m : ℕ). encode lang.table t (drop m s)) z ∙ ap (encode lang.table t) (drop-length s)) in
       (b, z, λ o. record { short = rw b l; fits = h.fits o; spliced = h.spliced }))
       (λ e. tt)
 
-  pub whole_read : Got (Read-whole lang records s) (read_whole records lang s)
+  pub whole_read : Got (ReadWhole lang records s) (read_whole records lang s)
   unfolding read_whole
   whole_read =
-      cond_all (Got (Read-whole lang records s)) (leb (length s) (longest records))
+      cond_all (Got (ReadWhole lang records s)) (leb (length s) (longest records))
       (λ l. whole_sound (leb-true (length s) (longest records) l) (read_tree lang records nesting Elsewhere s) (sound lang records nesting Elsewhere s))
       (λ l. tt)
 
   -- bytes are read as a tree exactly if they are the tree's own and the tree is within the limits
   pub read_iff : Octets s → (t : Tree) → (read_whole records lang s ≡ read t (length s)) ↔ ((encode lang.table t [] ≡ s) × Accepted lang records t)
-  unfolding Read-whole read_whole unless_spare
+  unfolding ReadWhole read_whole unless_spare
   read_iff o t = (to, from)
     where
       to : read_whole records lang s ≡ read t (length s) → (encode lang.table t [] ≡ s) × Accepted lang records t
-      to e = let h = subst (Got (Read-whole lang records s)) e whole_read in (h.0, h.2 o)
+      to e = let h = subst (Got (ReadWhole lang records s)) e whole_read in (h.0, h.2 o)
 
       from : (encode lang.table t [] ≡ s) × Accepted lang records t → read_whole records lang s ≡ read t (length s)
       from h =

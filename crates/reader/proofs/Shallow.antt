@@ -158,28 +158,28 @@ module _ (table s : List ℕ) where
           to_come = children_to_come (simple table) true s f next.others at next.some e next.to_come;
         }
 
-    module _ (b entry : ℕ) (within : end ≤ length s) (is : b ≡ get_or s at 0) (known : b < length table) (is-entry : entry ≡ get_or table b 0) where
+    module _ (b entry : ℕ) (within : end ≤ length s) (is : b ≡ get_or s at 0) (known : b < length table) (is_entry : entry ≡ get_or table b 0) where
       pub pass_leaf : entry ≡ 0 → Passing (at + 1) end parents
       pass_leaf z =
           let f = next.first in
-          let e = fixed_node at b (omega arith) is known f.stand f.left levels (λ x. omega (arith, x, is-entry, z)) in
+          let e = fixed_node at b (omega arith) is known f.stand f.left levels (λ x. omega (arith, x, is_entry, z)) in
           record {
             frames = rest_of f ∷ next.others;
             trees = omega (arith, i.trees, next.is_total, next.some);
             few = i.few;
             roomy = (next.room, next.roomy);
-            to_come = skip (simple table) true s (frame (get_or table b 0) (f.left - 1) Elsewhere) (rest_of f ∷ next.others) (at + 1) (sym is-entry ∙ z)
+            to_come = skip (simple table) true s (frame (get_or table b 0) (f.left - 1) Elsewhere) (rest_of f ∷ next.others) (at + 1) (sym is_entry ∙ z)
                 (children_to_come (simple table) true s f next.others at next.some e next.to_come);
           }
 
       pub pass_fixed : parents < nesting - 1 → entry < list → Passing (at + 1) (end + entry) (parents + 1)
       pass_fixed h d =
           let f = next.first in
-          let x : end + 1 - 1 + get_or table b 0 ≡ end + entry = omega (arith, is-entry) in
-          rw x at (parent h (fixed_node at b (omega arith) is known f.stand f.left levels (λ x. omega (arith, x, is-entry))))
+          let x : end + 1 - 1 + get_or table b 0 ≡ end + entry = omega (arith, is_entry) in
+          rw x at (parent h (fixed_node at b (omega arith) is known f.stand f.left levels (λ x. omega (arith, x, is_entry))))
 
       pub pass_list : (k : ℕ) → parents < nesting - 1 → entry ≡ list → end < length s → k ≡ get_or s (at + 1) 0 → Passing (at + 2) (end + 1 + k) (parents + 1)
-      pass_list k h d l is-k =
+      pass_list k h d l is_k =
           let f = next.first in
-          let x : end + 2 - 1 + get_or s (at + 1) 0 ≡ end + 1 + k = omega (arith, is-k) in
-          rw x at (parent h (list_node_holds at b (omega arith) is known f.stand f.left levels (sym is-entry ∙ d) (omega arith)))
+          let x : end + 2 - 1 + get_or s (at + 1) 0 ≡ end + 1 + k = omega (arith, is_k) in
+          rw x at (parent h (list_node_holds at b (omega arith) is known f.stand f.left levels (sym is_entry ∙ d) (omega arith)))

@@ -14,7 +14,7 @@ use Rattle.term.specs.Limits.{nesting, Fits, Octets, Accepted, TermAccepted, Pat
 use Rattle.term.proofs.Trees.{term_back, term_tree_holds, pattern_back, pattern_tree_holds}
 use Rattle.reader.specs.Reading.{Parsed, refused, read, shown, map_parsed, read_whole, read_record, read_pattern}
 use Rattle.reader.proofs.Answers.{Got}
-use Rattle.reader.proofs.Inverse.{Read-whole, whole_read, read_iff}
+use Rattle.reader.proofs.Inverse.{ReadWhole, whole_read, read_iff}
 
 pub shown_map : {A B : Type 0} (f : A → B) (a : Parsed A) → shown (map_parsed f a) ≡ shown a
 unfolding shown map_parsed
@@ -44,10 +44,10 @@ module _ {X : Type 0} (write : X → Tree) (make : Tree → X) (back : (x : X) �
 -- what is read are all the bytes
 read_length : {A : Type 0} (f : Tree → A) (records : Bool) (l : Language) (s : List ℕ) (x : A) (n : ℕ) → map_parsed f (read_whole records l s) ≡ read x n
     → map_parsed f (read_whole records l s) ≡ read x (length s)
-unfolding Read-whole
+unfolding ReadWhole
 read_length f records l s x n e =
     let m = map_read f (read_whole records l s) x n e in
-    e ∙ ap (read x) (subst (Got (Read-whole l records s)) m.1 (whole_read l records s)).1
+    e ∙ ap (read x) (subst (Got (ReadWhole l records s)) m.1 (whole_read l records s)).1
 
 module _ (l : Language) (s : List ℕ) (octets : Octets s) where
   -- bytes are read as a term exactly if they are the term's and the term is within the limits; and so for a pattern

@@ -207,7 +207,7 @@ module _ (l : Language) (rule template bytes : List ℕ) (allowance : ℕ) where
 -- The calls with every check
 
 module _ (brought : Brought) (classes rule template bytes : List ℕ) (allowance : ℕ) (same : classes ≡ classes_of brought)
-    (rule-octets : Octets rule) (template_octets : Octets template) (record-octets : Octets bytes) where
+    (rule_octets : Octets rule) (template_octets : Octets template) (record_octets : Octets bytes) where
   abbrev spoken : List ℕ → Language
   spoken list = language brought.edition brought.table list
 
@@ -215,7 +215,7 @@ module _ (brought : Brought) (classes rule template bytes : List ℕ) (allowance
   Looked a = (a ≡ look_of brought rule template bytes allowance) × LookDemanded brought rule template bytes allowance a
 
   looked : (a : Applied) → a ≡ look_of brought rule template bytes allowance → Looked a
-  looked a e = (e, subst (LookDemanded brought rule template bytes allowance) (sym e) (look_demanded brought rule template bytes allowance rule-octets template_octets record-octets))
+  looked a e = (e, subst (LookDemanded brought rule template bytes allowance) (sym e) (look_demanded brought rule template bytes allowance rule_octets template_octets record_octets))
 
   pub look_fails : {k : Check} {r : Refusal} → k ≡ check_of (checked brought rule template bytes) → k ≡ Failed r
       → Looked (Refused r)
@@ -227,7 +227,7 @@ module _ (brought : Brought) (classes rule template bytes : List ℕ) (allowance
   unfolding look_of
   look_passes e f a h =
       let c = check_passed (checked brought rule template bytes) (sym f ∙ e) in
-      let i = checked_input brought rule template bytes rule-octets template_octets record-octets c.0 c.1 in
+      let i = checked_input brought rule template bytes rule_octets template_octets record_octets c.0 c.1 in
       let g = subst (λ (y : List ℕ). Looks (spoken y) rule template bytes allowance a) same h in
       looked a (rw c.1 (g (brought_classed brought i.0) c.0.0.0 c.0.0.1 c.0.1 i.1))
 
@@ -239,7 +239,7 @@ module _ (brought : Brought) (classes rule template bytes : List ℕ) (allowance
 
     called : (a : Applied) (after : List ℕ) → a ≡ apply_of brought rule template bytes allowance (length before)
         → after ≡ output_of brought rule template bytes allowance before → Called a after
-    called a after e f = (e, (f, rw (e, f) (demanded brought rule template bytes before allowance rule-octets template_octets record-octets)))
+    called a after e f = (e, (f, rw (e, f) (demanded brought rule template bytes before allowance rule_octets template_octets record_octets)))
 
     pub apply_fails : {k : Check} {r : Refusal} → k ≡ check_of (checked brought rule template bytes) → k ≡ Failed r
         → Called (Refused r) before
@@ -253,7 +253,7 @@ module _ (brought : Brought) (classes rule template bytes : List ℕ) (allowance
     unfolding apply_of output_of
     apply_passes e f a after h =
         let c = check_passed (checked brought rule template bytes) (sym f ∙ e) in
-        let i = checked_input brought rule template bytes rule-octets template_octets record-octets c.0 c.1 in
+        let i = checked_input brought rule template bytes rule_octets template_octets record_octets c.0 c.1 in
         let g = subst (λ (y : List ℕ). Applies (spoken y) rule template bytes allowance before a after) same h in
         let z = g.answer (brought_classed brought i.0) c.0.0.0 c.0.0.1 c.0.1 i.1 in
         called a after (rw c.1 z.0) (rw c.1 z.1)

@@ -45,7 +45,7 @@ firmly_passed (passed y) x e = go (loose (free y.0) y.1) refl e
     go true h e = absurd (every.fault_passed e)
     go false h e = let z : y ≡ x = cc in (e, subst (λ (w : Pattern × Pattern). loose (free w.0) w.1 ≡ false) z h)
 
-module _ (brought : Brought) (rule template bytes : List ℕ) (rule-octets : Octets rule) (template_octets : Octets template) (record-octets : Octets bytes) where
+module _ (brought : Brought) (rule template bytes : List ℕ) (rule_octets : Octets rule) (template_octets : Octets template) (record_octets : Octets bytes) where
   abbrev l : Language
   l = language_of brought
 
@@ -55,9 +55,9 @@ module _ (brought : Brought) (rule template bytes : List ℕ) (rule-octets : Oct
     λ i. (
       i.matched.table_accepted_holds,
       rw (
-        (pattern_iff l rule rule-octets x.0.0).1 (i.matched.pattern_bytes_holds, i.matched.pattern_accepted),
+        (pattern_iff l rule rule_octets x.0.0).1 (i.matched.pattern_bytes_holds, i.matched.pattern_accepted),
         (pattern_iff l template template_octets x.0.1).1 (i.replacing.bytes, i.replacing.accepted),
-        (record_iff l bytes record-octets x.1).1 (i.matched.record_bytes, i.matched.record_accepted),
+        (record_iff l bytes record_octets x.1).1 (i.matched.record_bytes, i.matched.record_accepted),
         (template_exactly x.0.0 x.0.1).1 i.replacing.of_rule,
       ),
     ),
@@ -68,9 +68,9 @@ module _ (brought : Brought) (rule template bytes : List ℕ) (rule-octets : Oct
         let p = every.reading_passed (read_pattern l rule) x.0.0 c.0 in
         let q = every.reading_passed (read_pattern l template) x.0.1 c.1 in
         let r = every.reading_passed (read_record l bytes) x.1 b.1 in
-        let y = pattern_read l rule rule-octets p.0 x.0.0 p.1 in
+        let y = pattern_read l rule rule_octets p.0 x.0.0 p.1 in
         let z = pattern_read l template template_octets q.0 x.0.1 q.1 in
-        let t = record_read l bytes record-octets r.0 x.1 r.1 in record {
+        let t = record_read l bytes record_octets r.0 x.1 r.1 in record {
           matched = record { table_accepted_holds = e.0; pattern_bytes_holds = y.0; pattern_accepted = y.1; record_bytes = t.0; record_accepted = t.1 };
           replacing = record { bytes = z.0; accepted = z.1; of_rule = (template_exactly x.0.0 x.0.1).0 f.1 };
         },
@@ -93,7 +93,7 @@ module _ (brought : Brought) (rule template bytes : List ℕ) (rule-octets : Oct
       → pattern_bytes brought.table q [] ≡ template → PatternAccepted l q → loose (free p) q ≡ true → checked brought rule template bytes ≡ fault Loose 0
   loose_checked tabled a p q pb pa qb qa h =
       every.then_own brought answer_width (trees l rule template bytes) (omega arith) tabled a
-      ∙ rw ((pattern_iff l rule rule-octets p).1 (pb, pa), (pattern_iff l template template_octets q).1 (qb, qa), h)
+      ∙ rw ((pattern_iff l rule rule_octets p).1 (pb, pa), (pattern_iff l template template_octets q).1 (qb, qa), h)
 
 -- what is read, by what is told of the parts
 trees_are : (l : Language) (rule template bytes : List ℕ) (x : Pattern × Pattern) (n m : ℕ) (b : Bool) (v : Verdict Term) → read_pattern l rule ≡ read x.0 n
@@ -129,21 +129,21 @@ module _ (brought : Brought) (rule template bytes : List ℕ) where
         let p = matching.rule_passed brought rule answer_width ruled in
         sym (ap check_of (own (fault r 0) (rw (p.3.2, refused_shown (read_pattern spoken template) r e))))
 
-    module _ (m : ℕ) (template-ends : shown (read_pattern spoken template) ≡ Ends m) (rule-octets : Octets rule) (template_octets : Octets template)
-        (b : Bool) (loose-told : TellsLoose brought.table rule template b) where
+    module _ (m : ℕ) (template_ends : shown (read_pattern spoken template) ≡ Ends m) (rule_octets : Octets rule) (template_octets : Octets template)
+        (b : Bool) (loose_told : TellsLoose brought.table rule template b) where
       is_loose : (p : Pattern) (n : ℕ) → read_pattern spoken rule ≡ read p n → (q : Pattern) → read_pattern spoken template ≡ read q m → b ≡ loose (free p) q
       unfolding TellsLoose
       is_loose p n e q f =
           let a = (matching.rule_passed brought rule answer_width ruled).2 in
-          let x = pattern_read spoken rule rule-octets n p e in
+          let x = pattern_read spoken rule rule_octets n p e in
           let y = pattern_read spoken template template_octets m q f in
-          loose-told p q (record { table_accepted_holds = a; bytes = x.0; fits = x.1.fits }) (record { table_accepted_holds = a; bytes = y.0; fits = y.1.fits })
+          loose_told p q (record { table_accepted_holds = a; bytes = x.0; fits = x.1.fits }) (record { table_accepted_holds = a; bytes = y.0; fits = y.1.fits })
 
       told : (v : Verdict Term) → reading (read_record spoken bytes) ≡ v
           → check_of (checked brought rule template bytes) ≡ check_of (cond b (fault Loose 0) v)
       told v e =
           let p = (matching.rule_passed brought rule answer_width ruled).3 in
-          let q = ends_shown (read_pattern spoken template) m template-ends in
+          let q = ends_shown (read_pattern spoken template) m template_ends in
           let z = is_loose p.0 p.1 p.2 q.0 q.1 in
           let x : Pattern × Pattern = (p.0, q.0) in
           ap check_of (own (both (check (not b) Loose (passed x)) v) (trees_are spoken rule template bytes x p.1 m b v p.2 q.1 (sym z) e)) ∙ go x b v

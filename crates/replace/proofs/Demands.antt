@@ -149,8 +149,8 @@ module _ (l : Language) (rule template bytes : List ℕ) (k : Alike l.table l.cl
             ∙ take_at (term_bytes table u []) (drop (length (term_bytes table u [])) before) (length (term_bytes table u [])) refl,
       )
 
-module _ (brought : Brought) (rule template bytes before : List ℕ) (allowance : ℕ) (rule-octets : Octets rule)
-    (template_octets : Octets template) (record-octets : Octets bytes) where
+module _ (brought : Brought) (rule template bytes before : List ℕ) (allowance : ℕ) (rule_octets : Octets rule)
+    (template_octets : Octets template) (record_octets : Octets bytes) where
   abbrev lang : Language
   lang = language_of brought
 
@@ -168,7 +168,7 @@ module _ (brought : Brought) (rule template bytes before : List ℕ) (allowance 
     k = brought_alike brought a
 
     same : (v : Verdict Trees) → checked brought rule template bytes ≡ v → v ≡ passed ((p, q), t)
-    same v h = sym h ∙ input_checked brought rule template bytes rule-octets template_octets record-octets a p q t i
+    same v h = sym h ∙ input_checked brought rule template bytes rule_octets template_octets record_octets a p q t i
 
     answered : Answered brought rule template bytes before allowance p q t (tells ((p, q), t)) (leaves ((p, q), t))
     unfolding apply_of output_of
@@ -187,7 +187,7 @@ module _ (brought : Brought) (rule template bytes before : List ℕ) (allowance 
           shows_length = came.shows_length lang k p q t _ _ _ _ _ allowance before _ _ e;
           bound_writes = came.writes lang k p q t _ _ _ _ _ allowance before _ _ e;
           larger_allowance = λ more h m.
-              rw (input_checked brought rule template bytes rule-octets template_octets record-octets a p q t i, larger lang p q t allowance more h m) (refl, refl);
+              rw (input_checked brought rule template bytes rule_octets template_octets record_octets a p q t i, larger lang p q t allowance more h m) (refl, refl);
           own_template = own_template lang k p t of q i.matched.pattern_accepted i.replacing.accepted ((template_exactly p q).1 i.replacing.of_rule) (brought_classed brought a);
         }
 
@@ -197,7 +197,7 @@ module _ (brought : Brought) (rule template bytes before : List ℕ) (allowance 
     refused_exactly = (λ e a p q t i. absurd (fault_passed (same a p q t i (fault r j) h)), λ f. (r, refl));
     refused_shows = λ s e. refl;
     loose = λ tabled a p q pb pa qb qa n.
-        let z = loose_checked brought rule template bytes rule-octets template_octets record-octets tabled a p q pb pa qb qa (is_loose p q n) in
+        let z = loose_checked brought rule template bytes rule_octets template_octets record_octets tabled a p q pb pa qb qa (is_loose p q n) in
         ap (λ (v : Verdict Trees). applied_number (answer_by refusal tells v)) (sym h ∙ z);
     unbound_length = λ e. refl;
     untouched = λ e. refl;
@@ -206,7 +206,7 @@ module _ (brought : Brought) (rule template bytes before : List ℕ) (allowance 
     answered = λ a p q t i. absurd (fault_passed (same a p q t i (fault r j) h));
   }
   demanded_by (passed x) h =
-      let c = checked_input brought rule template bytes rule-octets template_octets record-octets x h in
+      let c = checked_input brought rule template bytes rule_octets template_octets record_octets x h in
       let p = x.0.0 in
       let q = x.0.1 in
       let t = x.1 in
@@ -220,7 +220,7 @@ module _ (brought : Brought) (rule template bytes before : List ℕ) (allowance 
         );
         refused_shows = came.no_count lang k p q t _ _ _ _ _ allowance before _ _ e;
         loose = λ tabled a p' q' pb pa qb qa n.
-            absurd (fault_passed (sym (loose_checked brought rule template bytes rule-octets template_octets record-octets tabled a p' q' pb pa qb qa (is_loose p' q' n)) ∙ h));
+            absurd (fault_passed (sym (loose_checked brought rule template bytes rule_octets template_octets record_octets tabled a p' q' pb pa qb qa (is_loose p' q' n)) ∙ h));
         unbound_length = came.no_length lang k p q t _ _ _ _ _ allowance before _ _ e;
         untouched = came.untouched lang k p q t _ _ _ _ _ allowance before _ _ e;
         past_stays = came.past_stays lang k p q t _ _ _ _ _ allowance before _ _ e;

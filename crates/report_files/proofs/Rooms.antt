@@ -45,33 +45,33 @@ room_loaded l f before part start room e r wide held same =
     }
 
 -- equal bytes have the same report
-pub on_bytes : (tableRead rulesRead statesRead : Bool) (a b c x y z before after : List ℕ) (size : ℕ) → a ≡ x → b ≡ y → c ≡ z
-    → (size ≡ length (report tableRead a rulesRead b statesRead c)) × (after ≡ front (report tableRead a rulesRead b statesRead c) before)
-    → (size ≡ length (report tableRead x rulesRead y statesRead z)) × (after ≡ front (report tableRead x rulesRead y statesRead z) before)
-on_bytes tableRead rulesRead statesRead a b c x y z before after size e f g p = rw (← e, ← f, ← g) p
+pub on_bytes : (table_read rules_read states_read : Bool) (a b c x y z before after : List ℕ) (size : ℕ) → a ≡ x → b ≡ y → c ≡ z
+    → (size ≡ length (report table_read a rules_read b states_read c)) × (after ≡ front (report table_read a rules_read b states_read c) before)
+    → (size ≡ length (report table_read x rules_read y states_read z)) × (after ≡ front (report table_read x rules_read y states_read z) before)
+on_bytes table_read rules_read states_read a b c x y z before after size e f g p = rw (← e, ← f, ← g) p
 
 take_short : (n : ℕ) (l : List ℕ) → length (take n l) ≤ n
 take_short n l = simp length-take (omega arith)
 
 -- to read no more of each file than its room makes no difference
-pub room_enough : (tableRead : Bool) (table : List ℕ) (rulesRead : Bool) (rules : List ℕ) (statesRead : Bool) (states : List ℕ)
-    → report tableRead (take (room_of Table) table) rulesRead (take (room_of Rules) rules) statesRead (take (room_of States) states)
-    ≡ report tableRead table rulesRead rules statesRead states
-room_enough tableRead table rulesRead rules statesRead states =
-    cut_report tableRead table rulesRead rules statesRead states (room_of Table) (room_of Rules) (room_of States) (omega arith) (omega arith) (omega arith)
+pub room_enough : (table_read : Bool) (table : List ℕ) (rules_read : Bool) (rules : List ℕ) (states_read : Bool) (states : List ℕ)
+    → report table_read (take (room_of Table) table) rules_read (take (room_of Rules) rules) states_read (take (room_of States) states)
+    ≡ report table_read table rules_read rules states_read states
+room_enough table_read table rules_read rules states_read states =
+    cut_report table_read table rules_read rules states_read states (room_of Table) (room_of Rules) (room_of States) (omega arith) (omega arith) (omega arith)
 
 -- the report on bytes in the rooms
-pub rooms_reported : (tableRead rulesRead statesRead : Bool) (t r s : ℕ) (files before after : List ℕ) (size : ℕ)
+pub rooms_reported : (table_read rules_read states_read : Bool) (t r s : ℕ) (files before after : List ℕ) (size : ℕ)
     → t ≤ room_of Table → r ≤ room_of Rules → s ≤ room_of States
-    → (size ≡ length (report tableRead (bytes_of Table t files) rulesRead (bytes_of Rules r files) statesRead (bytes_of States s files)))
-    × (after ≡ front (report tableRead (bytes_of Table t files) rulesRead (bytes_of Rules r files) statesRead (bytes_of States s files)) before)
+    → (size ≡ length (report table_read (bytes_of Table t files) rules_read (bytes_of Rules r files) states_read (bytes_of States s files)))
+    × (after ≡ front (report table_read (bytes_of Table t files) rules_read (bytes_of Rules r files) states_read (bytes_of States s files)) before)
     → Reported size before after
-rooms_reported tableRead rulesRead statesRead t r s files before after size a b c put = record {
-  table_read = tableRead;
+rooms_reported table_read rules_read states_read t r s files before after size a b c put = record {
+  table_read = table_read;
   table = bytes_of Table t files;
-  rules_read = rulesRead;
+  rules_read = rules_read;
   rules = bytes_of Rules r files;
-  states_read = statesRead;
+  states_read = states_read;
   states = bytes_of States s files;
   table_within = omega (arith, take_short t (drop (room_start Table) files));
   rules_within = omega (arith, take_short r (drop (room_start Rules) files));

@@ -125,9 +125,9 @@ fn put_loaded(
     files: &[u8],
     out: &mut [u8; report_lines::REPORT_ROOM],
 ) -> usize
-    requires load_of { LoadOf t File.Table (room_of File.Table) }
-    requires load_of_2 { LoadOf r File.Rules (room_of File.Rules) }
-    requires load_of_3 { LoadOf s File.States (room_of File.States) }
+    requires table_loaded { LoadOf t File.Table (room_of File.Table) }
+    requires rules_loaded { LoadOf r File.Rules (room_of File.Rules) }
+    requires states_loaded { LoadOf s File.States (room_of File.States) }
     requires files_len { length files.now ≡ files_room }
     ensures value { result ≡ length (loaded_report t r s files.now) }
     ensures out_value { out.new ≡ front (loaded_report t r s files.now) out.old }

@@ -31,13 +31,13 @@ abbrev pub longest_table : ℕ
 longest_table = 200
 
 -- the same refusal is the same report
-refused_same : (tableRead : Bool) (table table' : List ℕ) (rulesRead : Bool) (rules rules' : List ℕ) (statesRead : Bool) (states states' : List ℕ)
-    (r : Refusal) (f : File) (i : ℕ) → Verdict.Refused r f i ≡ verdict tableRead table rulesRead rules statesRead states
-    → Verdict.Refused r f i ≡ verdict tableRead table' rulesRead rules' statesRead states'
-    → report tableRead table rulesRead rules statesRead states ≡ report tableRead table' rulesRead rules' statesRead states'
-refused_same tableRead table table' rulesRead rules rules' statesRead states states' r f i a b =
-    sym (report_by_holds tableRead table rulesRead rules statesRead states (Verdict.Refused r f i) (sym a))
-    ∙ report_by_holds tableRead table' rulesRead rules' statesRead states' (Verdict.Refused r f i) (sym b)
+refused_same : (table_read : Bool) (table table' : List ℕ) (rules_read : Bool) (rules rules' : List ℕ) (states_read : Bool) (states states' : List ℕ)
+    (r : Refusal) (f : File) (i : ℕ) → Verdict.Refused r f i ≡ verdict table_read table rules_read rules states_read states
+    → Verdict.Refused r f i ≡ verdict table_read table' rules_read rules' states_read states'
+    → report table_read table rules_read rules states_read states ≡ report table_read table' rules_read rules' states_read states'
+refused_same table_read table table' rules_read rules rules' states_read states states' r f i a b =
+    sym (report_by_holds table_read table rules_read rules states_read states (Verdict.Refused r f i) (sym a))
+    ∙ report_by_holds table_read table' rules_read rules' states_read states' (Verdict.Refused r f i) (sym b)
 
 table_long : (table : List ℕ) → longest_table < length table → table_accepted table ≡ false
 unfolding table_accepted
@@ -52,58 +52,58 @@ sheet_too_long : (records : Bool) (editions : Editions) (table s : List ℕ) →
 unfolding readable
 sheet_too_long records editions table s t h = contents_refused records editions table none s t refl Long 0 (among_refused editions s Long 0 (sheet_long s h))
 
-tables_long : (tableRead rulesRead statesRead : Bool) (rules states x y : List ℕ) → longest_table < length x → longest_table < length y
-    → report tableRead x rulesRead rules statesRead states ≡ report tableRead y rulesRead rules statesRead states
-tables_long false rulesRead statesRead rules states x y a b =
-    refused_same false x y rulesRead rules rules statesRead states states Unread File.Table 0
-    (table_unread false x rulesRead rules statesRead states refl) (table_unread false y rulesRead rules statesRead states refl)
-tables_long true rulesRead statesRead rules states x y a b =
-    refused_same true x y rulesRead rules rules statesRead states states Refusal.Table File.Table 0
-    (table_refused true x rulesRead rules statesRead states refl (table_long x a)) (table_refused true y rulesRead rules statesRead states refl (table_long y b))
+tables_long : (table_read rules_read states_read : Bool) (rules states x y : List ℕ) → longest_table < length x → longest_table < length y
+    → report table_read x rules_read rules states_read states ≡ report table_read y rules_read rules states_read states
+tables_long false rules_read states_read rules states x y a b =
+    refused_same false x y rules_read rules rules states_read states states Unread File.Table 0
+    (table_unread false x rules_read rules states_read states refl) (table_unread false y rules_read rules states_read states refl)
+tables_long true rules_read states_read rules states x y a b =
+    refused_same true x y rules_read rules rules states_read states states Refusal.Table File.Table 0
+    (table_refused true x rules_read rules states_read states refl (table_long x a)) (table_refused true y rules_read rules states_read states refl (table_long y b))
 
-module _ (statesRead : Bool) (table states x y : List ℕ) (a : longest_sheet < length x) (b : longest_sheet < length y) where
-  rules_long : (tableRead rulesRead : Bool) → report tableRead table rulesRead x statesRead states ≡ report tableRead table rulesRead y statesRead states
-  rules_long false rulesRead =
-      refused_same false table table rulesRead x y statesRead states states Unread File.Table 0
-      (table_unread false table rulesRead x statesRead states refl) (table_unread false table rulesRead y statesRead states refl)
-  rules_long true rulesRead = go (table_accepted table) refl rulesRead
+module _ (states_read : Bool) (table states x y : List ℕ) (a : longest_sheet < length x) (b : longest_sheet < length y) where
+  rules_long : (table_read rules_read : Bool) → report table_read table rules_read x states_read states ≡ report table_read table rules_read y states_read states
+  rules_long false rules_read =
+      refused_same false table table rules_read x y states_read states states Unread File.Table 0
+      (table_unread false table rules_read x states_read states refl) (table_unread false table rules_read y states_read states refl)
+  rules_long true rules_read = go (table_accepted table) refl rules_read
     where
-      go : (t : Bool) → table_accepted table ≡ t → (read : Bool) → report true table read x statesRead states ≡ report true table read y statesRead states
+      go : (t : Bool) → table_accepted table ≡ t → (read : Bool) → report true table read x states_read states ≡ report true table read y states_read states
       go false t read =
-          refused_same true table table read x y statesRead states states Refusal.Table File.Table 0
-          (table_refused true table read x statesRead states refl t) (table_refused true table read y statesRead states refl t)
+          refused_same true table table read x y states_read states states Refusal.Table File.Table 0
+          (table_refused true table read x states_read states refl t) (table_refused true table read y states_read states refl t)
       go true t false =
-          refused_same true table table false x y statesRead states states Unread File.Rules 0
-          (rules_refused true table false x statesRead states refl t Unread 0 (sheet_unread (check_rules table none x)))
-          (rules_refused true table false y statesRead states refl t Unread 0 (sheet_unread (check_rules table none y)))
+          refused_same true table table false x y states_read states states Unread File.Rules 0
+          (rules_refused true table false x states_read states refl t Unread 0 (sheet_unread (check_rules table none x)))
+          (rules_refused true table false y states_read states refl t Unread 0 (sheet_unread (check_rules table none y)))
       go true t true =
-          refused_same true table table true x y statesRead states states Long File.Rules 0
-          (rules_refused true table true x statesRead states refl t Long 0 (sheet_too_long false Any table x t a))
-          (rules_refused true table true y statesRead states refl t Long 0 (sheet_too_long false Any table y t b))
+          refused_same true table table true x y states_read states states Long File.Rules 0
+          (rules_refused true table true x states_read states refl t Long 0 (sheet_too_long false Any table x t a))
+          (rules_refused true table true y states_read states refl t Long 0 (sheet_too_long false Any table y t b))
 
-module _ (rulesRead : Bool) (table rules x y : List ℕ) (a : longest_sheet < length x) (b : longest_sheet < length y) where
-  states_long : (tableRead statesRead : Bool) → report tableRead table rulesRead rules statesRead x ≡ report tableRead table rulesRead rules statesRead y
-  states_long false statesRead =
-      refused_same false table table rulesRead rules rules statesRead x y Unread File.Table 0
-      (table_unread false table rulesRead rules statesRead x refl) (table_unread false table rulesRead rules statesRead y refl)
-  states_long true statesRead = go (table_accepted table) refl (readable rulesRead (check_rules table none rules)) refl statesRead
+module _ (rules_read : Bool) (table rules x y : List ℕ) (a : longest_sheet < length x) (b : longest_sheet < length y) where
+  states_long : (table_read states_read : Bool) → report table_read table rules_read rules states_read x ≡ report table_read table rules_read rules states_read y
+  states_long false states_read =
+      refused_same false table table rules_read rules rules states_read x y Unread File.Table 0
+      (table_unread false table rules_read rules states_read x refl) (table_unread false table rules_read rules states_read y refl)
+  states_long true states_read = go (table_accepted table) refl (readable rules_read (check_rules table none rules)) refl states_read
     where
-      go : (t : Bool) → table_accepted table ≡ t → (c : Checked) → readable rulesRead (check_rules table none rules) ≡ c → (read : Bool)
-          → report true table rulesRead rules read x ≡ report true table rulesRead rules read y
+      go : (t : Bool) → table_accepted table ≡ t → (c : Checked) → readable rules_read (check_rules table none rules) ≡ c → (read : Bool)
+          → report true table rules_read rules read x ≡ report true table rules_read rules read y
       go false t c e read =
-          refused_same true table table rulesRead rules rules read x y Refusal.Table File.Table 0
-          (table_refused true table rulesRead rules read x refl t) (table_refused true table rulesRead rules read y refl t)
+          refused_same true table table rules_read rules rules read x y Refusal.Table File.Table 0
+          (table_refused true table rules_read rules read x refl t) (table_refused true table rules_read rules read y refl t)
       go true t (Checked.Refused r i) e read =
-          refused_same true table table rulesRead rules rules read x y r File.Rules i
-          (rules_refused true table rulesRead rules read x refl t r i e) (rules_refused true table rulesRead rules read y refl t r i e)
+          refused_same true table table rules_read rules rules read x y r File.Rules i
+          (rules_refused true table rules_read rules read x refl t r i e) (rules_refused true table rules_read rules read y refl t r i e)
       go true t (Accepted m) e false =
-          refused_same true table table rulesRead rules rules false x y Unread File.States 0
-          (states_refused true table rulesRead rules false x refl t m e Unread 0 (sheet_unread (check_like table rules x)))
-          (states_refused true table rulesRead rules false y refl t m e Unread 0 (sheet_unread (check_like table rules y)))
+          refused_same true table table rules_read rules rules false x y Unread File.States 0
+          (states_refused true table rules_read rules false x refl t m e Unread 0 (sheet_unread (check_like table rules x)))
+          (states_refused true table rules_read rules false y refl t m e Unread 0 (sheet_unread (check_like table rules y)))
       go true t (Accepted m) e true =
-          refused_same true table table rulesRead rules rules true x y Long File.States 0
-          (states_refused true table rulesRead rules true x refl t m e Long 0 (sheet_too_long true (Only (edition_of rules)) table x t a))
-          (states_refused true table rulesRead rules true y refl t m e Long 0 (sheet_too_long true (Only (edition_of rules)) table y t b))
+          refused_same true table table rules_read rules rules true x y Long File.States 0
+          (states_refused true table rules_read rules true x refl t m e Long 0 (sheet_too_long true (Only (edition_of rules)) table x t a))
+          (states_refused true table rules_read rules true y refl t m e Long 0 (sheet_too_long true (Only (edition_of rules)) table y t b))
 
 -- what is the same of all that is too long is the same of its first bytes
 cut_same : (f : List ℕ → List ℕ) (most n : ℕ) → most < n → ((x y : List ℕ) → most < length x → most < length y → f x ≡ f y) → (l : List ℕ) → f (take n l) ≡ f l
@@ -113,13 +113,13 @@ cut_same f most n h long l = go (leb (length l) most) refl
     go true e = ap f (take_all n l (omega (arith, leb-true (length l) most e)))
     go false e = let o = leb-false (length l) most e in long (take n l) l (simp length-take (omega arith)) o
 
-pub cut_report : (tableRead : Bool) (table : List ℕ) (rulesRead : Bool) (rules : List ℕ) (statesRead : Bool) (states : List ℕ) (k m n : ℕ)
+pub cut_report : (table_read : Bool) (table : List ℕ) (rules_read : Bool) (rules : List ℕ) (states_read : Bool) (states : List ℕ) (k m n : ℕ)
     → longest_table < k → longest_sheet < m → longest_sheet < n
-    → report tableRead (take k table) rulesRead (take m rules) statesRead (take n states) ≡ report tableRead table rulesRead rules statesRead states
-cut_report tableRead table rulesRead rules statesRead states k m n a b c =
-    cut_same (λ (x : List ℕ). report tableRead x rulesRead (take m rules) statesRead (take n states)) longest_table k a
-    (λ x y. tables_long tableRead rulesRead statesRead (take m rules) (take n states) x y) table
-    ∙ cut_same (λ (x : List ℕ). report tableRead table rulesRead x statesRead (take n states)) longest_sheet m b
-    (λ x y g h. rules_long statesRead table (take n states) x y g h tableRead rulesRead) rules
-    ∙ cut_same (λ (x : List ℕ). report tableRead table rulesRead rules statesRead x) longest_sheet n c
-    (λ x y g h. states_long rulesRead table rules x y g h tableRead statesRead) states
+    → report table_read (take k table) rules_read (take m rules) states_read (take n states) ≡ report table_read table rules_read rules states_read states
+cut_report table_read table rules_read rules states_read states k m n a b c =
+    cut_same (λ (x : List ℕ). report table_read x rules_read (take m rules) states_read (take n states)) longest_table k a
+    (λ x y. tables_long table_read rules_read states_read (take m rules) (take n states) x y) table
+    ∙ cut_same (λ (x : List ℕ). report table_read table rules_read x states_read (take n states)) longest_sheet m b
+    (λ x y g h. rules_long states_read table (take n states) x y g h table_read rules_read) rules
+    ∙ cut_same (λ (x : List ℕ). report table_read table rules_read rules states_read x) longest_sheet n c
+    (λ x y g h. states_long rules_read table rules x y g h table_read states_read) states

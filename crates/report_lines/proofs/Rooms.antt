@@ -134,26 +134,26 @@ refusal_short r f i room wide =
     word_short Rules = omega arith
     word_short States = omega arith
 
-pub report_room_holds : (tableRead : Bool) (table : List ℕ) (rulesRead : Bool) (rules : List ℕ) (statesRead : Bool) (states : List ℕ)
-    → length (report tableRead table rulesRead rules statesRead states) ≤ report_room
+pub report_room_holds : (table_read : Bool) (table : List ℕ) (rules_read : Bool) (rules : List ℕ) (states_read : Bool) (states : List ℕ)
+    → length (report table_read table rules_read rules states_read states) ≤ report_room
 unfolding report lines header
-report_room_holds tableRead table rulesRead rules statesRead states = go (verdict tableRead table rulesRead rules statesRead states) refl
+report_room_holds table_read table rules_read rules states_read states = go (verdict table_read table rules_read rules states_read states) refl
   where
-    go : (v : Verdict) → verdict tableRead table rulesRead rules statesRead states ≡ v → length (report_by v table rules states) ≤ report_room
+    go : (v : Verdict) → verdict table_read table rules_read rules states_read states ≡ v → length (report_by v table rules states) ≤ report_room
     go (Verdict.Refused r f i) e = refusal_short r f i report_room (omega arith)
     go (Lines n) e =
-        let a = lines_accepted tableRead table rulesRead rules statesRead states n e in
+        let a = lines_accepted table_read table rules_read rules states_read states n e in
         let c = contents_passed true (Only (edition_of rules)) table none states n a.1 in
         let counted = entries_count states n c.sheet in
         let few = states_few states n c.sheet in
         simp length-append (omega (arith, lines_short table rules a.0.0 a.0.1 0 (entries states) (omega arith)))
 
 -- the text at the front of an output that has the room
-pub text_put : (tableRead : Bool) (table : List ℕ) (rulesRead : Bool) (rules : List ℕ) (statesRead : Bool) (states : List ℕ) (text before after : List ℕ) (size : ℕ)
-    → text ≡ report tableRead table rulesRead rules statesRead states → report_room ≤ length before → after ≡ sets before 0 text → size ≡ length text
-    → (size ≡ length (report tableRead table rulesRead rules statesRead states))
-    × (after ≡ front (report tableRead table rulesRead rules statesRead states) before)
+pub text_put : (table_read : Bool) (table : List ℕ) (rules_read : Bool) (rules : List ℕ) (states_read : Bool) (states : List ℕ) (text before after : List ℕ) (size : ℕ)
+    → text ≡ report table_read table rules_read rules states_read states → report_room ≤ length before → after ≡ sets before 0 text → size ≡ length text
+    → (size ≡ length (report table_read table rules_read rules states_read states))
+    × (after ≡ front (report table_read table rules_read rules states_read states) before)
 unfolding front
-text_put tableRead table rulesRead rules statesRead states text before after size e h stored sized =
-    let room : length text ≤ report_room = rw e (report_room_holds tableRead table rulesRead rules statesRead states) in
+text_put table_read table rules_read rules states_read states text before after size e h stored sized =
+    let room : length text ≤ report_room = rw e (report_room_holds table_read table rules_read rules states_read states) in
     rw (← e) (sized, stored ∙ sets_front before text (length text) refl (omega arith))

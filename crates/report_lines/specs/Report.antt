@@ -31,8 +31,8 @@ report_by (Verdict.Refused r f i) table rules states = refusal_line r f i
 
 -- the report on three files, each with whether it could be read
 unfoldable pub report : Bool → List ℕ → Bool → List ℕ → Bool → List ℕ → List ℕ
-report tableRead table rulesRead rules statesRead states =
-    report_by (verdict tableRead table rulesRead rules statesRead states) table rules states
+report table_read table rules_read rules states_read states =
+    report_by (verdict table_read table rules_read rules states_read states) table rules states
 
 -- The room that every report has its place in: a sheet holds at most 6,553 states, each with a pair and at least one byte, and a line has
 -- at most 22 bytes: 4 of the state's index, 2 of the rule's, 5 of the word, 7 of the sum, and the 4 after them. The header has 22 too.

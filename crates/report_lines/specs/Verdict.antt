@@ -29,11 +29,11 @@ check_like table rules states = check_contents true (Only (edition_of rules)) ta
 
 -- the number of states, or the first refusal
 unfoldable pub verdict : Bool → List ℕ → Bool → List ℕ → Bool → List ℕ → Verdict
-verdict tableRead table rulesRead rules statesRead states =
-    cond tableRead
+verdict table_read table rules_read rules states_read states =
+    cond table_read
     (cond (table_accepted table)
-    (sheet_of Rules (readable rulesRead (check_rules table none rules)) (λ m.
-    sheet_of States (readable statesRead (check_like table rules states)) (λ n. Lines n)))
+    (sheet_of Rules (readable rules_read (check_rules table none rules)) (λ m.
+    sheet_of States (readable states_read (check_like table rules states)) (λ n. Lines n)))
     (Verdict.Refused Refusal.Table File.Table 0))
     (Verdict.Refused Unread File.Table 0)
 

@@ -83,19 +83,19 @@ each_like : (brought : Brought) (sheet : List ℕ) → edition_of sheet ≡ brou
     → check_each false (language_of brought) 0 (entries sheet) ≡ Accepted n
 each_like brought sheet like n a = rw like at (contents_passed false Any brought.table brought.list sheet n a).each
 
-module _ (brought : Brought) (sheet bytes : List ℕ) (sheet-octets : Octets sheet) (record-octets : Octets bytes) (like : edition_of sheet ≡ brought.edition) where
+module _ (brought : Brought) (sheet bytes : List ℕ) (sheet_octets : Octets sheet) (record_octets : Octets bytes) (like : edition_of sheet ≡ brought.edition) where
   -- accepted input is what is read
   pub reads : (x : List Pattern × Term) → AcceptedTrees brought sheet bytes x ↔ ((table_accepted brought.table ≡ true) × (trees brought sheet bytes ≡ passed x))
   reads x = (
     λ i.
         let qs = x.0 in
         let e = input_entries brought sheet bytes qs x.1 i in
-        let w = rules_written (language_of brought) qs i.rules_accepted (λ j. rw (← e) (entries_octets sheet sheet-octets j)) 0 in
+        let w = rules_written (language_of brought) qs i.rules_accepted (λ j. rw (← e) (entries_octets sheet sheet_octets j)) 0 in
         let a = directed_accepted sheet (length qs) (input_directed brought sheet bytes qs x.1 i) in
         let c = contents_each false Any brought.table brought.list sheet i.table_accepted_holds i.list_accepted_holds (length qs)
         (among_checked Any sheet (length qs) true a refl) (le-leb (length qs) most_rules i.few_rules)
         ∙ ap₂ (λ (x : Edition) (y : List (List ℕ)). check_each false (language_in x brought.table brought.list) 0 y) like e ∙ w.1 in
-        (i.table_accepted_holds, rw (c, e, w.0, (record_iff (language_of brought) bytes record-octets x.1).1 (i.record_bytes, i.record_accepted))),
+        (i.table_accepted_holds, rw (c, e, w.0, (record_iff (language_of brought) bytes record_octets x.1).1 (i.record_bytes, i.record_accepted))),
     λ e.
         let qs = x.0 in
         let es = entries sheet in
@@ -105,12 +105,12 @@ module _ (brought : Brought) (sheet bytes : List ℕ) (sheet-octets : Octets she
         let n = p.0 in
         let c = contents_passed false Any brought.table brought.list sheet n p.1 in
         let d = accepted_directed sheet n c.sheet in
-        let s = rw p.2 at (rules_read (language_of brought) es (entries_octets sheet sheet-octets) 0 n (each_like brought sheet like n p.1)) in
+        let s = rw p.2 at (rules_read (language_of brought) es (entries_octets sheet sheet_octets) 0 n (each_like brought sheet like n p.1)) in
         let few : length qs ≡ n = omega (arith, ap length p.2, rules_length (language_of brought) es 0 n (each_like brought sheet like n p.1)) in
-        let r = record_read (language_of brought) bytes record-octets y.0 x.1 y.1 in record {
+        let r = record_read (language_of brought) bytes record_octets y.0 x.1 y.1 in record {
           table_accepted_holds = c.tabled;
           list_accepted_holds = c.classed;
-          sheet_bytes_holds = rw (s.0, ← like) (accepted_reading sheet n sheet-octets d).bytes;
+          sheet_bytes_holds = rw (s.0, ← like) (accepted_reading sheet n sheet_octets d).bytes;
           sheet_short = d.short;
           few_rules = rw few (leb-true n most_rules c.not_many);
           rules_accepted = s.1;

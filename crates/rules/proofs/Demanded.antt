@@ -38,9 +38,9 @@ use Rattle.reader.specs.Brought.{Brought, classes_of, language_of, brought_accep
 use Rattle.call.specs.Call.{answer_width, written}
 use Rattle.call.proofs.Brought.{brought_alike}
 use Rattle.call.proofs.Handled.{handled, fails, passes}
-use Rattle.matcher.specs.Call.{Input as PatternInput, told as ownTold, bound_parts as ownParts}
+use Rattle.matcher.specs.Call.{Input as PatternInput, told as own_told, bound_parts as own_parts}
 use Rattle.matcher.specs.Demands.{Shows}
-use Rattle.matcher.proofs.Answered.{answered as own-answered}
+use Rattle.matcher.proofs.Answered.{answered as own_answered}
 use Rattle.rules.specs.Demands.{ShownAs, Called}
 use Rattle.rules.specs.Trial.{Trial, bound_at, none_of, spent_at, try_rules}
 use Rattle.rules.specs.Call.{Input, AcceptedTrees, trees, checked, check_of, told, answer_of, bound_parts, buffer_of, answer_on_bytes, buffer_on_bytes}
@@ -137,8 +137,8 @@ module _ (l : Language) (alike : Alike l.table l.classes) (qs : List Pattern) (t
   none_there n (ends_bound r f) e = let z : ◌≡◌ {A = ℕ} 0 1 = cc in absurd (omega arith)
   none_there n (ends_spent r f) e = let z : ◌≡◌ {A = ℕ} 0 1 = cc in absurd (omega arith)
 
-module _ (brought : Brought) (sheet bytes before : List ℕ) (allowance : ℕ) (sheet-octets : Octets sheet)
-    (record-octets : Octets bytes) (like : edition_of sheet ≡ brought.edition) where
+module _ (brought : Brought) (sheet bytes before : List ℕ) (allowance : ℕ) (sheet_octets : Octets sheet)
+    (record_octets : Octets bytes) (like : edition_of sheet ≡ brought.edition) where
   abbrev l : Language
   l = language_of brought
 
@@ -165,7 +165,7 @@ module _ (brought : Brought) (sheet bytes before : List ℕ) (allowance : ℕ) (
     part_of_holds {k} {q} r =
         let h : k < length qs = omega (arith, r.index, ap length r.rules, length-append r.earlier (q ∷ r.later)) in (
           subst (λ (p : Pattern). PatternInput (language_of brought) (part_at sheet k) bytes p t) (is_rule r) (rule_input brought sheet bytes qs t i k h),
-          part_octets brought sheet bytes qs t i sheet-octets k h,
+          part_octets brought sheet bytes qs t i sheet_octets k h,
         )
 
     bound_shows : (k n : ℕ) {x : Trial} → Ends l t allowance qs x → told x ≡ Bound k n
@@ -173,9 +173,9 @@ module _ (brought : Brought) (sheet bytes before : List ℕ) (allowance : ℕ) (
     bound_shows k n (ends_bound {k = j} {q = q} {sum = sum} {ps = ps} {n = m} r f) e =
         let z : j ≡ k = cc in
         let p = part_of_holds r in
-        let s = (own-answered brought (part_at sheet j) bytes alike q t p.0 allowance before p.1 record-octets wide accepted).bound_shows
-        (ap (λ (o : Matching). answer_number (ownTold o)) f) in
-        (q, sum, reached_at l qs t allowance z r, (s.0, s.1, subst (Shows brought.table bytes q t s.0) (ap (λ (o : Matching). written (ownParts o) before) f) s.2))
+        let s = (own_answered brought (part_at sheet j) bytes alike q t p.0 allowance before p.1 record_octets wide accepted).bound_shows
+        (ap (λ (o : Matching). answer_number (own_told o)) f) in
+        (q, sum, reached_at l qs t allowance z r, (s.0, s.1, subst (Shows brought.table bytes q t s.0) (ap (λ (o : Matching). written (own_parts o) before) f) s.2))
     bound_shows k n (ends_none h) e = let z : ◌≡◌ {A = ℕ} 0 1 = cc in absurd (omega arith)
     bound_shows k n (ends_spent r f) e = let z : ◌≡◌ {A = ℕ} 0 1 = cc in absurd (omega arith)
 
@@ -183,7 +183,7 @@ module _ (brought : Brought) (sheet bytes before : List ℕ) (allowance : ℕ) (
         → (answer_of brought sheet bytes more (length before) ≡ told trial) × (buffer_of brought sheet bytes more before ≡ written (bound_parts trial) before)
     unfolding answer_of buffer_of
     same_call more z =
-        rw ((checked_exactly brought sheet bytes sheet-octets record-octets like (length before) qs t).1 (wide, accepted, i))
+        rw ((checked_exactly brought sheet bytes sheet_octets record_octets like (length before) qs t).1 (wide, accepted, i))
         (ap told z, ap (λ (x : Trial). written (bound_parts x) before) z)
 
     answered : Answered brought sheet bytes before allowance qs t (told trial) (written (bound_parts trial) before)
@@ -284,7 +284,7 @@ module _ (brought : Brought) (sheet bytes before : List ℕ) (allowance : ℕ) (
     published = λ wide b qs t i q n. let z = same_call wide b qs t i allowance refl in rw (z.0, z.1) (published wide b qs t i q n);
     bounded = λ wide b qs t i. rw (same_call wide b qs t i allowance refl).0 (bounded wide b qs t i);
     handled = handled Refused tells binds before brought (trees brought sheet bytes) (AcceptedTrees brought sheet bytes) (λ x. ⊥)
-        (reads brought sheet bytes sheet-octets record-octets like) rule_number rule_count
+        (reads brought sheet bytes sheet_octets record_octets like) rule_number rule_count
         (record {
           numbered = λ r i. refl;
           uncounted = λ r i. refl;
@@ -310,7 +310,7 @@ module _ (brought : Brought) (sheet bytes before : List ℕ) (allowance : ℕ) (
   unfolding answer_of buffer_of
   passes_called n e classes same a after m =
       let c = check_passed (checked brought sheet bytes (length before)) n e in
-      let i = (checked_exactly brought sheet bytes sheet-octets record-octets like (length before) c.0 c.1).0 c.2 in
+      let i = (checked_exactly brought sheet bytes sheet_octets record_octets like (length before) c.0 c.1).0 c.2 in
       let g = bytes_answered brought sheet bytes allowance before i.0 (brought_alike brought i.1) c.0 c.1 i.2 in
       let n = rw same at m in
       passes Refused tells binds before (checked brought sheet bytes (length before)) (Demanded brought sheet bytes before allowance) demanded_of

@@ -21,7 +21,7 @@ use Rattle.sheet.specs.Check.{entry_count}
 use Rattle.sheet.specs.Entry.{part_at}
 use Rattle.call.specs.Call.{answer_width, written}
 use Rattle.link.specs.OnBytes.{outcome_on_bytes}
-use Rattle.matcher.specs.Call.{told as ownTold, bound_parts as ownParts, answer_on_bytes as ownAnswer, buffer_on_bytes as ownBuffer}
+use Rattle.matcher.specs.Call.{told as own_told, bound_parts as own_parts, answer_on_bytes as own_answer, buffer_on_bytes as own_buffer}
 use Rattle.link.proofs.Linked.{linked}
 use Rattle.rules.specs.Trial.{Trial, none_of, try_one, try_each, try_rules}
 use Rattle.rules.specs.Call.{Input, told, bound_parts, parts_from, try_parts, answer_on_bytes, buffer_on_bytes}
@@ -119,14 +119,14 @@ Stops (Answer.None n) = ⊥
 Stops (Answer.Spent n) = Unit {0}
 Stops (Answer.Refused r) = Unit {0}
 
-stop_told : (k sum : ℕ) (o : Matching) (next : ℕ → Trial) (before : List ℕ) → Stops (ownTold o)
-    → (stop_of k sum (ownTold o) ≡ told (try_one k sum o next)) × (written (ownParts o) before ≡ written (bound_parts (try_one k sum o next)) before)
+stop_told : (k sum : ℕ) (o : Matching) (next : ℕ → Trial) (before : List ℕ) → Stops (own_told o)
+    → (stop_of k sum (own_told o) ≡ told (try_one k sum o next)) × (written (own_parts o) before ≡ written (bound_parts (try_one k sum o next)) before)
 stop_told k sum (bound parts n) next before h = (refl, refl)
 stop_told k sum (nothing n) next before h = absurd h
 stop_told k sum (spent n) next before h = (refl, refl)
 
-none_told : (k sum : ℕ) (o : Matching) (next : ℕ → Trial) (n : ℕ) (before : List ℕ) → ownTold o ≡ Answer.None n
-    → (try_one k sum o next ≡ next (sum + n)) × (written (ownParts o) before ≡ before)
+none_told : (k sum : ℕ) (o : Matching) (next : ℕ → Trial) (n : ℕ) (before : List ℕ) → own_told o ≡ Answer.None n
+    → (try_one k sum o next ≡ next (sum + n)) × (written (own_parts o) before ≡ before)
 none_told k sum (bound parts m) next n before e = let z : ◌≡◌ {A = ℕ} 0 1 = cc in absurd (omega arith)
 none_told k sum (nothing m) next n before e = let z : m ≡ n = cc in (ap (λ (x : ℕ). next (sum + x)) z, refl)
 none_told k sum (spent m) next n before e = let z : ◌≡◌ {A = ℕ} 0 1 = cc in absurd (omega arith)
@@ -182,7 +182,7 @@ module _ {table classes sheet bytes : List ℕ} {allowance : ℕ} {before : List
       (None sum) buffer refl turn.untouched
 
   module _ (part : List ℕ) (is_part : part ≡ part_at sheet k) (a : Answer) (after : List ℕ)
-      (called : (a ≡ ownAnswer table classes part bytes allowance (length buffer)) × (after ≡ ownBuffer table classes part bytes allowance buffer))
+      (called : (a ≡ own_answer table classes part bytes allowance (length buffer)) × (after ≡ own_buffer table classes part bytes allowance buffer))
       (below : k < rules) where
     -- the own answer of the part, and the parts past it
     abbrev outcome : Matching
@@ -191,8 +191,8 @@ module _ {table classes sheet bytes : List ℕ} {allowance : ℕ} {before : List
     abbrev later : ℕ → Trial
     later s = try_each (own table classes sheet bytes allowance) (k + 1) s (drop (k + 1) (parts table classes sheet bytes allowance))
 
-    answers : (a ≡ ownTold outcome) × (after ≡ written (ownParts outcome) before)
-    unfolding ownAnswer ownBuffer
+    answers : (a ≡ own_told outcome) × (after ≡ written (own_parts outcome) before)
+    unfolding own_answer own_buffer
     answers =
         let c = rw (is_part, turn.untouched, le-ltb (length before) answer_width turn.wide) at called in
         c

@@ -42,7 +42,7 @@ use Rattle.search.proofs.Tries.{level_stops}
 use Rattle.search.proofs.Levels.{taken, inside_is}
 
 module _ (table classes pattern bytes : List ℕ) (node left b : ℕ) (some : left ≡ 0 → ⊥) (codes : 0 < length pattern) (within : node < length bytes)
-    (code : Code) (is_code : code ≡ decode_of (get_or pattern 0 0)) (is-symbol : code ≡ Symbol b) where
+    (code : Code) (is_code : code ≡ decode_of (get_or pattern 0 0)) (is_symbol : code ≡ Symbol b) where
   -- pattern and record from the pair on, as the step takes them
   abbrev here : List ℕ
   here = take (length pattern - 0) (drop 0 pattern)
@@ -61,7 +61,7 @@ module _ (table classes pattern bytes : List ℕ) (node left b : ℕ) (some : le
   unfolding pair_step code_step
   first_step shown x e =
       step_at_holds true table classes pattern bytes (part_in_state (start_of shown node)) (place 1 1 0 node) left (Symbol b) x (λ z. omega arith) codes
-      (sym is-symbol ∙ is_code)
+      (sym is_symbol ∙ is_code)
       (plain_pair true (Symbol b) table classes pattern bytes _ (place 1 1 0 node) left x (λ z. omega arith) within some e)
 
   walk_differs : (shown : List Part) → Fails ≡ symbol_step table classes here there b
@@ -107,7 +107,7 @@ end_with Spent left shown = refl
 
 module _ (table classes pattern bytes : List ℕ) (assigned : ℕ) (parts : List ℕ) (node left v : ℕ) (some : left ≡ 0 → ⊥) (codes : 0 < length pattern)
     (within : node < length bytes) (code : Code) (is_code : code ≡ decode_of (get_or pattern 0 0)) (is_name : code ≡ Name v) (low : v < variables)
-    (had : Part) (is-had : had ≡ part_of assigned parts v) where
+    (had : Part) (is_had : had ≡ part_of assigned parts v) where
   abbrev from : List ℕ
   from = take (length bytes - node) (drop node bytes)
 
@@ -121,7 +121,7 @@ module _ (table classes pattern bytes : List ℕ) (assigned : ℕ) (parts : List
       step_at_holds true table classes pattern bytes (part_in_state (start_of shown node)) (place 1 1 0 node) left (Name v) x (λ z. omega arith) codes
       (sym is_name ∙ is_code)
       (plain_pair true (Name v) table classes pattern bytes _ (place 1 1 0 node) left x (λ z. omega arith) within some
-      (e ∙ ap (λ (h : Part). name_step table classes bytes from v h 1) (is-had ∙ part_below assigned parts v low ∙ sym (all v low))))
+      (e ∙ ap (λ (h : Part). name_step table classes bytes from v h 1) (is_had ∙ part_below assigned parts v low ∙ sym (all v low))))
 
   -- it takes the node, with these parts, and no pair is left
   taken_whole : (shown shown' : List Part) (size n : ℕ) → 0 < n

@@ -47,7 +47,7 @@ module _ (assigned v node size n : ℕ) (parts : List ℕ) (vs : List Part) wher
   present_assigned : node ≤ longest_record → length vs ≡ variables
       → ((w : ℕ) → w < variables → bit assigned w ≡ true → is_absent (get_or vs w (part 0 0 0)) ≡ false) → (w : ℕ) → w < variables
       → bit (bit_or assigned (2 ^ v)) w ≡ true → is_absent (get_or (set vs v (bound_part node size n)) w (part 0 0 0)) ≡ false
-  present_assigned low-node many h w low b = by (eqb v w) refl
+  present_assigned low_node many h w low b = by (eqb v w) refl
     where
       by : (c : Bool) → eqb v w ≡ c → is_absent (get_or (set vs v (bound_part node size n)) w (part 0 0 0)) ≡ false
       by true e =
@@ -82,14 +82,14 @@ module _ {codes bytes assigned : ℕ} {parts stack : List ℕ} {m : Marks} {p : 
   pub holds_assigned : (v offset size n : ℕ) → v ≤ variables → offset ≤ longest_record → n < 256
       → LiesIn codes bytes (bit_or assigned (2 ^ v)) (set parts v (packed (bound_part offset size n))) stack m p
       (state (set s.parts v (bound_part offset size n)) s.frames s.waiting s.place)
-  holds_assigned v offset size n low offset-fits n-fits =
+  holds_assigned v offset size n low offset_fits n_fits =
       let z = h.sized.of_parts in
       record {
         sized = sized_part h.sized v (packed (bound_part offset size n));
         place = h.place;
         all_variables = length-set s.parts v (bound_part offset size n) ∙ h.all_variables;
-        shown = shown_assigned assigned v offset size n parts s.parts (omega arith) n-fits h.all_variables h.shown;
-        present = present_assigned assigned v offset size n parts s.parts offset-fits h.all_variables h.present;
+        shown = shown_assigned assigned v offset size n parts s.parts (omega arith) n_fits h.all_variables h.shown;
+        present = present_assigned assigned v offset size n parts s.parts offset_fits h.all_variables h.present;
         linked = h.linked;
         innermost = h.innermost;
         queued = h.queued;

@@ -98,13 +98,13 @@ pub none_free : {assigned : ℕ} → Assignable assigned variables
 none_free = record { below = omega arith; free = λ l. absurd (omega (arith, l)) }
 
 -- v is given n elements of so many bytes
-module _ (assigned v offset size n : ℕ) (offset-fits : offset ≤ longest_record) (v-fits : v ≤ variables) (n-fits : n < 256) where
+module _ (assigned v offset size n : ℕ) (offset_fits : offset ≤ longest_record) (v_fits : v ≤ variables) (n_fits : n < 256) where
   pub given_holds : {codes bytes : ℕ} {parts stack : List ℕ} {m : Marks} {s : State} → s.place.node ≡ offset → offset + size ≤ bytes
       → LiesIn codes bytes assigned parts stack m s.place s
       → LiesIn codes bytes (bit_or assigned (2 ^ v)) (set parts v (packed (bound_part offset size n))) stack m (given s v n size).place (given s v n size)
   given_holds {s = s} o w h =
       let moved = holds_moved h (place s.place.children (s.place.elements - n) s.place.at (offset + size)) (omega arith) h.at w in
-      rw o (holds_assigned moved v offset size n v-fits offset-fits n-fits)
+      rw o (holds_assigned moved v offset size n v_fits offset_fits n_fits)
 
 -- a level's start within another
 

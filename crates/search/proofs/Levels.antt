@@ -299,7 +299,7 @@ module _ (inp : Handed) (was : Lent) (v first behind most : ℕ) (m : Marks) (st
       module _ {o : Finding} {got : Lent} where
         try_halt : v ≡ variables → first ≡ 0 → most ≡ 0 → behind ≡ 0
             → Halts inp (lent_of seen left parts stack ⇒ got) m p o → Halts inp (was ⇒ got) m start o
-        try_halt is-v is-first is-most none r = record {
+        try_halt is-v is_first is_most none r = record {
           reached = r.reached;
           parts = r.parts;
           walks = λ s h. let w = r.walks (given s v n size) (marked_holds s h) in record {
@@ -315,11 +315,11 @@ module _ (inp : Handed) (was : Lent) (v first behind most : ℕ) (m : Marks) (st
         }
           where
             at_first : n ≡ first
-            at_first = omega (arith, t.few, t.least, is-most)
+            at_first = omega (arith, t.few, t.least, is_most)
 
             unchanged : (s : State) → Starts s → given s v n size ≡ s
             unchanged s h =
-                ap (λ (x : ℕ). given s x n size) is-v ∙ ap (λ (x : ℕ). given s variables x size) (at_first ∙ is-first)
+                ap (λ (x : ℕ). given s x n size) is-v ∙ ap (λ (x : ℕ). given s variables x size) (at_first ∙ is_first)
                 ∙ ap (λ (x : ℕ). given s variables 0 x) ((t.fresh at_first).1 ∙ none) ∙ given_none s h.all_variables
 
             begins : (s : State) → Starts s → Moved inp was m start (lent_of seen left parts stack) m p (given s v n size)
@@ -478,10 +478,10 @@ pub level_run : {inp : Handed} {assigned left : ℕ} {parts stack : List ℕ} {g
     → Levels inp (lent_of assigned left (set parts w x) stack ⇒ got) w false 0 m q o
     → LevelIs inp (lent_of assigned left parts stack ⇒ got) v n size p.elements m (place_past p 0 1 0) o
 unfolding run_begun
-level_run {inp} {assigned} {left} {parts} {stack} {got} {m} {p} v w n size x is-w holding at low free l small within is_x {o} q is-q r =
+level_run {inp} {assigned} {left} {parts} {stack} {got} {m} {p} v w n size x is-w holding at low free l small within is_x {o} q is_q r =
     let c = lent_of assigned left (set parts v x) stack ⇒ got in
     let there : LevelIs inp c v n (p.node + size - p.node) p.elements m (run_start n p.node (place_past p n 1 size)) o =
-    ((level_from {v = v} {least = 0} {k = m} refl is-q
+    ((level_from {v = v} {least = 0} {k = m} refl is_q
     (subst (λ (y : ℕ). Levels inp (lent_of assigned left (set parts y x) stack ⇒ got) y false 0 m q o) is-w r)
     ).from (run_begun v n size x holding at low free l small within is_x)).going refl in
     let here : LevelIs inp c v n size p.elements m (place_past p 0 1 0) o =
@@ -495,13 +495,13 @@ level_run {inp} {assigned} {left} {parts} {stack} {got} {m} {p} v w n size x is-
 -- Lengths that are passed over before the level
 
 module _ {inp : Handed} {assigned left : ℕ} {parts stack : List ℕ} {m : Marks} {q q₀ : Place} (v most : ℕ)
-    (free : bit assigned v ≡ false) {r : Skipped} (skips : Skips inp.table inp.classes inp.pattern inp.bytes assigned parts q₀ left r) (is-q : q₀ ≡ q)
+    (free : bit assigned v ≡ false) {r : Skipped} (skips : Skips inp.table inp.classes inp.pattern inp.bytes assigned parts q₀ left r) (is_q : q₀ ≡ q)
     (all : most ≡ q.elements) where
   at_first : (s : State) → Held inp (lent_of assigned left parts stack) m q s
       → Skips inp.table inp.classes inp.pattern inp.bytes assigned parts (given s v 0 0).place left r
   at_first s h =
       let e : q₀ ≡ (given s v 0 0).place =
-      is-q ∙ sym h.place ∙ place_is s.place (given s v 0 0).place refl (omega arith) refl (omega arith) in
+      is_q ∙ sym h.place ∙ place_is s.place (given s v 0 0).place refl (omega arith) refl (omega arith) in
       subst (λ (y : Place). Skips inp.table inp.classes inp.pattern inp.bytes assigned parts y left r) e skips
 
   own : (s : State) → Held inp (lent_of assigned left parts stack) m q s → Stays assigned parts v s
@@ -641,7 +641,7 @@ module _ (pattern : List ℕ) (c : PutBy) (within : c.at + 1 + c.size ≤ length
 pub complement_tests : (inp : Handed) (d : PutBy) (within : d.at + 1 + d.size ≤ length inp.pattern) (m : Marks) {c : Change} {k : Marks} {p : Place}
     {o o' : Finding} → length inp.pattern ≤ longest_pattern → k ≡ inside m → p ≡ place 1 1 0 d.node
     → RestIs (input_of inp.table inp.classes (taken inp.pattern d within) inp.bytes) c k p o → o' ≡ turned o → ComplementIs inp c d m o'
-complement_tests inp d within m {c} {k} {p} {o} {o'} short is-k is-p r e = record {
+complement_tests inp d within m {c} {k} {p} {o} {o'} short is_k is_p r e = record {
   replies = λ s h n l.
       rw (e) (sym (ended o)
       ∙ ap opposite_of (there.replies s h n (omega (arith, l, short, inside_length inp.pattern d within, ap length (inside_is inp.pattern d within)))));
@@ -652,8 +652,8 @@ complement_tests inp d within m {c} {k} {p} {o} {o'} short is-k is-p r e = recor
     there =
         subst (λ (x : List ℕ). RestIs (input_of inp.table inp.classes x inp.bytes) c (inside m) (place 1 1 0 d.node) o)
         (inside_is inp.pattern d within)
-        (subst (λ (x : Marks). RestIs (input_of inp.table inp.classes (taken inp.pattern d within) inp.bytes) c x (place 1 1 0 d.node) o) is-k
-        (subst (λ (x : Place). RestIs (input_of inp.table inp.classes (taken inp.pattern d within) inp.bytes) c k x o) is-p r))
+        (subst (λ (x : Marks). RestIs (input_of inp.table inp.classes (taken inp.pattern d within) inp.bytes) c x (place 1 1 0 d.node) o) is_k
+        (subst (λ (x : Place). RestIs (input_of inp.table inp.classes (taken inp.pattern d within) inp.bytes) c k x o) is_p r))
 
     ended : (x : Finding) → opposite_of (reply_in x c.after) ≡ end_in (turned x) c.after
     ended Found = refl
@@ -808,7 +808,7 @@ module _ (table classes pattern bytes : List ℕ) (allowance : ℕ) where
       → RestIs (input_of table classes pattern bytes) (lent_of 0 allowance parts stack ⇒ got) (marks 0 0 0 0) p o
       → reply_in o got ≡ search_of table classes pattern bytes allowance
   unfolding search_of
-  search_within {parts} {stack} {p} {o} {got} h k z is-p r =
+  search_within {parts} {stack} {p} {o} {got} h k z is_p r =
       rw (le-leb (length pattern) longest_pattern h, le-leb (length bytes) longest_record k)
-      ((subst (λ (x : Place). RestIs (input_of table classes pattern bytes) (lent_of 0 allowance parts stack ⇒ got) (marks 0 0 0 0) x o) is-p r
+      ((subst (λ (x : Place). RestIs (input_of table classes pattern bytes) (lent_of 0 allowance parts stack ⇒ got) (marks 0 0 0 0) x o) is_p r
       ).replies (start_of (replicate variables absent) 0) (first_holds (length pattern) (length bytes) parts stack h z) (levels pattern 0) (omega arith))

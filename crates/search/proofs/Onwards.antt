@@ -73,7 +73,7 @@ module _ (halts : Bool) (i : Handed) (e₀ : Lent) (m₀ : Marks) (p₀ : Place)
         on_further = (walk h.state h.holds).moved.further
 
       pub on_ready : (v : ℕ) → r.stop ≡ RunName v → HeldAt i e₀ m₀ p₀ → Ready (length i.pattern) v r.place
-      on_ready v is-run h = subst (StopsAt (length i.pattern) r.place) is-run (walk h.state h.holds).stops
+      on_ready v is_run h = subst (StopsAt (length i.pattern) r.place) is_run (walk h.state h.holds).stops
 
       -- what the level comes to
       walked_to : (s : State) (h : Starting s) (n : ℕ) → levels i.pattern p₀.at ≤ n → Comes i e₀.left s n r (walk s h).end
@@ -109,7 +109,7 @@ module _ (halts : Bool) (i : Handed) (e₀ : Lent) (m₀ : Marks) (p₀ : Place)
           ends r.stop r.left w.stops w.unassigned walked_to (λ e. t.halted e walks)
 
       -- at a run name that is the last child pattern of its node
-      module _ (going : halts ≡ false) (v : ℕ) (is-run : r.stop ≡ RunName v) (last : r.place.children ≡ 1) where
+      module _ (going : halts ≡ false) (v : ℕ) (is_run : r.stop ≡ RunName v) (last : r.place.children ≡ 1) where
         module _ (s : State) (h : Starting s) (n : ℕ) (l : levels i.pattern p₀.at ≤ n) where
           abbrev deep : ℕ
           deep = (walked_to s h n l).within
@@ -121,13 +121,13 @@ module _ (halts : Bool) (i : Handed) (e₀ : Lent) (m₀ : Marks) (p₀ : Place)
           is_place = (walk s h).moved.holds.place
 
           run_at : r.place.at < length i.pattern
-          run_at = (subst (StopsAt (length i.pattern) r.place) is-run (walk s h).stops).at
+          run_at = (subst (StopsAt (length i.pattern) r.place) is_run (walk s h).stops).at
 
           deep_some : levels i.pattern (r.place.at + 1) ≤ deep
           deep_some = omega (arith, (walked_to s h n l).enough, run_at)
 
           tries_all : level_in i n s e₀.left ≡ follow_in i (RunName v) deep end r.left
-          tries_all = (walked_to s h n l).same ∙ ap (λ (x : Stop). follow_in i x deep end r.left) is-run
+          tries_all = (walked_to s h n l).same ∙ ap (λ (x : Stop). follow_in i x deep end r.left) is_run
 
           last_there : end.place.children ≡ 1
           last_there = ap (λ (x : Place). x.children) is_place ∙ last
@@ -170,9 +170,9 @@ module _ (halts : Bool) (i : Handed) (e₀ : Lent) (m₀ : Marks) (p₀ : Place)
 
           took_is : (e : State) → e.place ≡ r.place
               → tried e v e.place.elements (0 + span_of i.table (drop (e.place.node + 0) i.bytes) false e.place.elements) ≡ took e
-          took_is e is-there =
+          took_is e is_there =
               ap (λ (x : Place). state (set e.parts v (bound_part x.node (0 + span_of i.table (drop (x.node + 0) i.bytes) false x.elements) x.elements))
-              e.frames e.waiting (place_past x x.elements 1 (0 + span_of i.table (drop (x.node + 0) i.bytes) false x.elements))) is-there
+              e.frames e.waiting (place_past x x.elements 1 (0 + span_of i.table (drop (x.node + 0) i.bytes) false x.elements))) is_there
               ∙ ap (λ (x : ℕ). state (set e.parts v (bound_part r.place.node x r.place.elements)) e.frames e.waiting
               (place_past r.place r.place.elements 1 x)) (span_is r.place.node refl)
 
@@ -181,8 +181,8 @@ module _ (halts : Bool) (i : Handed) (e₀ : Lent) (m₀ : Marks) (p₀ : Place)
           on_takes hold = record {
             going = λ s h.
                 let w = walk s h in
-                let ready = subst (StopsAt (length i.pattern) r.place) is-run w.stops in
-                let free : bit r.assigned v ≡ false = subst (Unassigned r.assigned) is-run w.unassigned in
+                let ready = subst (StopsAt (length i.pattern) r.place) is_run w.stops in
+                let free : bit r.assigned v ≡ false = subst (Unassigned r.assigned) is_run w.unassigned in
                 record {
                   here = took w.end;
                   comes = λ n l. record {

@@ -159,7 +159,7 @@ module _ (table classes pattern bytes : List ℕ) where
       state s.parts (remaining (s.place.children - 1) (s.place.elements - 1) ∷ s.frames) s.waiting (entered s.place e e 1)
 
   -- the next symbol is compared
-  module _ (n m room : ℕ) (s : State) (left : ℕ) (in-chain : n < chain_of table m (drop s.place.at pattern))
+  module _ (n m room : ℕ) (s : State) (left : ℕ) (in_chain : n < chain_of table m (drop s.place.at pattern))
       (some : 0 < pairs (suc n) s.place) (paid : pairs (suc n) s.place ≤ left) (deep : n < room) (children : s.place.children ≡ 0 → ⊥)
       (elements : s.place.elements ≡ 0 → ⊥) where
     abbrev sought : ℕ
@@ -178,7 +178,7 @@ module _ (table classes pattern bytes : List ℕ) where
         ∙ ap (λ (y : Step). walk_by y (walk_of (room - 1) table classes pattern bytes) s left)
         (sym (symbol_is (alone s.frames) table classes pattern bytes (part_in_state s (variable_at pattern s.place.at)) s.place left children at_in
         elements node_in (λ z. omega (arith, z)) sought x
-        (symbol_at sought (chain_symbol table pattern s.place.at at_in m n in-chain)) e))
+        (symbol_at sought (chain_symbol table pattern s.place.at at_in m n in_chain)) e))
 
     there : get_or (drop s.place.node bytes) 0 0 ≡ get_or bytes s.place.node 0
     there = ap (λ (l : List ℕ). get_or l 0 0) (drop-cons bytes s.place.node 0 node_in)
@@ -195,7 +195,7 @@ module _ (table classes pattern bytes : List ℕ) where
     chain_enters e next =
         let later = differs_later classes n pattern bytes s.place.at s.place.node at_in node_in e some in
         let more : 0 < n = omega (arith, later.0, differs_most classes n (drop (s.place.at + 1) pattern) (drop (s.place.node + 1) bytes)) in
-        let further = chain_further table pattern s.place.at at_in m (n - 1) (omega (arith, in-chain, more)) in
+        let further = chain_further table pattern s.place.at at_in m (n - 1) (omega (arith, in_chain, more)) in
         let w = next (omega (arith, further.rest, more)) later.0 (omega (arith, later.1, paid)) (omega arith) further.children
         further.children in
         let fixed = symbol_fixed table classes (drop s.place.at pattern) (drop s.place.node bytes) sought
@@ -212,9 +212,9 @@ module _ (table classes pattern bytes : List ℕ) where
 
   chain_walk : (n m room : ℕ) (s : State) (left : ℕ) → Claim n m room s left
   unfolding differs_at
-  chain_walk zero m room s left = λ in-chain some paid deep children elements. absurd (omega (arith, some))
-  chain_walk (suc n) m room s left = λ in-chain some paid deep children elements.
-      chain_turn n m room s left (omega (arith, in-chain)) some paid (omega (arith, deep)) children elements _ refl
+  chain_walk zero m room s left = λ in_chain some paid deep children elements. absurd (omega (arith, some))
+  chain_walk (suc n) m room s left = λ in_chain some paid deep children elements.
+      chain_turn n m room s left (omega (arith, in_chain)) some paid (omega (arith, deep)) children elements _ refl
       (chain_walk n (m - 1) (room - 1) (opened s) (left - 1))
 
 -- An assigned part
@@ -431,8 +431,8 @@ skips_to {table} {classes} {bytes} {x} {plain} {symbols} {elements} {node} {left
 
 own_part : {table classes bytes x : List ℕ} {plain : Bool} {elements node left : ℕ} {r : Skipped} {had had' : Part} → had ≡ had' → x ≡ part_bytes bytes had
     → SkipsTo table classes bytes 0 x plain elements node left r → SkipsTo table classes bytes 0 (part_bytes bytes had') plain elements node left r
-own_part {table} {classes} {bytes} {x} {plain} {elements} {node} {left} {r} is-had is_x to =
-    subst (λ (y : List ℕ). SkipsTo table classes bytes 0 y plain elements node left r) (is_x ∙ ap (part_bytes bytes) is-had) to
+own_part {table} {classes} {bytes} {x} {plain} {elements} {node} {left} {r} is_had is_x to =
+    subst (λ (y : List ℕ). SkipsTo table classes bytes 0 y plain elements node left r) (is_x ∙ ap (part_bytes bytes) is_had) to
 
 module _ {table classes pattern bytes : List ℕ} {assigned : ℕ} {parts : List ℕ} {p : Place} {left : ℕ} {r : Skipped} (children : 0 < p.children)
     (at : p.at < length pattern) (code : Code) (is_code : code ≡ decode_of (get_or pattern p.at 0)) where
@@ -446,14 +446,14 @@ module _ {table classes pattern bytes : List ℕ} {assigned : ℕ} {parts : List
       (subst (λ (n : ℕ). SkipsTo table classes bytes n (take (length pattern - p.at) (drop p.at pattern)) true p.elements p.node left r)
       is to))
 
-  module _ {v : ℕ} {x : List ℕ} {had : Part} (is-had : had ≡ part_of assigned parts v) (is_x : x ≡ part_bytes bytes had) where
+  module _ {v : ℕ} {x : List ℕ} {had : Part} (is_had : had ≡ part_of assigned parts v) (is_x : x ≡ part_bytes bytes had) where
     pub skips_name : code ≡ Name v → SkipsTo table classes bytes 0 x true p.elements p.node left r
         → Skips table classes pattern bytes assigned parts p left r
-    skips_name e to = Skips.some children at (Wants.name (sym e ∙ is_code)) (own_part (is-had ∙ name_part assigned parts _ (sym e ∙ is_code)) is_x to)
+    skips_name e to = Skips.some children at (Wants.name (sym e ∙ is_code)) (own_part (is_had ∙ name_part assigned parts _ (sym e ∙ is_code)) is_x to)
 
     pub skips_run : code ≡ Run v → SkipsTo table classes bytes 0 x false p.elements p.node left r
         → Skips table classes pattern bytes assigned parts p left r
-    skips_run e to = Skips.some children at (Wants.run (sym e ∙ is_code)) (own_part (is-had ∙ run_part assigned parts _ (sym e ∙ is_code)) is_x to)
+    skips_run e to = Skips.some children at (Wants.run (sym e ∙ is_code)) (own_part (is_had ∙ run_part assigned parts _ (sym e ∙ is_code)) is_x to)
 
 -- a part is lengthened by an element, and by those that are passed over behind it
 pub lengthens : {table classes pattern bytes : List ℕ} {assigned : ℕ} {parts : List ℕ} {v : ℕ} {p : Place} {left e x : ℕ} {one last : Place} {k : Skipped}

@@ -109,12 +109,12 @@ module _ (table pattern given out₀ : List ℕ) where
             go true e = eq-eqb a b (sym (eqb-true b a e))
             go false e = ne_eqb a b (λ x. eqb-false b a e (sym x))
 
-    module _ (l : at < length pattern) (r : ℕ) (is-r : r ≡ past_of table (take (length pattern - at) (drop at pattern))) where
+    module _ (l : at < length pattern) (r : ℕ) (is_r : r ≡ past_of table (take (length pattern - at) (drop at pattern))) where
       abbrev next : ℕ
       next = at + r
 
       is_next : next ≡ at + past_of table (drop at pattern)
-      is_next = ap (at +◌) (is-r ∙ ap (past_of table) (rest_part at pattern))
+      is_next = ap (at +◌) (is_r ∙ ap (past_of table) (rest_part at pattern))
 
       pub spread_falls : length pattern - (at + r) < length pattern - at
       spread_falls = omega (arith, past_more table pattern at l, is_next)
@@ -133,9 +133,9 @@ module _ (table pattern given out₀ : List ℕ) where
             same = s.same ∙ ap (λ (vs : List ℕ). spread_to (unseen seen vs) (drop n given) out) x;
           }
 
-      module _ (c : Code) (is_code : c ≡ decode_of (get_or pattern at 0)) (v : ℕ) (is-run : c ≡ Run v) where
+      module _ (c : Code) (is_code : c ≡ decode_of (get_or pattern at 0)) (v : ℕ) (is_run : c ≡ Run v) where
         run_left : runs_from table (drop at pattern) 0 ≡ v ∷ runs_from table (drop next pattern) 0
-        run_left = left_is c is_code ∙ ap (λ (x : Code). run_here x (runs_from table (drop next pattern) 0)) is-run
+        run_left = left_is c is_code ∙ ap (λ (x : Code). run_here x (runs_from table (drop next pattern) 0)) is_run
 
         seen_left : bit seen v ≡ true → unseen seen (runs_from table (drop at pattern) 0) ≡ unseen seen (runs_from table (drop next pattern) 0)
         unfolding unseen

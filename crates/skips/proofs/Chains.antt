@@ -64,12 +64,12 @@ module _ (table : List ℕ) where
       pub chain_out : length q ≤ n → n ≡ chain_of table most q
       chain_out h = done (chain_none (most - n) (drop n q) (omega (arith, length-drop n q)))
 
-      module _ (l : n < most) {i : ℕ} (is-i : i ≡ n) (h : i < length q) where
+      module _ (l : n < most) {i : ℕ} (is_i : i ≡ n) (h : i < length q) where
         next : chain_of table (most - n) (drop n q)
             ≡ cond (is_symbol (decode_of (get_or q i 0))) (suc (cond (ends_chain table (get_or q i 0)) 0 (chain_of table (most - (n + 1)) (drop (n + 1) q)))) 0
         next =
             let k : most - n ≡ suc (most - (n + 1)) = omega arith in
-            rw is-i (ap (λ (m : ℕ). chain_of table m (drop n q)) k ∙ chain_at (most - (n + 1)) q n (omega (arith, h, is-i)))
+            rw is_i (ap (λ (m : ℕ). chain_of table m (drop n q)) k ∙ chain_at (most - (n + 1)) q n (omega (arith, h, is_i)))
 
         pub chain_other : is_symbol (decode_of (get_or q i 0)) ≡ false → n ≡ chain_of table most q
         chain_other f = done (next ∙ rw f)
@@ -228,13 +228,13 @@ module _ (classes : List ℕ) where
       pub agree_short : length y ≤ n → 0 ≡ differs_at classes symbols x y
       agree_short h = ended (differs_short (symbols - n) (drop n x) (drop n y) (omega (arith, length-drop n y)))
 
-      module _ (l : n < symbols) {i : ℕ} (is-i : i ≡ n) (h : i < length x) (k : i < length y) where
+      module _ (l : n < symbols) {i : ℕ} (is_i : i ≡ n) (h : i < length x) (k : i < length y) where
         here : differs_at classes (symbols - n) (drop n x) (drop n y)
             ≡ cond (same_byte classes false (get_or x i 0) (get_or y i 0)) (pairs_after 1 (differs_at classes (symbols - (n + 1)) (drop (n + 1) x) (drop (n + 1) y))) 1
         here =
             let z : symbols - n ≡ suc (symbols - (n + 1)) = omega arith in
-            rw is-i (ap (λ (m : ℕ). differs_at classes m (drop n x) (drop n y)) z
-            ∙ differs_at_holds (symbols - (n + 1)) x y n n (omega (arith, h, is-i)) (omega (arith, k, is-i)))
+            rw is_i (ap (λ (m : ℕ). differs_at classes m (drop n x) (drop n y)) z
+            ∙ differs_at_holds (symbols - (n + 1)) x y n n (omega (arith, h, is_i)) (omega (arith, k, is_i)))
 
         pub agree_differs : same_byte classes false (get_or x i 0) (get_or y i 0) ≡ false → n + 1 ≡ differs_at classes symbols x y
         agree_differs e =

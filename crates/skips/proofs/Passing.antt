@@ -61,8 +61,8 @@ module _ (table classes : List ℕ) where
     pub alike_apart : (first last : ℕ) → first ≡ class_of classes (get_or x 0 0) → last ≡ class_of classes (get_or x (length x - 1) 0) → 0 < length x
         → alike_of classes first last (length x) r ≡ false → starts_of table classes x r ≡ false
     unfolding alike_of
-    alike_apart first last is-first is_last some =
-        rw (is-first, is_last) (go (leb (length x) (length r)) (same_byte classes false (get_or x 0 0) (get_or r 0 0)) refl refl)
+    alike_apart first last is_first is_last some =
+        rw (is_first, is_last) (go (leb (length x) (length r)) (same_byte classes false (get_or x 0 0) (get_or r 0 0)) refl refl)
       where
         go : (a b : Bool) → leb (length x) (length r) ≡ a → same_byte classes false (get_or x 0 0) (get_or r 0 0) ≡ b
             → a && (b && same_byte classes false (get_or x (length x - 1) 0) (get_or r (length x - 1) 0)) ≡ false → starts_of table classes x r ≡ false
@@ -276,9 +276,9 @@ module _ (table classes : List ℕ) (symbols : ℕ) (x : List ℕ) where
         let z : length (drop at r) ≡ 0 = omega (arith, length-drop at r) in
         done (passed_end (drop at r) (most - n) (ap (λ (b : Bool). b || eqb (failing (drop at r)) 0) (eq-eqb (length (drop at r)) 0 z)))
 
-    module _ (low : at < length r) (pairs : ℕ) (is-pairs : pairs ≡ failing (take (length r - at) (drop at r))) where
+    module _ (low : at < length r) (pairs : ℕ) (is_pairs : pairs ≡ failing (take (length r - at) (drop at r))) where
       here : failing (drop at r) ≡ pairs
-      here = ap failing (sym (rest_part at r)) ∙ sym is-pairs
+      here = ap failing (sym (rest_part at r)) ∙ sym is_pairs
 
       ends_by : (b : Bool) → eqb pairs 0 ≡ b → ends_at (drop at r) ≡ b
       ends_by b e =
@@ -394,18 +394,18 @@ unfolding dearest_of
 dearest_most zero = omega arith
 dearest_most (suc n) = omega arith
 
-module _ (symbols elements left each : ℕ) (is-each : each ≡ dearest_of symbols) where
+module _ (symbols elements left each : ℕ) (is_each : each ≡ dearest_of symbols) where
   pub afford_fits : symbols < 256 → elements < 256 → each * elements ≤ 257 * 255
-  afford_fits s e = mul-le-mul {n₂ = 257} {m₂ = 255} (omega (arith, s, is-each, dearest_most symbols)) (omega (arith, e))
+  afford_fits s e = mul-le-mul {n₂ = 257} {m₂ = 255} (omega (arith, s, is_each, dearest_most symbols)) (omega (arith, e))
 
   pub afford_all : each * elements ≤ left → (elements ≡ affordable_of symbols elements left) × (dearest_of symbols * elements ≤ left)
   unfolding affordable_of
-  afford_all h = rw (← is-each) (rw (le-leb (each * elements) left h) refl, h)
+  afford_all h = rw (← is_each) (rw (le-leb (each * elements) left h) refl, h)
 
   pub afford_less : left < each * elements
       → (left / each ≡ affordable_of symbols elements left) × (left / each ≤ elements) × (dearest_of symbols * (left / each) ≤ left)
   unfolding affordable_of
   afford_less h =
-      let some : 0 < each = omega (arith, is-each, dearest_some symbols) in
+      let some : 0 < each = omega (arith, is_each, dearest_some symbols) in
       let few : left / each < elements = (div-lt_iff_lt-mul some).1 (omega (arith, h, mul_comm each elements)) in
-      rw (← is-each) (rw (lt-leb (each * elements) left h) refl, omega (arith, few), mul-div-le left each)
+      rw (← is_each) (rw (lt-leb (each * elements) left h) refl, omega (arith, few), mul-div-le left each)

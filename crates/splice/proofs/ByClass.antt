@@ -38,7 +38,7 @@ unfoldable mutual
 abbrev pub UpToClass : List ℕ → Tree → Tree → Type 0
 UpToClass classes t u = classed classes t ≡ classed classes u
 
--- "already spliced": no list same_list inside a list of its class
+-- "already spliced": no list directly inside a list of its class
 unfoldable mutual
   pub SplicedIn : List ℕ → List ℕ → Option ℕ → Tree → Type 0
   SplicedIn classes table around (branch c ts) =

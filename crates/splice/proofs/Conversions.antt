@@ -19,7 +19,7 @@ use Rattle.byte_answers.specs.declared.Read.TheVariants.{Ends}
 use Rattle.answers.specs.declared.Refusal.{Refusal}
 use Rattle.answers.specs.declared.Refusal.TheVariants.{Table, Class, Long, Full}
 use Rattle.reader.proofs.Answers.{Got, refused_shown, ends_shown}
-use Rattle.reader.proofs.Inverse.{whole_read, Read-whole}
+use Rattle.reader.proofs.Inverse.{whole_read, ReadWhole}
 use Rattle.reader.specs.Brought.{or_empty, list_accepted}
 use Rattle.splice.specs.Splicing.{splice, splice_all}
 use Rattle.splice.specs.Converting.{narrow, all_narrow, kept, written, splicing, converted, output_after}
@@ -56,8 +56,8 @@ module _ (records : Bool) (table classes s : List ℕ) where
       is_read = (ends_shown (read_whole records (simple table) s) n ends).1
 
       got : (encode table tree [] ≡ s) × Accepted (simple table) records tree
-      unfolding Read-whole
-      got = let h = subst (Got (Read-whole (simple table) records s)) is_read (whole_read (simple table) records s) in (h.0, h.2 octets)
+      unfolding ReadWhole
+      got = let h = subst (Got (ReadWhole (simple table) records s)) is_read (whole_read (simple table) records s) in (h.0, h.2 octets)
 
       pub not_long : length s ≤ longest_record
       not_long = let h : length (encode table tree []) ≤ longest records = got.1.short in omega (arith, ap length got.0, longest_of_holds records)

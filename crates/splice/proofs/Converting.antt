@@ -19,7 +19,7 @@ use Rattle.answers.specs.declared.Refusal.TheVariants.{Long, Full}
 use Rattle.reader.proofs.Answers.{Got}
 use Rattle.term.specs.declared.Code.{Code}
 use Rattle.term.specs.declared.Code.TheVariants.{Symbol, Name, Run, Complement}
-use Rattle.reader.proofs.Inverse.{complete, whole_read, Read-whole}
+use Rattle.reader.proofs.Inverse.{complete, whole_read, ReadWhole}
 use Rattle.term.proofs.SameParts.{and_true}
 use Rattle.term.specs.declared.Stand.TheVariants.{InList, Elsewhere}
 use Rattle.term.proofs.Splicing.{one_spliced}
@@ -284,10 +284,10 @@ module _ (records : Bool) (classes table : List ℕ) (room : ℕ) where
 
   module _ (s : List ℕ) (octets : Octets s) (bs : List ℕ) where
     pub converted_exactly : (converted records classes table room s ≡ written bs) ↔ (((t : Tree) × SplicedFrom classes table records s bs t) × (length bs ≤ room))
-    unfolding converted splicing Read-whole
+    unfolding converted splicing ReadWhole
     converted_exactly = (λ e. go (read_whole records (simple table) s) (whole_read (simple table) records s) e, λ h. converted_from s bs h.0.0 h.0.1 h.1)
       where
-        go : (a : Parsed Tree) → Got (Read-whole (simple table) records s) a → splicing classes table room a ≡ written bs
+        go : (a : Parsed Tree) → Got (ReadWhole (simple table) records s) a → splicing classes table room a ≡ written bs
             → ((t : Tree) × SplicedFrom classes table records s bs t) × (length bs ≤ room)
         go (refused r) g e = let z : ◌≡◌ {A = ℕ} 0 1 = cc in absurd (omega arith)
         go (read t n) g e =

@@ -30,7 +30,7 @@ use Rattle.call.specs.Verdict.{Verdict, passed, fault, reading}
 use Rattle.call.proofs.Checks as every
 use Rattle.replace.specs.Call.{apply_of as applying, output_of as applied}
 use Rattle.replace.specs.Demands.{Demanded as Applying}
-use Rattle.replace.proofs.Demands.{apply_short as applied-short}
+use Rattle.replace.proofs.Demands.{apply_short as applied_short}
 use Rattle.station.specs.Demands.{AsApplied, IfChecked}
 use Rattle.station.specs.Slot.{apart, room, record_at, names_of}
 use Rattle.station.specs.Check.{place_of, check_of}
@@ -191,7 +191,7 @@ module _ (brought : Brought) (rule template : List ℕ) (allowance : ℕ) where
           ∙ ap (applying brought rule template current allowance) fresh_length
 
       pub apply_short : applied_length a ≤ longest_record
-      apply_short = omega (arith, ap applied_length applied_is, applied-short brought rule template current allowance longest_record)
+      apply_short = omega (arith, ap applied_length applied_is, applied_short brought rule template current allowance longest_record)
 
       pub apply_done : check_of s (length l) ≡ Done → output ≡ applied brought rule template (take (get_or s.lengths 0 0) l) allowance before
           → taken_up a (take (applied_length a) output) s l ≡ apply_of brought rule template allowance s l
@@ -250,5 +250,5 @@ told_short brought rule template allowance s l = go (check_of s (length l))
     bytes = record_at s.lengths l 0
 
     go : (k : Change) → applied_length (unless_refused Applied.Refused k s l (λ _. taken_up (applied_to brought rule template allowance bytes) (result_of brought rule template allowance bytes) s l)).answer ≤ longest_record
-    go Done = omega (arith, ap applied_length (taken_answer (applied_to brought rule template allowance bytes) (result_of brought rule template allowance bytes) s l), applied-short brought rule template bytes allowance longest_record)
+    go Done = omega (arith, ap applied_length (taken_answer (applied_to brought rule template allowance bytes) (result_of brought rule template allowance bytes) s l), applied_short brought rule template bytes allowance longest_record)
     go (Refused r) = omega arith

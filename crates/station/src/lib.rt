@@ -52,7 +52,7 @@ pub struct Replaced {
 // Where a name stands among the first n, from a place on; n where it is none of them.
 fn place(names: [u16; KEPT], from: usize, n: usize, name: u16) -> usize
     requires { (from ≤ n) × (n ≤ most_kept) }
-    ensures { result ≡ from + place_of name (drop from (take n (names))) }
+    ensures { result ≡ from + place_of name (drop from (take n names)) }
 {
     let mut i = from;
     while i < n {
@@ -67,7 +67,7 @@ fn place(names: [u16; KEPT], from: usize, n: usize, name: u16) -> usize
 // Whether no name is twice among the first n.
 fn is_distinct(names: [u16; KEPT], n: usize) -> bool
     requires { n ≤ most_kept }
-    ensures { result ≡ distinct (take n (names)) }
+    ensures { result ≡ distinct (take n names) }
 {
     let mut i: usize = 0;
     while i < n {
@@ -84,7 +84,7 @@ fn is_distinct(names: [u16; KEPT], n: usize) -> bool
 // Whether each of the first n lengths is 1 to 4,096.
 fn all_fit(lengths: [u16; RECORDS], n: usize) -> bool
     requires { n ≤ most_kept + 1 }
-    ensures { result ≡ all_fit (take n (lengths)) }
+    ensures { result ≡ all_fit (take n lengths) }
 {
     let mut i: usize = 0;
     while i < n {

@@ -11,7 +11,7 @@ use Rattle.term.specs.Tree.{Tree, Trees, branch, empty, more, number, list_code,
 use Rattle.term.specs.Term.{Term, Terms, node, nil, ◌::◌, term_tree, term_trees}
 use Rattle.term.specs.declared.Code.{Code}
 use Rattle.term.specs.declared.Code.TheVariants.{Symbol}
-use Rattle.term.proofs.Sizes.{branch_length as old-branch-length, more_length as old-more-length}
+use Rattle.term.proofs.Sizes.{branch_length as old_branch_length, more_length as old_more_length}
 use Rattle.sheet.specs.Word.{word}
 use Rattle.stored.specs.Form.{tell, store, stores}
 use Rattle.stored.specs.Passes.{stretched, stripped, stored_size}
@@ -63,12 +63,12 @@ module _ (table : List ℕ) where
 
     pub store_twice : (t : Tree) → length (store table t []) ≤ 2 * length (encode table t [])
     store_twice (branch c ts) =
-        rw (branch_length c ts, old-branch-length table c ts)
+        rw (branch_length c ts, old_branch_length table c ts)
         (at_most_twice (list_code table c) (length (stores table ts [])) (length (encodes table ts [])) (stores_twice ts))
 
     stores_twice : (ts : Trees) → length (stores table ts []) ≤ 2 * length (encodes table ts [])
     stores_twice empty = omega arith
-    stores_twice (more t ts) = rw (more_length t ts, old-more-length table t ts) (omega (arith, store_twice t, stores_twice ts))
+    stores_twice (more t ts) = rw (more_length t ts, old_more_length table t ts) (omega (arith, store_twice t, stores_twice ts))
 
   -- The passes over the bytes of a term
 

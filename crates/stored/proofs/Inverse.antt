@@ -240,10 +240,10 @@ module _ (lang : Language) where
   mutual
     unfolding Fits Shape list_code byte_of store own grow agreed read_all number chain join
 
-    complete : (t : Term) (left : ℕ) (stand : Stand) (in_List : Bool) (bs : List ℕ) → Fits lang.table true (term_tree t) left in_List → SplicedAt lang stand (term_tree t)
+    complete : (t : Term) (left : ℕ) (stand : Stand) (within_list : Bool) (bs : List ℕ) → Fits lang.table true (term_tree t) left within_list → SplicedAt lang stand (term_tree t)
         → read_stored_tree lang left stand (store lang.table (term_tree t) bs) ≡ read (term_tree t) (length (store lang.table (term_tree t) []))
-    complete (node b ts) zero stand in_List bs f d = absurd (omega (arith, f.0))
-    complete (node b ts) (suc left) stand in_List bs f d =
+    complete (node b ts) zero stand within_list bs f d = absurd (omega (arith, f.0))
+    complete (node b ts) (suc left) stand within_list bs f d =
         let table = lang.table in
         let n = length (stores table (term_trees ts) []) in
         rw (
@@ -253,15 +253,15 @@ module _ (lang : Language) where
           branch_length table (Symbol b) (term_trees ts),
         )
 
-    completes : (ts : Terms) (left : ℕ) (stand : Stand) (in_List : Bool) (bs : List ℕ) → FitAll lang.table true (term_trees ts) left in_List → SplicedAll lang stand (term_trees ts)
+    completes : (ts : Terms) (left : ℕ) (stand : Stand) (within_list : Bool) (bs : List ℕ) → FitAll lang.table true (term_trees ts) left within_list → SplicedAll lang stand (term_trees ts)
         → read_all (read_stored_tree lang left stand) (number (term_trees ts)) (stores lang.table (term_trees ts) bs) ≡ read (term_trees ts) (length (stores lang.table (term_trees ts) []))
-    completes nil left stand in_List bs f d = refl
-    completes (t :: ts) left stand in_List bs f d =
+    completes nil left stand within_list bs f d = refl
+    completes (t :: ts) left stand within_list bs f d =
         let table = lang.table in
         rw (
-          complete t left stand in_List (stores table (term_trees ts) bs) f.0 d.0,
+          complete t left stand within_list (stores table (term_trees ts) bs) f.0 d.0,
           behind_tree table (term_tree t) (stores table (term_trees ts) bs),
-          completes ts left stand in_List bs f.1 d.1,
+          completes ts left stand within_list bs f.1 d.1,
           more_length table (term_tree t) (term_trees ts),
         )
 

@@ -9,13 +9,13 @@ use mathlib.Core.Bool.{Bool, true, false, ◌&&◌, and-false}
 use lib.ListN.{length, get_or, get_or-eq_default}
 use lib.Dec.{leb, ltb, eqb}
 use borrow.Author.Tests.{eqb-true, eq-eqb, ne_eqb, leb-true, le-leb, lt-leb, ltb-true, ltb-false}
-use Rattle.term.proofs.Lists.{get_d_any}
+use Rattle.term.proofs.Lists.{get_or_any}
 use Rattle.term.specs.Class.{class_of, ClassList, entry_classed, entries_classed, classes_accepted, Alike}
 use Rattle.term.proofs.SameParts.{and_true}
 
 module _ (classes : List ℕ) (s : ℕ) where
   pub class_entry : s < length classes → class_of classes s ≡ get_or classes s 0
-  class_entry h = get_d_any classes s s 0 h
+  class_entry h = get_or_any classes s s 0 h
 
   pub class_none : length classes ≤ s → class_of classes s ≡ s
   class_none h = get_or-eq_default classes s h

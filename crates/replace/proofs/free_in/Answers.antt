@@ -1,4 +1,4 @@
--- `replace::free_in_holds` meets its contract.
+-- `replace::free_in` meets its contract.
 use Rattle.replace.proofs.Marks.{none_marked, unmarked_at, marking_first, marking_symbol, marking_name, marking_run, marking_complement, marking_refused, marking_last, name_below, run_below}
 use Rattle.replace.proofs.Forests.{own_some, extent_some_at, part_length}
 use mathlib.Core.Path.{refl, sym, ◌∙◌}

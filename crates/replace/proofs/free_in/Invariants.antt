@@ -1,4 +1,4 @@
--- `replace::free_in_holds` meets its contract.
+-- `replace::free_in` meets its contract.
 use Rattle.replace.proofs.Marks.{Marking}
 use lib.ListN.{length}
 use Prim.Native.Nat.{◌-◌}

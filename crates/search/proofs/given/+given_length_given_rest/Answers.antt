@@ -131,12 +131,12 @@ given_rest-start_level-requires-clause-short t c = let walks = pairs_walk c.pair
     c.requires.short
 
 pub given_rest-given_length-requires : goal.given_rest-given_length-requires
-given_rest-given_length-requires t c = let is-run = c.in-RunName.is in
-    let walks = pairs_walk c.pairs-walked.ensures c.requires.short (ap failure is-run) in
+given_rest-given_length-requires t c = let is_run = c.in-RunName.is in
+    let walks = pairs_walk c.pairs-walked.ensures c.requires.short (ap failure is_run) in
     let w = walks c.requires.holding.state c.requires.holding.holds in
     rw c.wide.ensures (
       omega (arith, w.moved.further),
-      (record { state = w.end; holds = w.moved.holds }, ((subst (StopsAt _ _) is-run w.stops, subst (Unassigned _) is-run w.unassigned), c.requires.short)),
+      (record { state = w.end; holds = w.moved.holds }, ((subst (StopsAt _ _) is_run w.stops, subst (Unassigned _) is_run w.unassigned), c.requires.short)),
     )
 
 pub given_rest-returns-in-Failure : goal.given_rest-returns-in-Failure
@@ -151,6 +151,6 @@ given_rest-returns-in-NoPair t c = let none = c.in-NoPair.is in
     given_ends _ c.requires.holding (pairs_walk c.pairs-walked.ensures c.requires.short (ap failure none)) none _ c.resumed.ensures c.start_level.ensures
 
 pub given_rest-returns-in-RunName : goal.given_rest-returns-in-RunName
-given_rest-returns-in-RunName t c = let is-run = c.in-RunName.is in
-    given_follows _ c.requires.holding (pairs_walk c.pairs-walked.ensures c.requires.short (ap failure is-run))
-    (given_run _ _ _ _ _ _ _ _ is-run c.wide.ensures c.given_length.ensures)
+given_rest-returns-in-RunName t c = let is_run = c.in-RunName.is in
+    given_follows _ c.requires.holding (pairs_walk c.pairs-walked.ensures c.requires.short (ap failure is_run))
+    (given_run _ _ _ _ _ _ _ _ is_run c.wide.ensures c.given_length.ensures)

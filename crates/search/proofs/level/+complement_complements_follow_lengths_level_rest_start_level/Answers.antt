@@ -111,8 +111,8 @@ pub follow-complements-requires : goal.follow-complements-requires
 follow-complements-requires t c = (omega arith, (record { place = c.args.place; holding = c.requires.holding }, c.requires.short))
 
 pub follow-lengths-requires : goal.follow-lengths-requires
-follow-lengths-requires t c = let is-run = c.in-RunName.is in
-    (omega arith, (c.requires.holding, ((subst (StopsAt _ _) is-run c.requires.stops_at.0, subst (Unassigned _) is-run c.requires.stops_at.1), c.requires.short)))
+follow-lengths-requires t c = let is_run = c.in-RunName.is in
+    (omega arith, (c.requires.holding, ((subst (StopsAt _ _) is_run c.requires.stops_at.0, subst (Unassigned _) is_run c.requires.stops_at.1), c.requires.short)))
 
 pub follow-returns-in-Failure : goal.follow-returns-in-Failure
 follow-returns-in-Failure t c = follow_fails _ _ _ _ _ c.in-Failure.is
