@@ -97,7 +97,7 @@ fn a_match_says_the_same() {
 fn explains_where_the_number_comes_from() {
     let folder = folder("explain-example");
     let text =
-        "22 no example: no record up to that size satisfies the pattern (from qonveshir example)\n";
+        "22 no example: no record up to that size satisfies the pattern\nfrom qonveshir example\n";
     assert_eq!(run(&folder, &["explain", "22"]), (0, text.into()));
     fs::remove_dir_all(folder).unwrap();
 }
