@@ -311,7 +311,7 @@ impl Library for Faulty {
 }
 
 fn differs(library: Faulty) -> bool {
-    let cases = compare::Cases { seed: 7, first: 0, number: 10_000, margin: 24 };
+    let cases = compare::Cases { seed: 7, first: 0, number: 5_000, margin: 24 };
     compare::compare(&library, &[&Reference], cases).is_err()
 }
 
@@ -383,7 +383,7 @@ fn faults_of_costs_are_found() {
     for (i, cost) in [less, none, shown].into_iter().enumerate() {
         assert!(differs(Faulty { cost, ..SOUND }), "fault {i}");
     }
-    let cases = compare::Cases { seed: 7, first: 0, number: 10_000, margin: 24 };
+    let cases = compare::Cases { seed: 7, first: 0, number: 5_000, margin: 24 };
     let both = Faulty { cost: less, ..SOUND };
     let over = compare::compare(&both, &[&both], cases).err().expect("a count over the bound");
     assert!(over.contains(" over "), "{over}");

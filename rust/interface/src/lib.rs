@@ -148,7 +148,7 @@ impl Word {
     /// When the word is given.
     pub fn meaning(self) -> &'static str {
         match self {
-            Word::Bound => "bound, written, accepted, bounded, changed or forced",
+            Word::Bound => "bound, written, accepted or bounded",
             Word::Table => "over 200 bytes, or a byte neither 0 to 8 nor 255",
             Word::Short => "pattern or record ends before its last node; empty too",
             Word::Spare => "bytes after the last node",
@@ -156,22 +156,19 @@ impl Word {
             Word::Deep => "nesting over 32",
             Word::Long => {
                 "pattern, record, stored record or sheet over its limit, over 64 rules; an old form \
-                 over a record's limit; a spliced list over 255 elements; a size over 6"
+                 over a record's limit; a spliced list over 255 elements"
             },
             Word::Stray => "run name elsewhere than as a list's child",
             Word::Narrow => "answer buffer under 144 numbers",
             Word::Directory => {
-                "a sheet breaks its rules, no such entry, an edition neither 1 nor 2; a station \
-                 with over eight kept, a length not 1 to 4,096 or a name twice"
+                "a sheet breaks its rules, no such entry, or an edition neither 1 nor 2"
             }
             Word::None => {
                 "no assignment satisfies the pattern, or none after the given answer; of a cost, no \
-                 bound; of a game, the goal is not forced"
+                 bound"
             }
             Word::Spent => "the count is over the allowance",
-            Word::Full => {
-                "output too short for what is to be written, or under 36,864 bytes for a station"
-            }
+            Word::Full => "output too short for what is to be written",
             Word::Unread => "the program can't open or read a file",
             Word::Class => {
                 "a class list of the wrong length, an entry above its own index or not its own \
@@ -195,6 +192,20 @@ impl Word {
             }
             Word::Turns => "more than 6 turns",
         }
+    }
+
+    /// When else the word is given: by the calls for an example, of a station and of a game.
+    pub fn also(self) -> Option<&'static str> {
+        Some(match self {
+            Word::Bound => "a station changed, or a game forced",
+            Word::Long => "a size of an example over 6",
+            Word::Directory => {
+                "a station with over eight kept, a length not 1 to 4,096 or a name twice"
+            }
+            Word::None => "a game in which the goal is not forced",
+            Word::Full => "under 36,864 bytes for a station",
+            _ => return None,
+        })
     }
 }
 

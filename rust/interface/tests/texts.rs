@@ -42,7 +42,11 @@ fn rattle() -> String {
         "game",
         "qonveshir",
     ];
-    let code = crates.map(code_of).concat();
+    uncommented(&crates.map(code_of).concat())
+}
+
+/// Code without its comments.
+fn uncommented(code: &str) -> String {
     let lines = code.lines().filter(|line| !line.trim_start().starts_with("//"));
     lines.map(|line| format!("{line}\n")).collect()
 }
@@ -157,6 +161,14 @@ fn limits() {
     assert!(header.contains(&narrow) && Word::Narrow.meaning() == narrow, "{narrow}");
 }
 
+/// The definition's own number; the proved code's is among the limits.
+#[test]
+fn ample() {
+    assert_eq!(defined(&read("include/qonveshir.h"), "QONVESHIR_AMPLE"), AMPLE.into());
+    let stated = between(&read("crates/anti_pattern/specs/Cost.antt"), "\nample = ", "\n").join("");
+    assert_eq!(stated, AMPLE.to_string());
+}
+
 #[test]
 fn codes() {
     let code = rattle();
@@ -231,8 +243,13 @@ fn calls() {
         calls.sort();
         calls
     };
-    let header = sorted(header_calls(&read("include/qonveshir.h")));
+    let header = header_calls(&read("include/qonveshir.h"));
     assert_eq!(header.len(), 39);
+    // In the header's order, module by module.
+    let modules = ["lib", "example_calls", "stations", "game_calls"];
+    let code = modules.map(|name| read(&format!("crates/qonveshir/src/{name}.rt"))).concat();
+    assert_eq!(rattle_calls(&uncommented(&code)), header);
+    let header = sorted(header);
     assert_eq!(sorted(rattle_calls(&rattle())), header);
     let mut rust = rust_calls(&read("rust/proved/src/link.rs"));
     rust.extend(declared_calls(&read("rust/proved/src/game.rs")));

@@ -65,9 +65,9 @@ mod tests {
 
     #[test]
     fn a_crate_is_below_all_that_it_builds_on() {
-        let crates = crates::listed("# NAME: needs\na:\nb: a io\nc staticlib: a b\n");
-        let names: Vec<&str> = crates.iter().map(|one| one.name).collect();
-        assert_eq!(names, ["a", "b", "c"]);
+        let named = |text| crates::listed(text).iter().map(|one| one.name).collect::<Vec<_>>();
+        assert_eq!(named("# NAME: needs\na:\nb: a io\nc: a b\n"), ["a", "b", "c"]);
+        assert_eq!(named("# NAME: needs\na:\nb: a io\nc staticlib: a b\n"), ["a", "b", "c"]);
         let drawn = picture("a:\nb: a\nc: a b\n");
         assert_eq!(drawn.matches("<line").count(), 2 + chain::CHAIN.len() - 1);
     }

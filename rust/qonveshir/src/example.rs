@@ -73,31 +73,14 @@ fn stopped(symbols: &Symbols, rule: &Parsed, size: u32, written: Written, look: 
             let (size, fewest) = (size as usize, fewest(symbols.table(), &rule.bytes));
             let larger = format!("; it has nodes for {fewest}");
             let larger = if fewest > size { larger } else { String::new() };
-            format!("{}: {}{larger}", numbered(Word::NoExample), none_up_to(size))
+            let none = format!("the rule holds of no state of up to {size} bytes");
+            format!("{}: {none}{larger}", numbered(Word::NoExample))
         }
         Some(word) => {
             let place = Kind::Rule.unspliced(symbols, rule).filter(|_| word == Word::Unspliced);
             numbered(word) + &place.map_or(String::new(), |place| format!(", rule, {place}"))
         }
         None => "refused".into(),
-    }
-}
-
-fn none_up_to(size: usize) -> String {
-    format!("the rule holds of no state of up to {size} bytes")
-}
-
-/// A line that says so if an accepted rule holds of no small state, though by its symbols it could.
-pub fn hint(language: Language, rule: &[u8], allowance: u32) -> String {
-    if fewest(language.table, rule) > EXAMPLE_LIMIT {
-        return String::new();
-    }
-    let (written, _) = least(language, rule, EXAMPLE_LIMIT as u32, allowance);
-    match written.word() {
-        Some(Word::NoExample) => {
-            format!("hint: {} at all\n", none_up_to(EXAMPLE_LIMIT))
-        }
-        _ => String::new(),
     }
 }
 

@@ -79,9 +79,7 @@ fn explain_inputs(edition: Edition, path: &str, mut rest: &[&str]) -> Reply {
 
 fn explain_number(number: u32) -> Reply {
     match Word::of(number) {
-        Some(word) => {
-            Ok(format!("{number} {}: {}{}\n", word.text(), meaning(word), given_by(word)))
-        }
+        Some(word) => Ok(format!("{number} {}: {}\n{}", word.text(), meaning(word), more(word))),
         None => trouble(format!("{number}: there is no such number")),
     }
 }
@@ -108,14 +106,15 @@ pub fn meaning(word: Word) -> String {
     word.meaning().to_string() + mend
 }
 
-/// The command that gives a word, where it is one alone.
-fn given_by(word: Word) -> &'static str {
-    match word {
-        Word::NoName | Word::Shelf => " (from qonveshir session)",
-        Word::NoExample => " (from qonveshir example)",
-        Word::Turns => " (from qonveshir play)",
-        _ => "",
-    }
+/// A further line: when else a word is given, or the command that gives it, where it is one alone.
+fn more(word: Word) -> String {
+    let command = match word {
+        Word::NoName | Word::Shelf => "session",
+        Word::NoExample => "example",
+        Word::Turns => "play",
+        _ => return word.also().map_or(String::new(), |also| format!("also: {also}\n")),
+    };
+    format!("from qonveshir {command}\n")
 }
 
 /// The line of a code.

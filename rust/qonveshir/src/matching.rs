@@ -156,7 +156,7 @@ impl<'a> Asked<'a> {
         Answers::new(ENGINE.0, self.language(), &self.pattern, &self.record, allowance)
     }
 
-    pub fn language(&self) -> Language<'_> {
+    fn language(&self) -> Language<'_> {
         self.symbols.language(self.edition)
     }
 

@@ -5,7 +5,7 @@ use crate::marks::{marked, Mark};
 use crate::matching::{next_answer, none, read_allowance, Asked, ALLOWANCE};
 use crate::progress::Progress;
 use crate::trace::{Assigned, Failure, Spent, Trace, Tree, Why, NOTHING};
-use crate::{editions, example, trouble, Console, Look, Reply, Stop};
+use crate::{editions, trouble, Console, Look, Reply, Stop};
 use interface::{Edition, Word, COMPLEMENT, NAMES};
 use notation::Error;
 use std::ops::Range;
@@ -24,8 +24,7 @@ the search failed last of all: a complement fails after every pair of its level,
 a later complement after an earlier one, and otherwise the node further right is
 further. Then comes what failed (of a complement, with which names its inside
 holds) and what the names stood for so far. On a terminal, and with --marks,
-both nodes are marked. A last line says so if the rule holds of no small state
-at all, though by its symbols it could; `qonveshir example` says more.
+both nodes are marked.
 ",
     run: explained,
 };
@@ -61,12 +60,9 @@ fn why(asked: &Asked, allowance: u32, look: Look) -> Reply {
             Err(Stop::No(asked.stopped(outcome, look) + ends))
         }
         None => {
-            let (count, progress) = (answers.counted(), Progress::of_match(allowance));
+            let (count, _progress) = (answers.counted(), Progress::of_match(allowance));
             let place = Explainer::new(asked, allowance, look).explain(count).or_else(trouble)?;
-            drop(progress);
-            let text = format!("{}\n{place}", none(count, look));
-            let hint = example::hint(asked.language(), &asked.pattern, allowance);
-            Err(Stop::No((text.trim_end().to_string() + "\n" + &hint).trim_end().into()))
+            Err(Stop::No(format!("{}\n{place}", none(count, look)).trim_end().into()))
         }
     }
 }

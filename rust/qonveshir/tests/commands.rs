@@ -328,6 +328,33 @@ fn stores_the_states_of_a_sheet() {
     fs::remove_dir_all(folder).unwrap();
 }
 
+/// What a number meant before there were examples, stations and games stands in a line of its own.
+#[test]
+fn later_calls_add_a_line_to_what_a_number_means() {
+    let folder = folder("numbers");
+    let long =
+        "6 long: pattern, record, stored record or sheet over its limit, over 64 rules; an old \
+                form over a record's limit; a spliced list over 255 elements";
+    let directory =
+        "9 directory: a sheet breaks its rules, no such entry, or an edition neither 1 nor 2";
+    let none =
+        "10 none: no assignment satisfies the pattern, or none after the given answer; of a \
+                cost, no bound";
+    for (number, line) in [
+        ("0", "0 bound: bound, written, accepted or bounded"),
+        ("6", long),
+        ("9", directory),
+        ("10", none),
+        ("12", "12 full: output too short for what is to be written"),
+    ] {
+        let (status, text) = run(&folder, &["explain", number]);
+        let lines: Vec<&str> = text.lines().collect();
+        assert_eq!((status, lines[0], lines.len()), (0, line, 2));
+        assert!(lines[1].starts_with("also: "), "{text}");
+    }
+    fs::remove_dir_all(folder).unwrap();
+}
+
 #[test]
 fn wrong_calls() {
     let folder = folder("calls");

@@ -1,4 +1,4 @@
-//! `example`: the smallest state that a rule holds of, and the hint of `why` that there is none.
+//! `example`: the smallest state that a rule holds of.
 
 mod common;
 
@@ -94,33 +94,10 @@ fn a_match_says_the_same() {
 }
 
 #[test]
-fn why_hints_that_there_is_none() {
-    let folder = folder("hint");
-    let hint = "hint: the rule holds of no state of up to 6 bytes at all";
-    for (options, rule, state, hinted) in [
-        (&[][..], "row(?0, gates(!?1, ?0))", "row(open, gates(open, open))", true),
-        (&[], "row(?0, ?0)", "row(open, shut)", false),
-        // By its nodes it holds of larger states alone.
-        (&[], "gates(gates(), gates(), !?0, held)", "gates(gates(), gates(), open, held)", false),
-        (&["--edition", "2"], "gates(!!gates(@0))", "gates(open)", true),
-        // A spent search says nothing.
-        (&["--allowance", "3"], "gates(!?0)", "gates(open)", true),
-        (&["--allowance", "2"], "gates(!?0)", "row(open, open)", false),
-    ] {
-        let (status, shown) =
-            run(&folder, &[&["why"], options, &["symbols", rule, state]].concat());
-        assert_eq!(status, 1);
-        assert_eq!(shown.lines().last() == Some(hint), hinted, "{rule}: {shown}");
-        assert_eq!(shown.contains("hint"), hinted, "{rule}: {shown}");
-    }
-    fs::remove_dir_all(folder).unwrap();
-}
-
-#[test]
 fn explains_where_the_number_comes_from() {
     let folder = folder("explain-example");
     let text =
-        "22 no example: no record up to that size satisfies the pattern (from qonveshir example)\n";
+        "22 no example: no record up to that size satisfies the pattern\nfrom qonveshir example\n";
     assert_eq!(run(&folder, &["explain", "22"]), (0, text.into()));
     fs::remove_dir_all(folder).unwrap();
 }

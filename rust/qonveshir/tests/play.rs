@@ -171,7 +171,7 @@ fn allowances_turns_and_starts() {
     assert_eq!(play(&folder, "--start far --turns 2"), (1, "none\n".into()));
     let turns = "the game: refused 24 turns: more than 6 turns\n";
     assert_eq!(play(&folder, "--turns 7"), (1, turns.into()));
-    let explained = "24 turns: more than 6 turns (from qonveshir play)\n";
+    let explained = "24 turns: more than 6 turns\nfrom qonveshir play\n";
     assert_eq!(run(&folder, &["explain", "24"]), (0, explained.into()));
     let told = |text: &str| (2, format!("qonveshir: {text}\n"));
     assert_eq!(play(&folder, "--turns six"), told("--turns six: expected 0 to 6"));

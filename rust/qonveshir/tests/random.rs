@@ -1,28 +1,27 @@
 //! Random command lines, in this process: none panics, and each ends with a status.
 
 use command_line::{run, Console, Look};
-use std::{env, fs};
+use std::sync::{Mutex, PoisonError};
+use std::{env, fs, path::PathBuf};
 
-/// How many command lines are tried, by which seed.
+/// How many command lines are tried, of the commands that came later too, by which seed.
 const LINES: usize = 100_000;
+const LATER_LINES: usize = 20_000;
 const SEED: u64 = 26;
 
 /// Arguments to draw from; those that are outputs stay within the folder.
 const WORDS: &[&str] = &[
     "match",
     "why",
-    "example",
     "pack",
     "unpack",
     "check",
     "report",
     "cost",
-    "session",
     "splice",
     "store",
     "restore",
     "explain",
-    "play",
     "help",
     "table",
     "classes",
@@ -37,16 +36,12 @@ const WORDS: &[&str] = &[
     "--marks",
     "--names",
     "--allowance",
-    "--size",
     "--code",
     "--classes",
     "--rules",
     "--states",
     "--pattern",
     "--record",
-    "--turns",
-    "--plan",
-    "--start",
     "--help",
     "-h",
     "--version",
@@ -85,6 +80,10 @@ const WORDS: &[&str] = &[
     "# a",
 ];
 
+/// More to draw from, for the commands that came later.
+const LATER_WORDS: &[&str] =
+    &["example", "session", "play", "--size", "--turns", "--plan", "--start"];
+
 /// Characters of random rules and states. None parts a path: any word may stand for an output.
 const CHARACTERS: &[char] =
     &['(', ')', ',', '!', '?', '@', '0', '1', '9', 'o', ' ', ':', '#', 'é', '\n'];
@@ -92,12 +91,21 @@ const CHARACTERS: &[char] =
 const SPELLED: &str = "open shut held gate/1 row/2 gates/* closed=shut doors=gates";
 const SYMBOLS: &[&str] = &["open", "shut", "held", "gate", "row", "gates", "doors"];
 
-struct Draw(u64);
+struct Draw {
+    state: u64,
+    /// The words and the calls to draw from.
+    words: Vec<&'static str>,
+    calls: &'static [&'static str],
+}
 
 impl Draw {
+    fn new(words: &[&[&'static str]], calls: &'static [&'static str]) -> Self {
+        Draw { state: SEED, words: words.concat(), calls }
+    }
+
     fn below(&mut self, limit: usize) -> usize {
-        self.0 = self.0.wrapping_add(0x9e37_79b9_7f4a_7c15);
-        let mixed = (self.0 ^ (self.0 >> 30)).wrapping_mul(0xbf58_476d_1ce4_e5b9);
+        self.state = self.state.wrapping_add(0x9e37_79b9_7f4a_7c15);
+        let mixed = (self.state ^ (self.state >> 30)).wrapping_mul(0xbf58_476d_1ce4_e5b9);
         ((mixed ^ (mixed >> 31)) % limit as u64) as usize
     }
 
@@ -108,7 +116,7 @@ impl Draw {
     /// A command line that is mostly a call of a command, with what it takes in some order.
     fn line(&mut self) -> Vec<String> {
         if self.below(3) > 0 {
-            let call = self.of(CALLS);
+            let call = self.of(self.calls);
             let words = call.split(' ').map(|word| self.filled(word)).collect();
             return words;
         }
@@ -137,7 +145,10 @@ impl Draw {
         match self.below(4) {
             0 => self.term(4, true),
             1 => (0..self.below(12)).map(|_| self.of(CHARACTERS)).collect(),
-            _ => self.of(WORDS).into(),
+            _ => {
+                let place = self.below(self.words.len());
+                self.words[place].into()
+            }
         }
     }
 
@@ -172,6 +183,20 @@ impl Draw {
         }
     }
 
+    /// Files of random bytes, so that checks have something to refuse.
+    fn files(&mut self) {
+        for name in ["table.bin", "rules.bin", "states.bin", "random.bin"] {
+            let length = self.below(40);
+            let bytes: Vec<u8> =
+                (0..length).map(|_| self.of(&[0, 1, 2, 5, 6, 128, 200, 232, 248, 255])).collect();
+            fs::write(name, bytes).unwrap();
+        }
+        fs::write("rules.txt", (0..3).map(|_| self.term(2, true) + "\n").collect::<String>())
+            .unwrap();
+        let states = (0..3).map(|i| format!("s{i}: {}\n", self.term(2, false)));
+        fs::write("states.txt", states.collect::<String>()).unwrap();
+    }
+
     /// Lines for a session, some of which are wrong.
     fn script(&mut self) -> String {
         let lines = (0..self.below(8)).map(|_| match self.below(6) {
@@ -184,22 +209,9 @@ impl Draw {
         lines.collect::<Vec<_>>().join("\n")
     }
 
-    /// The symbols, which a line may have written over, and files of random bytes, so that checks have
-    /// something to refuse.
-    fn files(&mut self) {
-        for name in ["symbols", "symbols.txt"] {
-            fs::write(name, "open shut held gate/1 row/2 gates/*").unwrap();
-        }
-        for name in ["table.bin", "rules.bin", "states.bin", "random.bin"] {
-            let length = self.below(40);
-            let bytes: Vec<u8> =
-                (0..length).map(|_| self.of(&[0, 1, 2, 5, 6, 128, 200, 232, 248, 255])).collect();
-            fs::write(name, bytes).unwrap();
-        }
-        fs::write("rules.txt", (0..3).map(|_| self.term(2, true) + "\n").collect::<String>())
-            .unwrap();
-        let states = (0..3).map(|i| format!("s{i}: {}\n", self.term(2, false)));
-        fs::write("states.txt", states.collect::<String>()).unwrap();
+    /// The files of a game, and the symbols, which a line may have written over.
+    fn game(&mut self) {
+        put_symbols();
         for name in ["loader.txt", "sender.txt"] {
             let moves = (0..self.below(3)).map(|_| self.move_of_names() + "\n");
             fs::write(name, moves.collect::<String>()).unwrap();
@@ -229,11 +241,6 @@ const CALLS: &[&str] = &[
     "why SYMBOLS RULE STATE",
     "why --edition 2 SYMBOLS RULE STATE",
     "why --marks --allowance NUMBER SYMBOLS RULE STATE",
-    "session SYMBOLS STATE",
-    "session --edition 2 --allowance NUMBER SYMBOLS STATE",
-    "example SYMBOLS RULE",
-    "example --edition 2 --allowance NUMBER SYMBOLS RULE",
-    "example SYMBOLS RULE --size SIZE",
     "pack table SYMBOLS out.bin",
     "pack classes SYMBOLS out.bin",
     "pack rules SYMBOLS TEXT out.bin",
@@ -263,6 +270,15 @@ const CALLS: &[&str] = &[
     "explain --edition 2 FILE --pattern FILE --record FILE --stored FILE",
     "explain NUMBER",
     "explain --code NUMBER",
+];
+
+/// Calls of the commands that came later.
+const LATER_CALLS: &[&str] = &[
+    "session SYMBOLS STATE",
+    "session --edition 2 --allowance NUMBER SYMBOLS STATE",
+    "example SYMBOLS RULE",
+    "example --edition 2 --allowance NUMBER SYMBOLS RULE",
+    "example SYMBOLS RULE --size SIZE",
     "play . --turns TURNS",
     "play . --plan --turns TURNS --allowance NUMBER",
     "play --edition 2 --turns TURNS --plan --start s1 .",
@@ -273,38 +289,84 @@ fn stays(word: &str) -> bool {
     !word.starts_with('/') && !word.contains("..")
 }
 
-#[test]
-fn no_command_line_panics() {
-    let folder = env::temp_dir().join(format!("qonveshir-random-{}", std::process::id()));
+/// The folder that the process runs in is one for all tests.
+static FOLDER: Mutex<()> = Mutex::new(());
+
+/// Does something in a folder of its own, with the symbols.
+fn in_folder(what: impl FnOnce()) {
+    let _alone = FOLDER.lock().unwrap_or_else(PoisonError::into_inner);
+    let folder: PathBuf = env::temp_dir().join(format!("qonveshir-random-{}", std::process::id()));
     fs::create_dir_all(&folder).unwrap();
     env::set_current_dir(&folder).unwrap();
-    let (mut draw, mut statuses, mut explained, mut forced) = (Draw(SEED), [0; 3], 0, 0);
-    for line in 0..LINES {
-        if line % 100 == 0 {
-            draw.files();
-        }
-        let arguments = draw.line();
-        // Nothing is written outside the folder, whichever word is taken for an output.
-        assert!(arguments.iter().all(|word| stays(word)), "{arguments:?}");
-        let arguments: Vec<&str> = arguments.iter().map(String::as_str).collect();
-        let look = Look { marks: line % 3 == 0, colour: line % 5 == 0, width: line % 120 };
-        let (mut out, mut err) = (Vec::new(), Vec::new());
-        let (script, prompt) = (draw.script(), if line % 7 == 0 { "> " } else { "" });
-        let mut input = script.as_bytes();
-        let console = Console::new(&mut out, &mut err, look);
-        let status = run(&arguments, &mut console.reading(&mut input, prompt));
-        assert_eq!(status == 2, !err.is_empty(), "{arguments:?}");
-        let text = String::from_utf8(out).unwrap();
-        assert!(String::from_utf8(err).is_ok());
-        explained += usize::from(text.contains("because "));
-        forced += usize::from(text.contains("forced\u{1b}") || text.starts_with("forced: "));
-        statuses[usize::from(status)] += 1;
-    }
+    put_symbols();
+    what();
     env::set_current_dir(env::temp_dir()).unwrap();
     fs::remove_dir_all(folder).unwrap();
-    // Many come to something: a status of each kind, and a search that is explained.
-    println!("statuses 0, 1, 2: {statuses:?}, explained: {explained}, forced: {forced}");
-    assert!(statuses.iter().all(|&number| number > LINES / 20));
-    assert!(explained > LINES / 120);
-    assert!(forced > LINES / 1_000);
+}
+
+fn put_symbols() {
+    for name in ["symbols", "symbols.txt"] {
+        fs::write(name, "open shut held gate/1 row/2 gates/*").unwrap();
+    }
+}
+
+/// Runs a command line with something to read, if anything; its status, and what it prints.
+fn tried(line: usize, arguments: &[String], script: Option<&str>) -> (usize, String) {
+    // Nothing is written outside the folder, whichever word is taken for an output.
+    assert!(arguments.iter().all(|word| stays(word)), "{arguments:?}");
+    let arguments: Vec<&str> = arguments.iter().map(String::as_str).collect();
+    let look = Look { marks: line % 3 == 0, colour: line % 5 == 0, width: line % 120 };
+    let (mut out, mut err, mut input) = (Vec::new(), Vec::new(), script.unwrap_or("").as_bytes());
+    let mut console = Console::new(&mut out, &mut err, look);
+    if script.is_some() {
+        console = console.reading(&mut input, if line % 7 == 0 { "> " } else { "" });
+    }
+    let status = run(&arguments, &mut console);
+    assert_eq!(status == 2, !err.is_empty(), "{arguments:?}");
+    assert!(String::from_utf8(err).is_ok());
+    (status.into(), String::from_utf8(out).unwrap())
+}
+
+#[test]
+fn no_command_line_panics() {
+    in_folder(|| {
+        let (mut draw, mut statuses, mut explained) = (Draw::new(&[WORDS], CALLS), [0; 3], 0);
+        for line in 0..LINES {
+            if line % 100 == 0 {
+                draw.files();
+            }
+            let (status, text) = tried(line, &draw.line(), None);
+            explained += usize::from(text.contains("because "));
+            statuses[status] += 1;
+        }
+        // Many come to something: a status of each kind, and a search that is explained.
+        println!("statuses 0, 1, 2: {statuses:?}, explained: {explained}");
+        assert!(statuses.iter().all(|&number| number > LINES / 20));
+        assert!(explained > LINES / 50);
+    });
+}
+
+#[test]
+fn no_later_command_line_panics() {
+    in_folder(|| {
+        let mut draw = Draw::new(&[LATER_WORDS, WORDS], LATER_CALLS);
+        let (mut statuses, mut forced, mut moved) = ([0; 3], 0, 0);
+        for line in 0..LATER_LINES {
+            if line % 100 == 0 {
+                draw.files();
+                draw.game();
+            }
+            let (arguments, script) = (draw.line(), draw.script());
+            let (status, text) = tried(line, &arguments, Some(&script));
+            forced += usize::from(text.contains("forced\u{1b}") || text.starts_with("forced: "));
+            moved += usize::from(text.contains("kept ") && text.contains("bound"));
+            statuses[status] += 1;
+        }
+        // Many come to something: a status of each kind, a game that is forced, and a session that
+        // keeps states and moves on.
+        println!("statuses 0, 1, 2: {statuses:?}, forced: {forced}, moved: {moved}");
+        assert!(statuses.iter().all(|&number| number > LATER_LINES / 20));
+        assert!(forced > LATER_LINES / 1_000);
+        assert!(moved > LATER_LINES / 1_000);
+    });
 }

@@ -190,7 +190,7 @@ fn explains_where_the_numbers_come_from() {
     let folder = folder("explain-session");
     let explain = |number| common::run(&folder, &["explain", number]).1;
     let (name, shelf) = (explain("20"), explain("21"));
-    assert_eq!(name, "20 no name: no state is kept under that name (from qonveshir session)\n");
-    assert!(shelf.ends_with("the name is a ninth (from qonveshir session)\n"), "{shelf}");
+    assert_eq!(name, "20 no name: no state is kept under that name\nfrom qonveshir session\n");
+    assert!(shelf.ends_with("the name is a ninth\nfrom qonveshir session\n"), "{shelf}");
     fs::remove_dir_all(folder).unwrap();
 }
