@@ -44,7 +44,7 @@ returns-then-full-clause-answer c = let args = c.args in
     let oct : Octets args.bytes.now = λ i. omega (arith, c.type_inv.bytes i) in
     let ends = sym c.read_entry-entry.ensures ∙ c.in_default.is in
     let e = call_full args.records args.table.now args.classes.now args.bytes.now c.requires oct c.in_default.field-0 ends
-    c.measure-plan.result c.measure-plan.ensures (not-false _ c.if-not-plan.false) (length args.output.now) (c.if-full.true) in
+    c.measure-plan.result c.measure-plan.ensures (not-false _ (cc)) (length args.output.now) (c.if-full.true) in
     rw e refl
 
 pub returns-then-full-clause-contents : goal.returns-then-full-clause-contents
@@ -52,7 +52,7 @@ returns-then-full-clause-contents c = let args = c.args in
     let oct : Octets args.bytes.now = λ i. omega (arith, c.type_inv.bytes i) in
     let ends = sym c.read_entry-entry.ensures ∙ c.in_default.is in
     let e = call_full args.records args.table.now args.classes.now args.bytes.now c.requires oct c.in_default.field-0 ends
-    c.measure-plan.result c.measure-plan.ensures (not-false _ c.if-not-plan.false) (length args.output.now) (c.if-full.true) in
+    c.measure-plan.result c.measure-plan.ensures (not-false _ (cc)) (length args.output.now) (c.if-full.true) in
     rw e refl
 
 pub put_trees-requires : goal.put_trees-requires
@@ -66,7 +66,7 @@ returns-clause-answer c = let args = c.args in
     let oct : Octets args.bytes.now = λ i. omega (arith, c.type_inv.bytes i) in
     let ends = sym c.read_entry-entry.ensures ∙ c.in_default.is in
     let room = c.if-full.false in
-    let narrow = not-false _ c.if-not-plan.false in written_shown args.records args.table.now args.classes.now args.bytes.now c.requires oct c.in_default.field-0 ends
+    let narrow = not-false _ (cc) in written_shown args.records args.table.now args.classes.now args.bytes.now c.requires oct c.in_default.field-0 ends
     c.measure-plan.result c.measure-plan.ensures narrow (length args.output.now) (omega (arith, room))
 
 pub returns-clause-contents : goal.returns-clause-contents
@@ -74,6 +74,6 @@ returns-clause-contents c = let args = c.args in
     let oct : Octets args.bytes.now = λ i. omega (arith, c.type_inv.bytes i) in
     let ends = sym c.read_entry-entry.ensures ∙ c.in_default.is in
     let room = c.if-full.false in
-    let narrow = not-false _ c.if-not-plan.false in written_output args.records args.table.now args.classes.now args.bytes.now c.requires oct c.in_default.field-0 ends
+    let narrow = not-false _ (cc) in written_output args.records args.table.now args.classes.now args.bytes.now c.requires oct c.in_default.field-0 ends
     c.measure-plan.result c.measure-plan.ensures narrow args.output.now c.put_trees.new.out (omega (arith, room))
     c.put_trees.ensures.stores

@@ -43,14 +43,14 @@ returns-then-n-k c = let a = c.args in
 pub bounds-lengths-k : goal.bounds-lengths-k
 bounds-lengths-k c = let a = c.args in
     let ok = sound a.station (length a.records.now) (sym c.check-checked.ensures ∙ c.in-Done.is) in
-    omega (arith, ok.few, c.if-n-k.false)
+    omega (arith, ok.few)
 
 pub copy_bytes-requires : goal.copy_bytes-requires
 copy_bytes-requires c = let a = c.args in
     let ok = sound a.station (length a.records.now) (sym c.check-checked.ensures ∙ c.in-Done.is) in
     let k = c.place-k.result in
-    let fits = length_fits a.station (length a.records.now) ok (k + 1) (omega (arith, c.if-n-k.false)) in
-    (omega (arith, ok.lent, ok.few, fits, c.if-n-k.false), omega (arith, ok.lent, fits), inr (omega (arith, fits)))
+    let fits = length_fits a.station (length a.records.now) ok (k + 1) (omega arith) in
+    (omega (arith, ok.lent, ok.few, fits), omega (arith, ok.lent, fits), inr (omega (arith, fits)))
 
 pub returns : goal.returns
 returns c = let a = c.args in
@@ -59,4 +59,4 @@ returns c = let a = c.args in
     let shape = shaped a.station c.well_formed.1.0 in
     both a.station a.records.now shape a.name _ _ _ ((λ i. outcome Done (c.lengthened_at-after.ensures i) (c.copy_bytes.ensures i))
     ∙ return_done a.station a.records.now a.name k (sym
-    c.check-checked.ensures ∙ c.in-Done.is) at c.if-n-k.false)
+    c.check-checked.ensures ∙ c.in-Done.is) at (omega arith))
