@@ -1,76 +1,69 @@
-// What a match answers, with the numbers of documents 01 and 02: refusals, parts of a record, the answers of a pattern, of a rule sheet, of
-// the cost, of a template and of the game of loader and sender.
+// What a match answers, with the numbers of documents 01 and 02: refusals, parts of a record, the answers of a pattern, of a rule sheet, of a
+// template and of the game of loader and sender; and how each is shown in numbers.
 #![tactic(auto)]
 
-ghost use Rattle.std.specs.Prelude.{◌≡◌};
+ghost use Rattle.std.specs.Prelude.{◌≡◌, ℕ, Ok};
 ghost use Rattle.answers.specs.Refusal.{number_of};
+ghost use Rattle.answers.specs.Fault.{fault_at};
 ghost use Rattle.answers.specs.Part.{is_absent, bound_part};
+ghost use Rattle.answers.specs.Shown.{nothing, of_result};
 ghost use Rattle.answers.specs.Answers.{cost_number, cost_count, answer_number, answer_count, rule_number, rule_index, rule_count, applied_number, applied_count, applied_length, played_number, played_index, played_count};
 
 // The offset of the absent mark: no part within the longest record has it.
 const NOWHERE: u16 = 65535;
 
-// Why an input is refused.
-#[derive(Clone, Copy)]
+// Why an input is refused, with document 01's number.
+#[derive(Clone, Copy, Debug, PartialEq, Eq)]
 pub enum Refusal {
-    Table,
-    Short,
-    Spare,
-    BadCode,
-    Deep,
-    Long,
-    Stray,
-    Narrow,
-    Directory,
-    Full,
-    Unread,
-    Class,
-    Unknown,
-    Unspliced,
-    Length,
-    Loose,
-    Outgrown,
-    NoName,
-    Shelf,
-    NoExample,
-    NotPlain,
-    Turns,
+    Table = 1,
+    Short = 2,
+    Spare = 3,
+    BadCode = 4,
+    Deep = 5,
+    Long = 6,
+    Stray = 7,
+    Narrow = 8,
+    Directory = 9,
+    Full = 12,
+    Unread = 13,
+    Class = 14,
+    Unknown = 15,
+    Unspliced = 16,
+    Length = 17,
+    Loose = 18,
+    Outgrown = 19,
+    NoName = 20,
+    Shelf = 21,
+    NoExample = 22,
+    NotPlain = 23,
+    Turns = 24,
 }
 
-impl Refusal {
-    // Document 01's number.
-    pub fn number(self) -> u8
-        ensures { result ≡ number_of self }
+// A refusal, and the index of the entry at fault, 0 where no entry is meant.
+#[derive(Clone, Copy, Debug, PartialEq, Eq)]
+pub struct Fault {
+    pub refusal: Refusal,
+    pub index: usize,
+}
+
+impl Fault {
+    pub fn at(refusal: Refusal, index: usize) -> Fault
+        ensures { result ≡ fault_at refusal index }
     {
-        match self {
-            Refusal::Table => 1,
-            Refusal::Short => 2,
-            Refusal::Spare => 3,
-            Refusal::BadCode => 4,
-            Refusal::Deep => 5,
-            Refusal::Long => 6,
-            Refusal::Stray => 7,
-            Refusal::Narrow => 8,
-            Refusal::Directory => 9,
-            Refusal::Full => 12,
-            Refusal::Unread => 13,
-            Refusal::Class => 14,
-            Refusal::Unknown => 15,
-            Refusal::Unspliced => 16,
-            Refusal::Length => 17,
-            Refusal::Loose => 18,
-            Refusal::Outgrown => 19,
-            Refusal::NoName => 20,
-            Refusal::Shelf => 21,
-            Refusal::NoExample => 22,
-            Refusal::NotPlain => 23,
-            Refusal::Turns => 24,
-        }
+        Fault { refusal, index }
+    }
+}
+
+impl From<Refusal> for Fault {
+    ghost from_gives = { λ r f. f ≡ fault_at r 0 };
+
+    fn from(refusal: Refusal) -> Fault {
+        Fault { refusal, index: 0 }
     }
 }
 
 // A part of a record: offset and length in bytes, and the number of its elements.
-#[derive(Clone, Copy)]
+#[derive(Clone, Copy, Debug, PartialEq, Eq)]
 pub struct Part {
     pub offset: u16,
     pub length: u16,
@@ -92,7 +85,7 @@ impl Part {
         Part {
             offset: (offset % 65536) as u16,
             length: (length % 65536) as u16,
-            elements: elements,
+            elements,
         }
     }
 
@@ -103,164 +96,283 @@ impl Part {
     }
 }
 
-// The number of the pattern's nodes, which bounds every count; that it has run names, and no such bound; or why it is refused.
-#[derive(Clone, Copy)]
-pub enum Cost {
-    AtMost(u32),
-    NoBound,
-    Refused(Refusal),
+// How an answer is shown in numbers.
+pub trait Shown {
+    ghost shown_number: { Self → ℕ };
+
+    ghost shown_index: { Self → ℕ };
+
+    ghost shown_count: { Self → ℕ };
+
+    // Document 01's number: 0 where nothing is refused, 10 none, 11 spent.
+    fn number(self) -> u8
+        ensures { result ≡ shown_number self };
+
+    // The index of the rule that is shown or of the entry that is refused; else 0.
+    fn index(self) -> usize
+        ensures { result ≡ shown_index self };
+
+    // The count, or the length of what was read or written; a refusal shows 0.
+    fn count(self) -> u64
+        ensures { result ≡ shown_count self };
 }
 
-impl Cost {
-    // 0 where there is a bound, and 10, none, where there is no such; or document 01's number of the refusal.
-    pub fn number(self) -> u8
-        ensures { result ≡ cost_number self }
-    {
+impl Shown for () {
+    ghost shown_number = { nothing };
+
+    ghost shown_index = { nothing };
+
+    ghost shown_count = { nothing };
+
+    fn number(self) -> u8 {
+        0
+    }
+
+    fn index(self) -> usize {
+        0
+    }
+
+    fn count(self) -> u64 {
+        0
+    }
+}
+
+// A length, or a number of entries.
+impl Shown for usize {
+    ghost shown_number = { nothing };
+
+    ghost shown_index = { nothing };
+
+    ghost shown_count = { λ n. n };
+
+    fn number(self) -> u8 {
+        0
+    }
+
+    fn index(self) -> usize {
+        0
+    }
+
+    fn count(self) -> u64 {
+        self as u64
+    }
+}
+
+// What a count can be at most; `None` where there is no such bound.
+impl Shown for Option<u32> {
+    ghost shown_number = { λ a. cost_number (Ok a) };
+
+    ghost shown_index = { nothing };
+
+    ghost shown_count = { λ a. cost_count (Ok a) };
+
+    fn number(self) -> u8 {
         match self {
-            Cost::AtMost(_) => 0,
-            Cost::NoBound => 10,
-            Cost::Refused(r) => r.number(),
+            Some(_) => 0,
+            None => NONE,
         }
     }
 
-    // The bound; where there is none, 0.
-    pub fn count(self) -> u32
-        ensures { result ≡ cost_count self }
-    {
+    fn index(self) -> usize {
+        0
+    }
+
+    fn count(self) -> u64 {
         match self {
-            Cost::AtMost(n) => n,
-            Cost::NoBound => 0,
-            Cost::Refused(_) => 0,
+            Some(n) => u64::from(n),
+            None => 0,
         }
     }
 }
 
-// Bound, none or spent, with the count; or why the input is refused.
-#[derive(Clone, Copy)]
+impl Shown for Refusal {
+    ghost shown_number = { number_of };
+
+    ghost shown_index = { nothing };
+
+    ghost shown_count = { nothing };
+
+    fn number(self) -> u8 {
+        self as u8
+    }
+
+    fn index(self) -> usize {
+        0
+    }
+
+    fn count(self) -> u64 {
+        0
+    }
+}
+
+impl Shown for Fault {
+    ghost shown_number = { λ f. number_of f.refusal };
+
+    ghost shown_index = { λ f. f.index };
+
+    ghost shown_count = { nothing };
+
+    fn number(self) -> u8 {
+        self.refusal as u8
+    }
+
+    fn index(self) -> usize {
+        self.index
+    }
+
+    fn count(self) -> u64 {
+        0
+    }
+}
+
+impl<T: Shown, E: Shown> Shown for Result<T, E> {
+    ghost shown_number = { of_result T.shown_number E.shown_number };
+
+    ghost shown_index = { of_result T.shown_index E.shown_index };
+
+    ghost shown_count = { of_result T.shown_count E.shown_count };
+
+    fn number(self) -> u8 {
+        match self {
+            Ok(answer) => answer.number(),
+            Err(refused) => refused.number(),
+        }
+    }
+
+    fn index(self) -> usize {
+        match self {
+            Ok(answer) => answer.index(),
+            Err(refused) => refused.index(),
+        }
+    }
+
+    fn count(self) -> u64 {
+        match self {
+            Ok(answer) => answer.count(),
+            Err(refused) => refused.count(),
+        }
+    }
+}
+
+// The numbers of none and spent.
+const NONE: u8 = 10;
+
+const SPENT: u8 = 11;
+
+// Bound, none or spent, with the count.
+#[derive(Clone, Copy, Debug, PartialEq, Eq)]
 pub enum Answer {
     Bound(u32),
     None(u32),
     Spent(u32),
-    Refused(Refusal),
 }
 
-impl Answer {
-    // Document 01's number; bound has 0.
-    pub fn number(self) -> u8
-        ensures { result ≡ answer_number self }
-    {
+impl Shown for Answer {
+    ghost shown_number = { λ a. answer_number (Ok a) };
+
+    ghost shown_index = { nothing };
+
+    ghost shown_count = { λ a. answer_count (Ok a) };
+
+    fn number(self) -> u8 {
         match self {
             Answer::Bound(_) => 0,
-            Answer::None(_) => 10,
-            Answer::Spent(_) => 11,
-            Answer::Refused(r) => r.number(),
+            Answer::None(_) => NONE,
+            Answer::Spent(_) => SPENT,
         }
     }
 
-    // The count that it shows; a refusal shows 0.
-    pub fn count(self) -> u32
-        ensures { result ≡ answer_count self }
-    {
+    fn index(self) -> usize {
+        0
+    }
+
+    fn count(self) -> u64 {
         match self {
-            Answer::Bound(n) => n,
-            Answer::None(n) => n,
-            Answer::Spent(n) => n,
-            Answer::Refused(_) => 0,
+            Answer::Bound(n) | Answer::None(n) | Answer::Spent(n) => u64::from(n),
         }
     }
 }
 
-// Bound at a rule, none, or spent at a rule, with the sum of counts so far; or why the input is refused, with the index of the entry, 0
-// where no entry is meant.
-#[derive(Clone, Copy)]
+// Bound at a rule, none, or spent at a rule, with the sum of counts so far.
+#[derive(Clone, Copy, Debug, PartialEq, Eq)]
 pub enum RuleAnswer {
     Bound(usize, u64),
     None(u64),
     Spent(usize, u64),
-    Refused(Refusal, usize),
 }
 
-impl RuleAnswer {
-    // Document 01's number; bound has 0.
-    pub fn number(self) -> u8
-        ensures { result ≡ rule_number self }
-    {
+impl Shown for RuleAnswer {
+    ghost shown_number = { λ a. rule_number (Ok a) };
+
+    ghost shown_index = { λ a. rule_index (Ok a) };
+
+    ghost shown_count = { λ a. rule_count (Ok a) };
+
+    fn number(self) -> u8 {
         match self {
             RuleAnswer::Bound(_, _) => 0,
-            RuleAnswer::None(_) => 10,
-            RuleAnswer::Spent(_, _) => 11,
-            RuleAnswer::Refused(r, _) => r.number(),
+            RuleAnswer::None(_) => NONE,
+            RuleAnswer::Spent(_, _) => SPENT,
         }
     }
 
-    // The index of the rule; none shows 0.
-    pub fn index(self) -> usize
-        ensures { result ≡ rule_index self }
-    {
+    // None shows 0.
+    fn index(self) -> usize {
         match self {
-            RuleAnswer::Bound(i, _) => i,
+            RuleAnswer::Bound(i, _) | RuleAnswer::Spent(i, _) => i,
             RuleAnswer::None(_) => 0,
-            RuleAnswer::Spent(i, _) => i,
-            RuleAnswer::Refused(_, i) => i,
         }
     }
 
-    // The sum of the counts; a refusal shows 0.
-    pub fn count(self) -> u64
-        ensures { result ≡ rule_count self }
-    {
+    fn count(self) -> u64 {
         match self {
-            RuleAnswer::Bound(_, n) => n,
-            RuleAnswer::None(n) => n,
-            RuleAnswer::Spent(_, n) => n,
-            RuleAnswer::Refused(_, _) => 0,
+            RuleAnswer::Bound(_, n) | RuleAnswer::None(n) | RuleAnswer::Spent(_, n) => n,
         }
     }
 }
 
-// Bound, with the count and the length of the result; none or spent, with the count; or why the input or the result is refused.
-#[derive(Clone, Copy)]
+// Bound, with the count and the length of the result; none or spent, with the count.
+#[derive(Clone, Copy, Debug, PartialEq, Eq)]
 pub enum Applied {
     Bound(u32, usize),
     None(u32),
     Spent(u32),
-    Refused(Refusal),
 }
 
 impl Applied {
-    // Document 01's number; bound has 0.
-    pub fn number(self) -> u8
-        ensures { result ≡ applied_number self }
-    {
-        match self {
-            Applied::Bound(_, _) => 0,
-            Applied::None(_) => 10,
-            Applied::Spent(_) => 11,
-            Applied::Refused(r) => r.number(),
-        }
-    }
-
-    // The count that it shows; a refusal shows 0.
-    pub fn count(self) -> u32
-        ensures { result ≡ applied_count self }
-    {
-        match self {
-            Applied::Bound(n, _) => n,
-            Applied::None(n) => n,
-            Applied::Spent(n) => n,
-            Applied::Refused(_) => 0,
-        }
-    }
-
     // The length of the result; 0 unless bound.
     pub fn length(self) -> usize
-        ensures { result ≡ applied_length self }
+        ensures { result ≡ applied_length (Ok self) }
     {
         match self {
             Applied::Bound(_, n) => n,
-            Applied::None(_) => 0,
-            Applied::Spent(_) => 0,
-            Applied::Refused(_) => 0,
+            Applied::None(_) | Applied::Spent(_) => 0,
+        }
+    }
+}
+
+impl Shown for Applied {
+    ghost shown_number = { λ a. applied_number (Ok a) };
+
+    ghost shown_index = { nothing };
+
+    ghost shown_count = { λ a. applied_count (Ok a) };
+
+    fn number(self) -> u8 {
+        match self {
+            Applied::Bound(_, _) => 0,
+            Applied::None(_) => NONE,
+            Applied::Spent(_) => SPENT,
+        }
+    }
+
+    fn index(self) -> usize {
+        0
+    }
+
+    fn count(self) -> u64 {
+        match self {
+            Applied::Bound(n, _) | Applied::None(n) | Applied::Spent(n) => u64::from(n),
         }
     }
 }
@@ -270,58 +382,46 @@ pub const NO_MOVE: usize = 64;
 
 pub const PASS: usize = 65;
 
-// Forced, where no move is needed, by the loader's first rule of an index, or by a pass; none; spent, with the allowance; or why the input is
-// refused, with the index of the entry, 0 where no entry is meant.
-#[derive(Clone, Copy)]
+// Forced, where no move is needed, by the loader's first rule of an index, or by a pass; none; or spent, with the allowance.
+#[derive(Clone, Copy, Debug, PartialEq, Eq)]
 pub enum Played {
     Unneeded,
     ByRule(usize),
     ByPass,
     None,
     Spent(u32),
-    Refused(Refusal, usize),
 }
 
-impl Played {
-    // Document 01's number; forced has 0.
-    pub fn number(self) -> u8
-        ensures { result ≡ played_number self }
-    {
+impl Shown for Played {
+    ghost shown_number = { λ a. played_number (Ok a) };
+
+    ghost shown_index = { λ a. played_index (Ok a) };
+
+    ghost shown_count = { λ a. played_count (Ok a) };
+
+    fn number(self) -> u8 {
         match self {
-            Played::Unneeded => 0,
-            Played::ByRule(_) => 0,
-            Played::ByPass => 0,
-            Played::None => 10,
-            Played::Spent(_) => 11,
-            Played::Refused(r, _) => r.number(),
+            Played::Unneeded | Played::ByRule(_) | Played::ByPass => 0,
+            Played::None => NONE,
+            Played::Spent(_) => SPENT,
         }
     }
 
-    // How the loader begins, where it is forced; or the index of the entry that is refused.
-    pub fn index(self) -> usize
-        ensures { result ≡ played_index self }
-    {
+    // How the loader begins, where it is forced.
+    fn index(self) -> usize {
         match self {
             Played::Unneeded => NO_MOVE,
             Played::ByRule(i) => i,
             Played::ByPass => PASS,
-            Played::None => 0,
-            Played::Spent(_) => 0,
-            Played::Refused(_, i) => i,
+            Played::None | Played::Spent(_) => 0,
         }
     }
 
     // The allowance, where it is spent; else 0.
-    pub fn count(self) -> u32
-        ensures { result ≡ played_count self }
-    {
+    fn count(self) -> u64 {
         match self {
-            Played::Unneeded => 0,
-            Played::ByRule(_) => 0,
-            Played::ByPass => 0,
-            Played::None => 0,
-            Played::Spent(n) => n,
-            Played::Refused(_, _) => 0,
+            Played::Spent(n) => u64::from(n),
+            Played::Unneeded | Played::ByRule(_) | Played::ByPass | Played::None => 0,
         }
     }
 }

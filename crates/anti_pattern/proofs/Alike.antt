@@ -3,7 +3,6 @@ use Prim.Native.Nat.{ℕ}
 use mathlib.Core.Path.{◌≡◌, refl, sym, ◌∙◌, ap, subst}
 use mathlib.Core.List.{List}
 use mathlib.Core.Bool.{Bool, false≢true}
-use mathlib.Core.Option.{Option, none, some}
 use lib.Dec.{eqb}
 use borrow.Author.Tests.{eqb-true, eq-eqb}
 use Rattle.term.specs.Class.{class_of}
@@ -12,7 +11,6 @@ use Rattle.term.specs.Same.{same_term, same_terms}
 use Rattle.term.specs.Term.{Term, node, Terms, nil, ◌::◌, ◌⧺◌, single, term_tree, term_trees}
 use Rattle.term.specs.Splicing.{stand_in, SplicedAll}
 use Rattle.term.specs.declared.Code.TheVariants.{Symbol}
-use Rattle.term.specs.declared.Stand.{Stand}
 use Rattle.term.proofs.Splicing.{spliced_elsewhere}
 use Rattle.term.proofs.SameParts.{and_true, same_term_holds, same_terms_holds, same_counts}
 use Rattle.anti_pattern.specs.Language.{Language, OverAll, TermOf, TermsOf, ◌⊢◌∼◌, ◌⊢◌≈◌, ◌⊢◌≋◌}
@@ -20,6 +18,7 @@ use Rattle.anti_pattern.specs.Meaning.{Assignment, ExtendsAt, Extends, Holds, Ho
 use Rattle.anti_pattern.specs.Order.{length_of}
 use Rattle.anti_pattern.specs.Variables.{free, among}
 use Rattle.anti_pattern.proofs.Facts.{none_some, some_same}
+use Rattle.std.specs.Prelude.{Option, Some, None}
 
 module _ (l : Language) where
   -- nodes and sequences, part by part
@@ -76,42 +75,42 @@ module _ (l : Language) where
   -- what is assigned
 
   pub one_refl : (o : Option Terms) → OneAt l o o
-  one_refl none = tt
-  one_refl (some w) = same_terms_holds l.classes w
+  one_refl None = tt
+  one_refl (Some w) = same_terms_holds l.classes w
 
   pub one_sym : (o p : Option Terms) → OneAt l o p → OneAt l p o
-  one_sym none none h = h
-  one_sym none (some x) h = h
-  one_sym (some w) none h = h
-  one_sym (some w) (some x) h = run_sym w x h
+  one_sym None None h = h
+  one_sym None (Some x) h = h
+  one_sym (Some w) None h = h
+  one_sym (Some w) (Some x) h = run_sym w x h
 
   pub one_trans : (o p q : Option Terms) → OneAt l o p → OneAt l p q → OneAt l o q
-  one_trans none none q h k = k
-  one_trans none (some x) q h k = absurd h
-  one_trans (some w) none q h k = absurd h
-  one_trans (some w) (some x) none h k = k
-  one_trans (some w) (some x) (some y) h k = run_trans w x y h k
+  one_trans None None q h k = k
+  one_trans None (Some x) q h k = absurd h
+  one_trans (Some w) None q h k = absurd h
+  one_trans (Some w) (Some x) None h k = k
+  one_trans (Some w) (Some x) (Some y) h k = run_trans w x y h k
 
   pub one_length : (o p : Option Terms) → OneAt l o p → length_of o ≡ length_of p
-  one_length none none h = refl
-  one_length none (some x) h = absurd h
-  one_length (some w) none h = absurd h
-  one_length (some w) (some x) h = same_counts l.classes w x h
+  one_length None None h = refl
+  one_length None (Some x) h = absurd h
+  one_length (Some w) None h = absurd h
+  one_length (Some w) (Some x) h = same_counts l.classes w x h
 
-  one_some : (o p : Option Terms) (w : Terms) → OneAt l o p → o ≡ some w → (x : Terms) × (p ≡ some x) × (l ⊢ x ≋ w)
-  one_some none p w h e = absurd (none_some e)
-  one_some (some y) none w h e = absurd h
-  one_some (some y) (some x) w h e = (x, refl, run_sym w x (subst (λ (z : Terms). l ⊢ z ≋ x) (some_same e) h))
+  one_some : (o p : Option Terms) (w : Terms) → OneAt l o p → o ≡ Some w → (x : Terms) × (p ≡ Some x) × (l ⊢ x ≋ w)
+  one_some None p w h e = absurd (none_some e)
+  one_some (Some y) None w h e = absurd h
+  one_some (Some y) (Some x) w h e = (x, refl, run_sym w x (subst (λ (z : Terms). l ⊢ z ≋ x) (some_same e) h))
 
-  pub some_one : (o p : Option Terms) (w x : Terms) → o ≡ some w → p ≡ some x → l ⊢ w ≋ x → OneAt l o p
+  pub some_one : (o p : Option Terms) (w x : Terms) → o ≡ Some w → p ≡ Some x → l ⊢ w ≋ x → OneAt l o p
   some_one o p w x e f h =
-      subst (λ (y : Option Terms). OneAt l y p) (sym e) (subst (λ (y : Option Terms). OneAt l (some w) y) (sym f) h)
+      subst (λ (y : Option Terms). OneAt l y p) (sym e) (subst (λ (y : Option Terms). OneAt l (Some w) y) (sym f) h)
 
   -- assignments that count as one are extended to such
 
   abbrev kept : Option Terms → Option Terms → Option Terms
-  kept (some x) o = some x
-  kept none o = o
+  kept (Some x) o = Some x
+  kept None o = o
 
   extends_one : (a b : Assignment) (vs : List ℕ) (c : Assignment) → CountAsOne l a b → Extends (TermsOf l) a vs c
       → (d : Assignment) × Extends (TermsOf l) b vs d × CountAsOne l c d
@@ -120,10 +119,10 @@ module _ (l : Language) where
       (λ v. kept (b v) (c v), λ v. (go (a v) (b v) (among v vs) (c v) (e v) (x v)).0, λ v. (go (a v) (b v) (among v vs) (c v) (e v) (x v)).1)
     where
       go : (o p : Option Terms) (m : Bool) (r : Option Terms) → OneAt l o p → ExtendsAt (TermsOf l) o m r → ExtendsAt (TermsOf l) p m (kept p r) × OneAt l r (kept p r)
-      go none none m r e x = (x, one_refl r)
-      go none (some y) m r e x = absurd e
-      go (some w) none m r e x = absurd e
-      go (some w) (some y) m r e x = (refl, subst (λ (z : Option Terms). OneAt l z (some y)) (sym x) e)
+      go None None m r e x = (x, one_refl r)
+      go None (Some y) m r e x = absurd e
+      go (Some w) None m r e x = absurd e
+      go (Some w) (Some y) m r e x = (refl, subst (λ (z : Option Terms). OneAt l z (Some y)) (sym x) e)
 
   -- the pattern holds under the one if it does under the other
   mutual
@@ -131,7 +130,7 @@ module _ (l : Language) where
     holds_one (name v) a b t e h =
         let x = one_some (a v) (b v) (single h.0) (e v) h.1 in
         let u = single_open x.0 h.0 x.2 in
-        (u.0, x.1 ∙ ap some u.1, term_trans u.0 h.0 t u.2 h.2)
+        (u.0, x.1 ∙ ap Some u.1, term_trans u.0 h.0 t u.2 h.2)
     holds_one (symbol s qs) a b (node r ts) e h = (h.0, hold_all_one qs a b ts e h.1)
     holds_one (complement q) a b t e n = λ c x h.
         let d = extends_one b a (free q) c (λ v. one_sym (a v) (b v) (e v)) x in n d.0 d.1 (holds_one q c d.0 t d.2 h)
@@ -154,7 +153,7 @@ of_split l nil us g = (tt, g)
 of_split l (t :: x) us g = let r = of_split l x us g.1 in ((g.0, r.0), r.1)
 
 -- the children of a term of the language are
-each_of : (l : Language) (stand : Stand) (ts : Terms) → OverAll l.table ts → SplicedAll l stand (term_trees ts) → TermsOf l ts
+each_of : (l : Language) (stand : (Option ℕ)) (ts : Terms) → OverAll l.table ts → SplicedAll l stand (term_trees ts) → TermsOf l ts
 each_of l stand nil o h = tt
 each_of l stand (t :: ts) o h = ((o.0, spliced_elsewhere l stand (term_tree t) h.0), each_of l stand ts o.1 h.1)
 

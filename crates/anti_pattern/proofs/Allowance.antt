@@ -3,7 +3,6 @@ use Prim.Native.Nat.{ℕ, suc, ◌-◌, ◌<◌, ◌≤◌}
 use mathlib.Core.Path.{◌≡◌, refl, sym, ◌∙◌, ap}
 use mathlib.Core.List.{List}
 use mathlib.Core.Bool.{true}
-use mathlib.Core.Option.{some}
 use native.Mathlib.Omega.{arith}
 use Rattle.answers.specs.declared.Part.{Part}
 use Rattle.term.specs.Pattern.{Pattern}
@@ -13,6 +12,7 @@ use Rattle.anti_pattern.specs.Language.{Language}
 use Rattle.anti_pattern.proofs.Meter.{metered, meter, answered}
 use Rattle.anti_pattern.specs.Search.{Env, Answers, found, failed, first_answer, whole}
 use Rattle.anti_pattern.proofs.Metering.{leb_true, leb_false, Split, enough, over, split, meter_spent, meter_within}
+use Rattle.std.specs.Prelude.{Some}
 
 module _ (l : Language) (q : Pattern) (t : Term) (n : ℕ) where
   pub answer_over : n < count_of l q t → answer l q t n ≡ spent n
@@ -38,14 +38,14 @@ module _ (l : Language) (q : Pattern) (t : Term) (n : ℕ) where
 
   -- a bound answer has the parts of what the search finds
   pub bound_found : (ps : List Part) (m : ℕ) → answer l q t n ≡ bound ps m
-      → (count_of l q t ≤ n) × ((e : Env) × (first_answer (whole l q t).out ≡ some e) × (ps ≡ parts l.table e))
+      → (count_of l q t ≤ n) × ((e : Env) × (first_answer (whole l q t).out ≡ Some e) × (ps ≡ parts l.table e))
   bound_found ps m h = go (split (count_of l q t) n)
     where
       by : (o : Answers) → (whole l q t).out ≡ o → matching_of l.table o (count_of l q t) ≡ bound ps m
-          → (e : Env) × (first_answer (whole l q t).out ≡ some e) × (ps ≡ parts l.table e)
+          → (e : Env) × (first_answer (whole l q t).out ≡ Some e) × (ps ≡ parts l.table e)
       by (found e x o) z k = (e, ap first_answer z, cc)
       by failed z k = let y : ◌≡◌ {A = ℕ} 0 1 = cc in absurd (omega arith)
 
-      go : Split (count_of l q t) n → (count_of l q t ≤ n) × ((e : Env) × (first_answer (whole l q t).out ≡ some e) × (ps ≡ parts l.table e))
+      go : Split (count_of l q t) n → (count_of l q t ≤ n) × ((e : Env) × (first_answer (whole l q t).out ≡ Some e) × (ps ≡ parts l.table e))
       go (over l) = let k = sym (answer_over l) ∙ h in let y : ◌≡◌ {A = ℕ} 0 1 = cc in absurd (omega arith)
       go (enough i) = (i, by (whole l q t).out refl (sym (answer_within i) ∙ h))

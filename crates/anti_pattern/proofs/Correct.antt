@@ -4,7 +4,6 @@ use mathlib.Core.Path.{◌≡◌, refl, sym, ◌∙◌, ap, ap₂, subst}
 use mathlib.Core.Logic.{◌⊎◌, inl, inr}
 use mathlib.Core.List.{List, [], ◌∷◌, ◌++◌, map}
 use mathlib.Core.Bool.{Bool, true, false, cond, false≢true}
-use mathlib.Core.Option.{Option, none, some}
 use native.Mathlib.Omega.{arith}
 use lib.Dec.{eqb}
 use Rattle.term.specs.Class.{class_of}
@@ -23,6 +22,7 @@ use Rattle.anti_pattern.proofs.Alike.{single_same, single_open, run_trans, one_r
 use Rattle.anti_pattern.proofs.Extensions.{extends_refl, extends_nil, extends_at, extends_add, extends_drop, extends_set, extends_unbind, extends_bound}
 use Rattle.anti_pattern.proofs.Facts.{join_nil, join_one, count_join, head_same, tail_same, nil_cons, none_some, some_same, behind_alike, alike_behind}
 use Rattle.anti_pattern.proofs.Listed.{all_map, all_join, member_left, member_right, ascending_map, ascending_join}
+use Rattle.std.specs.Prelude.{Option, Some, None}
 
 -- of the lengths at the variables vs, the first that differ are smaller in a than in b
 abbrev pub Before : List ℕ → Assignment → Assignment → Type 0
@@ -35,7 +35,7 @@ Permits every n = Unit {0}
 Permits (only m) n = m ≡ n
 
 abbrev pub Permitted : (ℕ → Tries) → Assignment → Type 0
-Permitted how a = (v : ℕ) (w : Terms) → a v ≡ some w → Permits (how v) (count w)
+Permitted how a = (v : ℕ) (w : Terms) → a v ≡ Some w → Permits (how v) (count w)
 
 -- the assignments of an outcome's answers
 abbrev pub values : Answers → List Assignment
@@ -47,10 +47,10 @@ values_after failed n f = refl
 
 -- what is permitted stays so
 permitted_bind : (how : ℕ → Tries) (a : Assignment) (v : ℕ) (w : Terms) → Permitted how a → Permits (how v) (count w)
-    → Permitted how (update a v (some w))
+    → Permitted how (update a v (Some w))
 permitted_bind how a v w p h u x e = go (eqb v u) refl e
   where
-    go : (m : Bool) → eqb v u ≡ m → cond m (some w) (a u) ≡ some x → Permits (how u) (count x)
+    go : (m : Bool) → eqb v u ≡ m → cond m (Some w) (a u) ≡ Some x → Permits (how u) (count x)
     go true q e = subst (λ (y : Terms). Permits (how u) (count y)) (some_same e) (subst (λ (j : ℕ). Permits (how j) (count w)) (eqb-true v u q) h)
     go false q e = p u x e
 
@@ -116,8 +116,8 @@ module _ (l : Language) where
   permitted_one how b c e p v w h = go (b v) refl (e v)
     where
       go : (o : Option Terms) → b v ≡ o → OneAt l o (c v) → Permits (how v) (count w)
-      go none r x = absurd (subst (OneAt l none) h x)
-      go (some y) r x = subst (Permits (how v)) (same_counts l.classes y w (subst (OneAt l (some y)) h x)) (p v y r)
+      go None r x = absurd (subst (OneAt l None) h x)
+      go (Some y) r x = subst (Permits (how v)) (same_counts l.classes y w (subst (OneAt l (Some y)) h x)) (p v y r)
 
   -- b assigns, besides what a does, exactly the variables vs, has permitted lengths, and meets the condition
   pub record Candidate (how : ℕ → Tries) (a : Assignment) (vs : List ℕ) (K : Assignment → Type 0) (b : Assignment) : Type 0 where
@@ -218,20 +218,20 @@ module _ (l : Language) where
 
   -- the variable has the sequence, up to class
   abbrev Has : ℕ → Terms → Assignment → Type 0
-  Has v w b = (x : Terms) × (b v ≡ some x) × (l ⊢ x ≋ w)
+  Has v w b = (x : Terms) × (b v ≡ Some x) × (l ⊢ x ≋ w)
 
-  one_set : (b : Assignment) (v : ℕ) (w : Terms) → Has v w b → CountAsOne l (update b v (some w)) b
+  one_set : (b : Assignment) (v : ℕ) (w : Terms) → Has v w b → CountAsOne l (update b v (Some w)) b
   one_set b v w h i = go (eqb v i) refl
     where
-      go : (m : Bool) → eqb v i ≡ m → OneAt l (cond m (some w) (b i)) (b i)
+      go : (m : Bool) → eqb v i ≡ m → OneAt l (cond m (Some w) (b i)) (b i)
       go true e =
-          one_sym l (b i) (some w) (subst (λ (o : Option Terms). OneAt l o (some w))
-          (sym (subst (λ (j : ℕ). b j ≡ some h.0) (eqb-true v i e) h.1)) h.2)
+          one_sym l (b i) (Some w) (subst (λ (o : Option Terms). OneAt l o (Some w))
+          (sym (subst (λ (j : ℕ). b j ≡ Some h.0) (eqb-true v i e) h.1)) h.2)
       go false e = one_refl l (b i)
 
   -- a variable that is not assigned, and takes a sequence
   bind_best : {how : ℕ → Tries} (a : Assignment) (v : ℕ) (w : Terms) (vs : List ℕ) (K : Assignment → Type 0) → Respects K → TermsOf l w
-      → {bs : List Assignment} → a v ≡ none → Lists how (update a v (some w)) vs K bs → Lists how a (v ∷ vs) (λ b. Has v w b × K b) bs
+      → {bs : List Assignment} → a v ≡ None → Lists how (update a v (Some w)) vs K bs → Lists how a (v ∷ vs) (λ b. Has v w b × K b) bs
   bind_best {how} a v w vs K c g e h =
       best_map (λ b s. record {
         extends = extends_unbind l a b vs v w e g s.extends;
@@ -239,12 +239,12 @@ module _ (l : Language) where
         meets = ((w, extends_bound l a b vs v w s.extends, same_terms_holds l.classes w), s.meets);
       })
       (λ b s. let i = one_set b v w s.meets.0 in
-      let j : CountAsOne l b (update b v (some w)) = λ u. one_sym l (update b v (some w) u) (b u) (i u) in (
-        update b v (some w),
+      let j : CountAsOne l b (update b v (Some w)) = λ u. one_sym l (update b v (Some w) u) (b u) (i u) in (
+        update b v (Some w),
         record {
           extends = extends_set l a b vs v w s.extends;
-          permitted = permitted_one how b (update b v (some w)) j s.permitted;
-          meets = c b (update b v (some w)) j s.meets.1;
+          permitted = permitted_one how b (update b v (Some w)) j s.permitted;
+          meets = c b (update b v (Some w)) j s.meets.1;
         },
         i,
       ))
@@ -252,7 +252,7 @@ module _ (l : Language) where
 
   -- a variable that is assigned, to the sequence
   kept_best : {how : ℕ → Tries} (a : Assignment) (v : ℕ) (x w : Terms) (vs : List ℕ) (K : Assignment → Type 0) {bs : List Assignment}
-      → a v ≡ some x → l ⊢ x ≋ w → Lists how a vs K bs → Lists how a (v ∷ vs) (λ b. Has v w b × K b) bs
+      → a v ≡ Some x → l ⊢ x ≋ w → Lists how a vs K bs → Lists how a (v ∷ vs) (λ b. Has v w b × K b) bs
   kept_best a v x w vs K e i h =
       best_map (λ b s. record { extends = extends_add l a b vs v x e s.extends; permitted = s.permitted; meets = ((x, extends_at l a b vs v x e s.extends, i), s.meets) })
       (λ b s. itself b (record { extends = extends_drop l a b vs v x e s.extends; permitted = s.permitted; meets = s.meets.1 }))
@@ -262,8 +262,8 @@ module _ (l : Language) where
   module _ (how : ℕ → Tries) (e : Env) (v at : ℕ) (w : Terms) (g : TermsOf l w) (k : Continuation) (vs : List ℕ) (K : Assignment → Type 0) (r : Respects K) (x : Leads how k vs K)
       (put : List Deferred) (C : Assignment → Type 0) (ok : Permitted how e.value) (may : Permits (how v) (count w)) (c : Respects C)
       (p : PutBy put C) where
-    name_kept : (y : Terms) (m : Bool) → same_terms l.classes y w ≡ m → e.value v ≡ some y
-        → Best how e.value (v ∷ vs) (λ b. Has v w b × (K b × C b)) (if_some (cond m (some e) none) (λ f. k f put)).out
+    name_kept : (y : Terms) (m : Bool) → same_terms l.classes y w ≡ m → e.value v ≡ Some y
+        → Best how e.value (v ∷ vs) (λ b. Has v w b × (K b × C b)) (if_some (cond m (Some e) None) (λ f. k f put)).out
     name_kept y true h q = kept_best e.value v y w vs (λ b. K b × C b) q h (x e put C ok c p)
     name_kept y false h q =
         no_candidate (λ b s. false≢true (sym h ∙ subst (λ (z : Terms). l ⊢ z ≋ w)
@@ -271,16 +271,16 @@ module _ (l : Language) where
 
     name_best : (o : Option Terms) → e.value v ≡ o
         → Best how e.value (v ∷ vs) (λ b. Has v w b × (K b × C b)) (if_some (same_or l.classes o w e (bind e v at w)) (λ f. k f put)).out
-    name_best none q = bind_best e.value v w vs (λ b. K b × C b) (λ b d i y. (r b d i y.0, c b d i y.1)) g q (x (bind e v at w) put C (permitted_bind how e.value v w ok may) c p)
-    name_best (some y) q = name_kept y (same_terms l.classes y w) refl q
+    name_best None q = bind_best e.value v w vs (λ b. K b × C b) (λ b d i y. (r b d i y.0, c b d i y.1)) g q (x (bind e v at w) put C (permitted_bind how e.value v w ok may) c p)
+    name_best (Some y) q = name_kept y (same_terms l.classes y w) refl q
 
   -- the lengths of a run name that is not assigned
-  module _ (how : ℕ → Tries) (a : Assignment) (v : ℕ) (q : a v ≡ none) (vs : List ℕ) (f : Terms → Terms → Result) (R : Terms → Assignment → Type 0)
+  module _ (how : ℕ → Tries) (a : Assignment) (v : ℕ) (q : a v ≡ None) (vs : List ℕ) (f : Terms → Terms → Result) (R : Terms → Assignment → Type 0)
       (c : (us : Terms) → Respects (R us))
-      (h : (w us : Terms) → Permits (how v) (count w) → TermsOf l us → Best how (update a v (some w)) vs (R us) (f w us).out) where
+      (h : (w us : Terms) → Permits (how v) (count w) → TermsOf l us → Best how (update a v (Some w)) vs (R us) (f w us).out) where
     -- what is taken goes on from w, and what is left of ts behind it meets R
     abbrev Splits : Terms → Terms → Assignment → Type 0
-    Splits w ts b = (y : Terms) × (x : Terms) × (us : Terms) × (b v ≡ some y) × (l ⊢ y ≋ w ⧺ x) × (ts ≡ x ⧺ us) × R us b
+    Splits w ts b = (y : Terms) × (x : Terms) × (us : Terms) × (b v ≡ Some y) × (l ⊢ y ≋ w ⧺ x) × (ts ≡ x ⧺ us) × R us b
 
     splits_nil : (w : Terms) (b : Assignment) → Splits w nil b → Has v w b × R nil b
     splits_nil w b s = go s.1 s.2 s.4 s.5 s.6
@@ -379,21 +379,21 @@ module _ (l : Language) where
   inside q t e failed h = λ b x y. (h.complete b (record { extends = x; permitted = λ v w i. tt; meets = ((y, tt), tt) })).1
 
   -- a run name that is assigned already
-  module _ (how : ℕ → Tries) (a : Assignment) (v : ℕ) (w ts : Terms) (g : TermsOf l ts) (q : a v ≡ some w) (vs : List ℕ) (f : Terms → Result)
+  module _ (how : ℕ → Tries) (a : Assignment) (v : ℕ) (w ts : Terms) (g : TermsOf l ts) (q : a v ≡ Some w) (vs : List ℕ) (f : Terms → Result)
       (R : Terms → Assignment → Type 0) (h : (us : Terms) → TermsOf l us → Best how a vs (R us) (f us).out) where
     abbrev Fits : Assignment → Type 0
-    Fits b = (y : Terms) × (x : Terms) × (us : Terms) × (b v ≡ some y) × (l ⊢ y ≋ x) × (ts ≡ x ⧺ us) × R us b
+    Fits b = (y : Terms) × (x : Terms) × (us : Terms) × (b v ≡ Some y) × (l ⊢ y ≋ x) × (ts ≡ x ⧺ us) × R us b
 
     -- the run is what is assigned, and so is what is left behind it
-    fits_behind : (b : Assignment) → Extends (TermsOf l) a (v ∷ vs) b → (s : Fits b) → behind l.classes w ts ≡ some s.2
+    fits_behind : (b : Assignment) → Extends (TermsOf l) a (v ∷ vs) b → (s : Fits b) → behind l.classes w ts ≡ Some s.2
     fits_behind b x s =
         let i : s.0 ≡ w = some_same (sym s.3 ∙ extends_at l a b (v ∷ vs) v w q x) in
-        subst (λ (y : Terms). behind l.classes w y ≡ some s.2) (sym s.5)
+        subst (λ (y : Terms). behind l.classes w y ≡ Some s.2) (sym s.5)
         (alike_behind l.classes w s.1 s.2 (subst (λ (y : Terms). l ⊢ y ≋ s.1) i s.4))
 
     kept_run : (o : Option Terms) → behind l.classes w ts ≡ o → Best how a (v ∷ vs) Fits (if_some o f).out
-    kept_run none r = no_candidate (λ b s. none_some (sym r ∙ fits_behind b s.extends s.meets))
-    kept_run (some us) r =
+    kept_run None r = no_candidate (λ b s. none_some (sym r ∙ fits_behind b s.extends s.meets))
+    kept_run (Some us) r =
         let i = behind_alike l.classes w ts us r in
         best_map (λ b s. record { extends = s.extends; permitted = s.permitted; meets = (s.meets.0.0, i.0, us, s.meets.0.1, run_trans l s.meets.0.0 w i.0 s.meets.0.2 i.2, i.1, s.meets.1) })
         (λ b s. itself b (record {
@@ -409,12 +409,12 @@ module _ (l : Language) where
 
   run_best : (how : ℕ → Tries) (e : Env) (v : ℕ) (ts : Terms) → TermsOf l ts → (vs : List ℕ) (R : Terms → Assignment → Type 0)
       → ((us : Terms) → Respects (R us)) → (f k : Terms → Terms → Result)
-      → ((w us : Terms) → Permits (how v) (count w) → TermsOf l us → Best how (update e.value v (some w)) vs (R us) (f w us).out)
+      → ((w us : Terms) → Permits (how v) (count w) → TermsOf l us → Best how (update e.value v (Some w)) vs (R us) (f w us).out)
       → ((w us : Terms) → TermsOf l us → Best how e.value vs (R us) (k w us).out) → (o : Option Terms) → e.value v ≡ o
-      → Best how e.value (v ∷ vs) (λ b. (w : Terms) × (x : Terms) × (us : Terms) × (b v ≡ some w) × (l ⊢ w ≋ x) × (ts ≡ x ⧺ us) × R us b)
+      → Best how e.value (v ∷ vs) (λ b. (w : Terms) × (x : Terms) × (us : Terms) × (b v ≡ Some w) × (l ⊢ w ≋ x) × (ts ≡ x ⧺ us) × R us b)
       (try_run l.classes o (how v) ts f k).out
-  run_best how e v ts g vs R c f k hf hk none q = fresh_best how e.value v q vs f R c hf ts g (how v) refl
-  run_best how e v ts g vs R c f k hf hk (some w) q = kept_run how e.value v w ts g q vs (k w) R (hk w) (behind l.classes w ts) refl
+  run_best how e v ts g vs R c f k hf hk None q = fresh_best how e.value v q vs f R c hf ts g (how v) refl
+  run_best how e v ts g vs R c f k hf hk (Some w) q = kept_run how e.value v w ts g q vs (k w) R (hk w) (behind l.classes w ts) refl
 
   sym_best : {how : ℕ → Tries} (s r : ℕ) (a : Assignment) (vs : List ℕ) (R : Assignment → Type 0) (f : Unit {0} → Result) → Best how a vs R (f tt).out
       → (m : Bool) → eqb s r ≡ m → Best how a vs (λ b. (s ≡ r) × R b) (if_true m f).out
@@ -427,7 +427,7 @@ module _ (l : Language) where
     search_leads : (how : ℕ → Tries) (q : Pattern) → NamesMay how q → (t : Term) → TermOf l t → (at : ℕ) (k : Continuation) (vs : List ℕ) (K : Assignment → Type 0) → Respects K → Leads how k vs K
         → Leads how (λ e put. search l.table l.classes how q t at e put k) (vars q vs) (λ b. Holds l (TermsOf l) q b t × K b)
     search_leads how (name v) may t g at k vs K r x e put C ok c p =
-        best_iff (λ b y. let u = single_open l y.0.0 t y.0.2 in (((u.0, y.0.1 ∙ ap some u.1, u.2), y.1.0), y.1.1))
+        best_iff (λ b y. let u = single_open l y.0.0 t y.0.2 in (((u.0, y.0.1 ∙ ap Some u.1, u.2), y.1.0), y.1.1))
         (λ b y. ((single y.0.0.0, y.0.0.1, single_same l y.0.0.0 t y.0.0.2), (y.0.1, y.1)))
         (name_best how e v at (single t) (g, tt) k vs K r x put C ok may c p (e.value v) refl)
     search_leads how (symbol s qs) may (node n ts) g at k vs K r x e put C ok c p =

@@ -4,7 +4,6 @@ use mathlib.Core.Path.{◌≡◌, refl, sym, ap, subst}
 use mathlib.Core.List.{List, [], ◌∷◌, ◌++◌}
 use mathlib.Core.Bool.{Bool, true, false, cond, true≢false}
 use mathlib.Core.Logic.{inl, inr, ◌↔◌}
-use mathlib.Core.Option.{Option, none, some}
 use native.Mathlib.Omega.{arith}
 use lib.Dec.{eqb, ltb}
 use lib.ListN.{length}
@@ -28,6 +27,7 @@ use Rattle.anti_pattern.proofs.Allowance.{answer_within}
 use Rattle.anti_pattern.proofs.Following.{cond_false}
 use Rattle.anti_pattern.proofs.Metering.{leb_false}
 use Rattle.anti_pattern.proofs.Published.{no_runs_holds}
+use Rattle.std.specs.Prelude.{Option, Some, None}
 
 -- no answer follows the first
 abbrev Once : Answers → Type 0
@@ -52,8 +52,8 @@ if_true_within true f a = a
 if_true_within false f {n} a = fail_within n
 
 if_some_within : (o : Option Env) (f : Env → Result) {n : ℕ} → ((e : Env) → AtMost n (f e)) → AtMost n (if_some o f)
-if_some_within none f {n} a = fail_within n
-if_some_within (some e) f a = a e
+if_some_within None f {n} a = fail_within n
+if_some_within (Some e) f a = a e
 
 refuted_within : (o : Answers) (c m n l : ℕ) (f : Unit {0} → Result) → c ≤ m → AtMost n (f tt) → m + n ≤ l → AtMost l (refuted o c f)
 refuted_within (found e k o) c m n l f h a i = record { cost_within = omega (arith, h, i); once = tt }

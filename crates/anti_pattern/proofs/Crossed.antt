@@ -8,7 +8,6 @@ use native.Mathlib.Omega.{arith}
 use native.Mathlib.Decide.{ℕ_discrete}
 use lib.Dec.{eqb}
 use Rattle.term.specs.Term.{Term, term_tree}
-use Rattle.term.specs.declared.Stand.TheVariants.{Elsewhere}
 use Rattle.term.proofs.Splicing.{one_spliced}
 use Rattle.anti_pattern.specs.Rides.{table, opened, shut, gate, row}
 use Rattle.anti_pattern.specs.AntiTerm.{Anti, var, neg, app, ε, ◌▸◌, Occurs}
@@ -16,6 +15,7 @@ use Rattle.anti_pattern.specs.Ground.{Way, bare, take, Semantics}
 use Rattle.anti_pattern.specs.Language.{Language, simple, TermOf}
 use Rattle.term.proofs.SameParts.{term_equal}
 use Rattle.anti_pattern.proofs.Taken.{outermost?, occurs?}
+use Rattle.std.specs.Prelude.{None}
 
 abbrev gateᵃ : Anti ℕ → Anti ℕ
 gateᵃ q = app 3 (q ▸ ε)
@@ -76,13 +76,13 @@ abbrev pub ride_language : Language
 ride_language = simple table
 
 open_of : TermOf ride_language opened
-open_of = ((omega arith, λ e. refl, tt), one_spliced table [] Elsewhere (term_tree opened))
+open_of = ((omega arith, λ e. refl, tt), one_spliced table [] None (term_tree opened))
 
 shut_of : TermOf ride_language shut
-shut_of = ((omega arith, λ e. refl, tt), one_spliced table [] Elsewhere (term_tree shut))
+shut_of = ((omega arith, λ e. refl, tt), one_spliced table [] None (term_tree shut))
 
 gate_of : (t : Term) → TermOf ride_language t → TermOf ride_language (gate t)
-gate_of t g = ((omega arith, λ e. refl, (g.0, tt)), one_spliced table [] Elsewhere (term_tree (gate t)))
+gate_of t g = ((omega arith, λ e. refl, (g.0, tt)), one_spliced table [] None (term_tree (gate t)))
 
 -- values for the variables 0, 1 and 2
 abbrev values : Term → Term → Term → ℕ → Term

@@ -4,7 +4,6 @@ use Prim.Native.Nat.{ℕ, ◌<◌}
 use mathlib.Core.Path.{◌≡◌, refl, ap, subst, fun_ext}
 use mathlib.Core.List.{List, []}
 use mathlib.Core.Bool.{true}
-use mathlib.Core.Option.{Option, none, some}
 use Rattle.term.specs.Class.{Alike, class_of}
 use Rattle.term.specs.Code.{variables}
 use Rattle.term.specs.Pattern.{Pattern}
@@ -31,6 +30,7 @@ use Rattle.anti_pattern.proofs.Following.{next_exact as next_told, every_answer 
 use Rattle.anti_pattern.proofs.Placed.{free_placed, others_absent, shown_at_first_place}
 use Rattle.anti_pattern.proofs.Published.{published_agrees as published}
 use Rattle.anti_pattern.proofs.Renamed.{any_way, some_way, no_clash}
+use Rattle.std.specs.Prelude.{Option, Some, None}
 
 module _ (l : Language) (k : Alike l.table l.classes) (q : Pattern) (t : Term) (g : TermOf l t) where
   pub search_decides : SearchDecides l q t
@@ -96,10 +96,10 @@ single_classes l single = record {
 }
   where
     go : (o p : Option Terms) → OneAt l o p → o ≡ p
-    go none none h = refl
-    go none (some x) h = absurd h
-    go (some w) none h = absurd h
-    go (some w) (some x) h = ap some (terms_equal l.classes single w x h)
+    go None None h = refl
+    go None (Some x) h = absurd h
+    go (Some w) None h = absurd h
+    go (Some w) (Some x) h = ap Some (terms_equal l.classes single w x h)
 
 pub no_classes : (edition : Edition) (table : List ℕ) → SingleClasses (language edition table [])
 no_classes edition table = single_classes (language edition table []) (λ s. refl)

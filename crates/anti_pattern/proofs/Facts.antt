@@ -3,7 +3,6 @@ use Prim.Native.Nat.{ℕ, suc, ◌+◌, ◌≤◌}
 use mathlib.Core.Path.{◌≡◌, refl, sym, ◌∙◌, ap, subst}
 use mathlib.Core.Bool.{Bool, true, false, cond, false≢true, not-eq-not}
 use mathlib.Core.List.{List}
-use mathlib.Core.Option.{none, some}
 use native.Mathlib.Omega.{arith}
 use native.Mathlib.Nat.{zero-add, suc-add}
 use lib.Dec.{eqb}
@@ -12,6 +11,7 @@ use Rattle.term.specs.Same.{same_term, same_terms}
 use Rattle.term.specs.Term.{Term, Terms, nil, ◌::◌, ◌⧺◌, count, single}
 use Rattle.term.proofs.SameParts.{and_true, same_counts}
 use Rattle.anti_pattern.specs.Search.{behind}
+use Rattle.std.specs.Prelude.{Some, None}
 
 pub eqb_same : (n : ℕ) → eqb n n ≡ true
 eqb_same n = eq-eqb n n refl
@@ -50,28 +50,28 @@ tail_same h = cc
 pub nil_cons : {t : Term} {ts : Terms} → nil ≡ t :: ts → ⊥
 nil_cons h = let z : ◌≡◌ {A = ℕ} 0 1 = cc in omega arith
 
-pub none_some : {w : Terms} → none ≡ some w → ⊥
+pub none_some : {w : Terms} → None ≡ Some w → ⊥
 none_some h = let z : ◌≡◌ {A = ℕ} 0 1 = cc in omega arith
 
-pub some_same : {x y : Terms} → some x ≡ some y → x ≡ y
+pub some_same : {x y : Terms} → Some x ≡ Some y → x ≡ y
 some_same h = cc
 
 -- what is left behind a run, up to class
 
 module _ (classes : List ℕ) where
-  pub behind_alike : (w ts us : Terms) → behind classes w ts ≡ some us → (x : Terms) × (ts ≡ x ⧺ us) × (same_terms classes w x ≡ true)
+  pub behind_alike : (w ts us : Terms) → behind classes w ts ≡ Some us → (x : Terms) × (ts ≡ x ⧺ us) × (same_terms classes w x ≡ true)
   unfolding behind
   behind_alike nil ts us h = (nil, cc, refl)
   behind_alike (x :: w) nil us h = absurd (none_some h)
   behind_alike (x :: w) (t :: ts) us h = go (same_term classes x t) refl h (behind_alike w ts us)
     where
-      go : (m : Bool) → same_term classes x t ≡ m → cond m (behind classes w ts) none ≡ some us
-          → (behind classes w ts ≡ some us → (y : Terms) × (ts ≡ y ⧺ us) × (same_terms classes w y ≡ true))
+      go : (m : Bool) → same_term classes x t ≡ m → cond m (behind classes w ts) None ≡ Some us
+          → (behind classes w ts ≡ Some us → (y : Terms) × (ts ≡ y ⧺ us) × (same_terms classes w y ≡ true))
           → (y : Terms) × (t :: ts ≡ y ⧺ us) × (same_terms classes (x :: w) y ≡ true)
       go true e h r = let s = r h in (t :: s.0, ap (t ::◌) s.1, rw e s.2)
       go false e h r = absurd (none_some h)
 
-  pub alike_behind : (w x us : Terms) → same_terms classes w x ≡ true → behind classes w (x ⧺ us) ≡ some us
+  pub alike_behind : (w x us : Terms) → same_terms classes w x ≡ true → behind classes w (x ⧺ us) ≡ Some us
   unfolding behind
   alike_behind nil nil us h = refl
   alike_behind nil (y :: x) us h = absurd (false≢true h)
@@ -82,12 +82,12 @@ module _ (classes : List ℕ) where
   -- one element against the next
 
   module _ (w : Terms) (t : Term) (ts : Terms) where
-    pub one_behind : (us : Terms) → count w ≡ 1 → behind classes w (t :: ts) ≡ some us → (same_terms classes w (single t) ≡ true) × (ts ≡ us)
+    pub one_behind : (us : Terms) → count w ≡ 1 → behind classes w (t :: ts) ≡ Some us → (same_terms classes w (single t) ≡ true) × (ts ≡ us)
     one_behind us h b =
         let s = behind_alike w (t :: ts) us b in
         let o = one_term s.0 (sym (same_counts classes w s.0 s.2) ∙ h) in
         let z : t :: ts ≡ o.0 :: us = s.1 ∙ ap (λ (x : Terms). x ⧺ us) o.1 in
         (subst (λ (x : Terms). same_terms classes w x ≡ true) (o.1 ∙ ap single (sym (head_same z))) s.2, tail_same z)
 
-    pub none_behind : behind classes w (t :: ts) ≡ none → same_terms classes w (single t) ≡ false
+    pub none_behind : behind classes w (t :: ts) ≡ None → same_terms classes w (single t) ≡ false
     none_behind b = (not-eq-not {b = false}).0 (λ e. none_some (sym b ∙ alike_behind w (single t) ts e))

@@ -4,7 +4,6 @@ use mathlib.Core.Path.{◌≡◌, refl, sym, ◌∙◌, ap, ap₂, subst}
 use mathlib.Core.Logic.{◌⊎◌, inl, inr}
 use mathlib.Core.List.{List, [], ◌∷◌, map}
 use mathlib.Core.Bool.{Bool, true, false, cond}
-use mathlib.Core.Option.{Option, none, some}
 use native.Mathlib.Omega.{arith}
 use lib.Dec.{eqb}
 use Rattle.term.specs.Pattern.{Pattern, name, symbol, complement, Children, end, plain, run}
@@ -21,6 +20,7 @@ use Rattle.term.proofs.SameParts.{same_counts}
 use Rattle.anti_pattern.proofs.Alike.{single_same, some_one, term_sym, term_trans, run_sym, run_trans, one_refl, one_sym, one_length}
 use Rattle.anti_pattern.proofs.Facts.{head_same, tail_same, none_some}
 use Rattle.anti_pattern.proofs.Listed.{all_map, all_member, ascending_map}
+use Rattle.std.specs.Prelude.{Option, Some, None}
 
 before_without : (v : ℕ) (vs : List ℕ) (a b : Assignment) → length_of (a v) ≡ length_of (b v) → Before vs a b → Before (without v vs) a b
 before_without v [] a b e p = p
@@ -81,10 +81,10 @@ smaller_once (x ∷ xs) (y ∷ ys) (inl h) (inr k) = omega (arith, k.0)
 smaller_once (x ∷ xs) (y ∷ ys) (inr h) (inl k) = omega (arith, h.0)
 smaller_once (x ∷ xs) (y ∷ ys) (inr h) (inr k) = smaller_once xs ys h.1 k.1
 
-pub some_is : {A : Type 0} {x y : A} → some x ≡ some y → x ≡ y
+pub some_is : {A : Type 0} {x y : A} → Some x ≡ Some y → x ≡ y
 some_is h = cc
 
-pub none_is : {A : Type 0} {x : A} → none ≡ some x → ⊥
+pub none_is : {A : Type 0} {x : A} → None ≡ Some x → ⊥
 none_is h = let z : ◌≡◌ {A = ℕ} 0 1 = cc in omega arith
 
 module _ (l : Language) where
@@ -175,17 +175,17 @@ module _ (l : Language) where
         go (f ∷ es) s (inl p) = subst (λ (y : Env). Satisfies l q t y.value) p s.0
         go (f ∷ es) s (inr m) = go es s.1 m
 
-    pub found_first : (e : Env) → first_answer (whole l q t).out ≡ some e → First l q t e.value
+    pub found_first : (e : Env) → first_answer (whole l q t).out ≡ Some e → First l q t e.value
     found_first e h = go (whole l q t).out h enumerates
       where
-        go : (o : Answers) → first_answer o ≡ some e → Enumerates l q t (values o) → First l q t e.value
+        go : (o : Answers) → first_answer o ≡ Some e → Enumerates l q t (values o) → First l q t e.value
         go (found f m o) h x = subst (λ (y : Env). First l q t y.value) (some_is h) (enumerates_first q t f.value (values o) x)
         go failed h x = absurd (none_is h)
 
-    pub failed_none : first_answer (whole l q t).out ≡ none → Unsatisfied l q t
+    pub failed_none : first_answer (whole l q t).out ≡ None → Unsatisfied l q t
     failed_none h = go (whole l q t).out h enumerates
       where
-        go : (o : Answers) → first_answer o ≡ none → Enumerates l q t (values o) → Unsatisfied l q t
+        go : (o : Answers) → first_answer o ≡ None → Enumerates l q t (values o) → Unsatisfied l q t
         go (found f m o) h x = absurd (none_is (sym h))
         go failed h x = enumerates_none q t x
 
@@ -220,12 +220,12 @@ module _ (l : Language) where
           agree_all qs a b k.2 vs ws (subst (λ (y : Terms). HoldAll l (TermsOf l) qs a y) r.1 h.6) k.6 f s.1,
         )
 
-  agree_at : (vs : List ℕ) (a b : Assignment) (i : ℕ) → Agree vs a b → ExtendsAt (TermsOf l) none (among i vs) (a i) → ExtendsAt (TermsOf l) none (among i vs) (b i) → OneAt l (a i) (b i)
+  agree_at : (vs : List ℕ) (a b : Assignment) (i : ℕ) → Agree vs a b → ExtendsAt (TermsOf l) None (among i vs) (a i) → ExtendsAt (TermsOf l) None (among i vs) (b i) → OneAt l (a i) (b i)
   agree_at [] a b i g x y = subst (λ (o : Option Terms). OneAt l (a i) o) (x ∙ sym y) (one_refl l (a i))
   agree_at (v ∷ vs) a b i g x y = go (eqb v i) refl x y (agree_at vs a b i g.1)
     where
-      go : (m : Bool) → eqb v i ≡ m → ExtendsAt (TermsOf l) none (cond m true (among i vs)) (a i) → ExtendsAt (TermsOf l) none (cond m true (among i vs)) (b i)
-          → (ExtendsAt (TermsOf l) none (among i vs) (a i) → ExtendsAt (TermsOf l) none (among i vs) (b i) → OneAt l (a i) (b i)) → OneAt l (a i) (b i)
+      go : (m : Bool) → eqb v i ≡ m → ExtendsAt (TermsOf l) None (cond m true (among i vs)) (a i) → ExtendsAt (TermsOf l) None (cond m true (among i vs)) (b i)
+          → (ExtendsAt (TermsOf l) None (among i vs) (a i) → ExtendsAt (TermsOf l) None (among i vs) (b i) → OneAt l (a i) (b i)) → OneAt l (a i) (b i)
       go true h x y f = subst (λ (j : ℕ). OneAt l (a j) (b j)) (eqb-true v i h) g.0
       go false h x y f = f x y
 

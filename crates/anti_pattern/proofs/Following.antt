@@ -4,7 +4,6 @@ use mathlib.Core.Path.{◌≡◌, refl, sym, ◌∙◌, ap, ap₂, subst}
 use mathlib.Core.Logic.{◌⊎◌, inl, inr}
 use mathlib.Core.List.{List, [], ◌∷◌, ◌++◌, map}
 use mathlib.Core.Bool.{Bool, true, false, cond, ◌&&◌, false≢true}
-use mathlib.Core.Option.{Option, none, some}
 use native.Mathlib.Omega.{arith}
 use lib.ListN.{length, get_or}
 use lib.Dec.{eqb, ltb}
@@ -33,6 +32,7 @@ use Rattle.anti_pattern.proofs.Placed.{AnswerIn, free_placed, shown_at_first_pla
 use Rattle.anti_pattern.proofs.Alike.{one_sym}
 use Rattle.anti_pattern.proofs.Answers.{none_exactly, bound_exactly}
 use Rattle.anti_pattern.proofs.Each.{each_at}
+use Rattle.std.specs.Prelude.{Option, Some, None}
 
 -- equal lists of numbers
 
@@ -211,11 +211,11 @@ mutual
 
 -- a free run name is assigned
 pub run_assigned : (l : Language) (q : Pattern) (t : Term) (a : Assignment) → Satisfies l q t a → (v : ℕ) → among v (free_runs q) ≡ true
-    → (w : Terms) × (a v ≡ some w)
+    → (w : Terms) × (a v ≡ Some w)
 unfolding Extends
 run_assigned l q t a s v h =
     let m : among v (free q) ≡ true = within_runs q [] [] (λ i k. k) v (within_firsts (runs q []) v h) in
-    let w = subst (λ (c : Bool). ExtendsAt (TermsOf l) none c (a v)) m (s.exact v) in (w.0, w.2)
+    let w = subst (λ (c : Bool). ExtendsAt (TermsOf l) None c (a v)) m (s.exact v) in (w.0, w.2)
 
 given_outside : (vs ns : List ℕ) (v : ℕ) → among v vs ≡ false → given_to vs ns v ≡ every
 given_outside [] ns v h = refl
@@ -250,8 +250,8 @@ lengths_permit (v ∷ vs) (n ∷ ns) a e u w h = go (eqb v u) refl (lengths_perm
     go false q r = r
 
 permit_lengths : (vs ns : List ℕ) (a : Assignment) → length ns ≡ length vs → Distinct vs
-    → ((v : ℕ) → among v vs ≡ true → (w : Terms) × (a v ≡ some w))
-    → ((v : ℕ) (w : Terms) → among v vs ≡ true → a v ≡ some w → Permits (given_to vs ns v) (count w)) → map (λ v. length_of (a v)) vs ≡ ns
+    → ((v : ℕ) → among v vs ≡ true → (w : Terms) × (a v ≡ Some w))
+    → ((v : ℕ) (w : Terms) → among v vs ≡ true → a v ≡ Some w → Permits (given_to vs ns v) (count w)) → map (λ v. length_of (a v)) vs ≡ ns
 permit_lengths [] [] a fit d s p = refl
 permit_lengths [] (n ∷ ns) a fit d s p = absurd (omega (arith, fit))
 permit_lengths (v ∷ vs) [] a fit d s p = absurd (omega (arith, fit))
@@ -358,19 +358,19 @@ module _ (l : Language) (q : Pattern) (t : Term) (of : TermOf l t) (given : List
           (λ f k. subst (λ (es : List Env). Member f es) (sym p) (member_right xs (e ∷ answers r.out) f (inr k)))
 
   -- and the first of these is the next
-  pub resumed_next : (e : Env) → first_answer (resumed_after l q t given).out ≡ some e
+  pub resumed_next : (e : Env) → first_answer (resumed_after l q t given).out ≡ Some e
       → (a : Assignment) × Given l q t given a × NextAfter l q t a e.value × AnswerIn (whole l q t).out e
   resumed_next e h = go resumed_after_holds h
     where
       first : (xs : List Assignment) (a : Assignment) → Given l q t given a → (o : Answers) → Enumerates l q t (xs ++ (a ∷ values o))
-          → ((f : Env) → AnswerIn o f → AnswerIn (whole l q t).out f) → first_answer o ≡ some e
+          → ((f : Env) → AnswerIn o f → AnswerIn (whole l q t).out f) → first_answer o ≡ Some e
           → (a : Assignment) × Given l q t given a × NextAfter l q t a e.value × AnswerIn (whole l q t).out e
       first xs a g (found f n o) x k h =
           subst (λ (y : Env). (a : Assignment) × Given l q t given a × NextAfter l q t a y.value × AnswerIn (whole l q t).out y) (some_is h)
           (a, g, next_of l q t xs a f.value (values o) x, k f (inl refl))
       first xs a g failed x k h = absurd (none_is h)
 
-      go : {r : Result} → After r → first_answer r.out ≡ some e
+      go : {r : Result} → After r → first_answer r.out ≡ Some e
           → (a : Assignment) × Given l q t given a × NextAfter l q t a e.value × AnswerIn (whole l q t).out e
       go (unmeant u) h = absurd (none_is h)
       go {r} (meant xs a g x k) h = first xs a g r.out x k h
@@ -443,8 +443,8 @@ module _ (l : Language) (k : Alike l.table l.classes) (q : Pattern) (t : Term) (
     abbrev Spent : ℕ → Type 0
     Spent m = (m ≡ n) × OneForEach q given × (n < next_count l q t given)
 
-    abbrev None : ℕ → Type 0
-    None m = (m ≡ next_count l q t given) × (next_count l q t given ≤ n) × ((a : Assignment) × Given l q t given a × Last l q t a)
+    abbrev Missed : ℕ → Type 0
+    Missed m = (m ≡ next_count l q t given) × (next_count l q t given ≤ n) × ((a : Assignment) × Given l q t given a × Last l q t a)
 
     abbrev Bound : List Part → ℕ → Type 0
     Bound ps m = (m ≡ next_count l q t given) × (next_count l q t given ≤ n)
@@ -457,7 +457,7 @@ module _ (l : Language) (k : Alike l.table l.classes) (q : Pattern) (t : Term) (
     spent_there : {m : ℕ} → Followed n (follows (spent m)) → Spent m
     spent_there (is_spent each fit) = (refl, each, fit)
 
-    none_there : {m : ℕ} → Followed n (follows (nothing m)) → None m
+    none_there : {m : ℕ} → Followed n (follows (nothing m)) → Missed m
     none_there (is_last each fit a g h) = (refl, fit, (a, g, h))
 
     bound_there : {ps : List Part} {m : ℕ} → Followed n (follows (bound ps m)) → Bound ps m
@@ -485,7 +485,7 @@ module _ (l : Language) (k : Alike l.table l.classes) (q : Pattern) (t : Term) (
     not_both a b c g h fit x =
         fit c x.satisfies (one_smaller l q b a c (one_given l q t given b a h g) x.later)
 
-    none_back : (m : ℕ) → None m → {x : Following} → Followed n x → x ≡ follows (nothing m)
+    none_back : (m : ℕ) → Missed m → {x : Following} → Followed n x → x ≡ follows (nothing m)
     none_back m s (is_uneven u) = absurd (u (one_for_each_holds l q t given s.2.0 s.2.1))
     none_back m s (is_unknown each fit k u) = absurd (u s.2.0 s.2.1)
     none_back m s (is_spent each fit) = absurd (omega (arith, s.1))

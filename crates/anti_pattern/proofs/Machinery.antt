@@ -2,7 +2,6 @@
 use Prim.Native.Nat.{ℕ, zero, ◌+◌}
 use mathlib.Core.Path.{◌≡◌, refl, sym, ◌∙◌, ap}
 use mathlib.Core.List.{List, [], ◌∷◌, ◌++◌, map}
-use mathlib.Core.Option.{Option, none, some}
 use lib.Dec.{eqb}
 use Rattle.term.specs.Pattern.{Pattern, name, symbol, complement, Children, end, plain, run}
 use Rattle.term.specs.Class.{class_of}
@@ -10,6 +9,7 @@ use Rattle.term.specs.Table.{width}
 use Rattle.term.specs.Term.{Term, node, Terms, nil, ◌::◌, single, size, sizes}
 use Rattle.anti_pattern.proofs.Machine.{Frame, Pending, frame, pending, deferred, resume, machine}
 use Rattle.anti_pattern.specs.Search.{Env, bind, counted, fail, answering, if_true, if_some, Deferred, refuted, finish, assign, Tries, freely, try_fresh, behind, try_run, search}
+use Rattle.std.specs.Prelude.{Option, Some, None}
 
 module _ (table classes : List ℕ) (how : ℕ → Tries) where
   -- a level: the whole pattern, or the inside of a complement
@@ -60,7 +60,7 @@ module _ (table classes : List ℕ) (how : ℕ → Tries) where
     unfolding machine search
     machine_run v qs ts = refl
 
-    pub machine_run_fresh : (v : ℕ) (qs : Children) (ts : Terms) → e.value v ≡ none
+    pub machine_run_fresh : (v : ℕ) (qs : Children) (ts : Terms) → e.value v ≡ None
         → machine table classes how (frame (run v qs) ts n ∷ fs) e ds
         ≡ try_fresh (how v) ts (λ w us. machine table classes how (frame qs us (n + sizes table w) ∷ fs) (bind e v n w) ds)
     machine_run_fresh v qs ts h =
@@ -68,7 +68,7 @@ module _ (table classes : List ℕ) (how : ℕ → Tries) where
         ∙ ap (λ (o : Option Terms). try_run classes o (how v) ts (λ w us. machine table classes how (frame qs us (n + sizes table w) ∷ fs) (bind e v n w) ds)
         (λ w us. machine table classes how (frame qs us (n + sizes table w) ∷ fs) e ds)) h
 
-    pub machine_run_assigned : (v : ℕ) (qs : Children) (ts w : Terms) → e.value v ≡ some w
+    pub machine_run_assigned : (v : ℕ) (qs : Children) (ts w : Terms) → e.value v ≡ Some w
         → machine table classes how (frame (run v qs) ts n ∷ fs) e ds
         ≡ counted (if_some (behind classes w ts) (λ us. machine table classes how (frame qs us (n + sizes table w) ∷ fs) e ds))
     machine_run_assigned v qs ts w h =

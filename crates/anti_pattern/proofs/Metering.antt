@@ -2,11 +2,11 @@
 use Prim.Native.Nat.{ℕ, ◌+◌, ◌-◌, ◌<◌, ◌≤◌}
 use mathlib.Core.Path.{◌≡◌, refl, sym, ◌∙◌, ap}
 use mathlib.Core.Bool.{Bool, true, false, not}
-use mathlib.Core.Option.{some}
 use native.Mathlib.Omega.{arith}
 use lib.Dec.{leb, T, leb→le, le→leb, nleb→lt}
 use Rattle.anti_pattern.proofs.Meter.{Metered, met, missed, used_up, metered, meter, then_meter, refute_meter}
 use Rattle.anti_pattern.specs.Search.{Env, Answers, found, failed, first_answer, Result, plus, counted, fail, after, refuted}
+use Rattle.std.specs.Prelude.{Some}
 
 pub leb_true : (a b : ℕ) → a ≤ b → leb a b ≡ true
 leb_true a b h = go (leb a b) (le→leb a b h)
@@ -82,6 +82,6 @@ meter_refuted n (found e m o) c f =
 meter_refuted n failed c f = meter_through n c failed (refuted failed c f) (λ m. refute_meter m f) refl (omega arith) (meter_plus n c (f tt))
 
 -- what is found first, and nothing of what the search resumed after it comes to
-pub metered_first : (o : Answers) (e : Env) (n : ℕ) → first_answer o ≡ some e → metered true o n ≡ met e n
+pub metered_first : (o : Answers) (e : Env) (n : ℕ) → first_answer o ≡ Some e → metered true o n ≡ met e n
 metered_first (found f m o) e n h = ap (λ (g : Env). met g n) cc
 metered_first failed e n h = let z : ◌≡◌ {A = ℕ} 0 1 = cc in absurd (omega arith)

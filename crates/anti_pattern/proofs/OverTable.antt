@@ -5,7 +5,6 @@ use mathlib.Core.Path.{◌≡◌, refl, sym, ◌∙◌, ap, ap₂, subst}
 use mathlib.Core.Logic.{inl, inr}
 use mathlib.Core.List.{List, [], ◌∷◌}
 use mathlib.Core.Bool.{Bool, true, false, cond, false≢true}
-use mathlib.Core.Option.{Option, none, some}
 use lib.Dec.{eqb, ltb}
 use lib.ListN.{length}
 use borrow.Author.Tests.{eqb-true, ltb-true, ltb-false}
@@ -17,14 +16,13 @@ use Rattle.term.specs.Term.{Term, node, Terms, nil, ◌::◌, single, term_tree,
 use Rattle.term.specs.declared.Code.TheVariants.{Symbol}
 use Rattle.term.specs.declared.Edition.{Edition}
 use Rattle.term.specs.declared.Edition.TheVariants.{One, Two}
-use Rattle.term.specs.declared.Stand.{Stand}
-use Rattle.term.specs.declared.Stand.TheVariants.{InList, Elsewhere}
 use Rattle.term.proofs.Classes.{class_none, classes_exactly, accepted_alike, none_alike}
 use Rattle.term.proofs.SameParts.{entry_alike, same_counts}
 use Rattle.anti_pattern.specs.Language.{Language, Classed, Over, OverAll, TermOf, TermsOf, ◌⊢◌∼◌, ◌⊢◌≈◌, ◌⊢◌≋◌}
 use Rattle.anti_pattern.specs.Meaning.{Assignment, ExtendsAt, Extends, Holds, HoldAll, SatisfiesOver}
 use Rattle.anti_pattern.specs.Variables.{vars, vars_all, free, among}
 use Rattle.anti_pattern.proofs.Alike.{node_open, cons_open, of_split, children_of_holds}
+use Rattle.std.specs.Prelude.{Option, Some, None}
 
 alike : (l : Language) → Classed l → Alike l.table l.classes
 alike l (inl e) = subst (Alike l.table) (sym e) (none_alike l.table)
@@ -46,32 +44,32 @@ inside l (inr c) s r h k = go (ltb s (length l.table)) refl
 
 -- where the children of nodes of one class stand, lists or not
 
-abbrev StandAlike : Language → Stand → Stand → Type 0
-StandAlike l (InList s) (InList r) = l ⊢ s ∼ r
-StandAlike l (InList s) Elsewhere = ⊥
-StandAlike l Elsewhere (InList r) = ⊥
-StandAlike l Elsewhere Elsewhere = Unit {0}
+abbrev StandAlike : Language → Option ℕ → Option ℕ → Type 0
+StandAlike l (Some s) (Some r) = l ⊢ s ∼ r
+StandAlike l (Some s) None = ⊥
+StandAlike l None (Some r) = ⊥
+StandAlike l None None = Unit {0}
 
 stands_alike : (l : Language) (s r : ℕ) → l ⊢ s ∼ r → is_list l.table s ≡ is_list l.table r
     → StandAlike l (stand_in l.table (Symbol s)) (stand_in l.table (Symbol r))
 stands_alike l s r h e = go (is_list l.table s) (is_list l.table r) e
   where
-    go : (b d : Bool) → b ≡ d → StandAlike l (cond b (InList s) Elsewhere) (cond d (InList r) Elsewhere)
+    go : (b d : Bool) → b ≡ d → StandAlike l (cond b (Some s) None) (cond d (Some r) None)
     go true true e = h
     go true false e = absurd (false≢true (sym e))
     go false true e = absurd (false≢true e)
     go false false e = tt
 
-spliced_alike : (l : Language) (edition : Edition) (x y z w : Stand) → StandAlike l x y → StandAlike l z w
+spliced_alike : (l : Language) (edition : Edition) (x y z w : (Option ℕ)) → StandAlike l x y → StandAlike l z w
     → unspliced edition l.classes x z ≡ unspliced edition l.classes y w
 spliced_alike l One x y z w h k = refl
-spliced_alike l Two (InList s) (InList r) (InList p) (InList q) h k = ap₂ eqb h k
-spliced_alike l Two (InList s) (InList r) (InList p) Elsewhere h k = absurd k
-spliced_alike l Two (InList s) (InList r) Elsewhere (InList q) h k = absurd k
-spliced_alike l Two (InList s) (InList r) Elsewhere Elsewhere h k = refl
-spliced_alike l Two (InList s) Elsewhere z w h k = absurd h
-spliced_alike l Two Elsewhere (InList r) z w h k = absurd h
-spliced_alike l Two Elsewhere Elsewhere z w h k = refl
+spliced_alike l Two (Some s) (Some r) (Some p) (Some q) h k = ap₂ eqb h k
+spliced_alike l Two (Some s) (Some r) (Some p) None h k = absurd k
+spliced_alike l Two (Some s) (Some r) None (Some q) h k = absurd k
+spliced_alike l Two (Some s) (Some r) None None h k = refl
+spliced_alike l Two (Some s) None z w h k = absurd h
+spliced_alike l Two None (Some r) z w h k = absurd h
+spliced_alike l Two None None z w h k = refl
 
 module _ (l : Language) (c : Classed l) where
   mutual
@@ -90,7 +88,7 @@ module _ (l : Language) (c : Classed l) where
     same_all_over (u :: us) (t :: ts) h g = let a = cons_open l u t us ts h in (same_over u t a.0 g.0, same_all_over us ts a.1 g.1)
 
   mutual
-    same_spliced : (x y : Stand) → StandAlike l x y → (u t : Term) → l ⊢ u ≈ t → SplicedAt l y (term_tree t) → SplicedAt l x (term_tree u)
+    same_spliced : (x y : (Option ℕ)) → StandAlike l x y → (u t : Term) → l ⊢ u ≈ t → SplicedAt l y (term_tree t) → SplicedAt l x (term_tree u)
     same_spliced x y k (node s us) (node r ts) h g =
         let a = node_open l s r us ts h in
         let e = entry_alike l.table l.classes (alike l c) s r a.0 in
@@ -99,14 +97,14 @@ module _ (l : Language) (c : Classed l) where
           same_all_spliced (stand_in l.table (Symbol s)) (stand_in l.table (Symbol r)) z us ts a.1 g.1,
         )
 
-    same_all_spliced : (x y : Stand) → StandAlike l x y → (us ts : Terms) → l ⊢ us ≋ ts → SplicedAll l y (term_trees ts) → SplicedAll l x (term_trees us)
+    same_all_spliced : (x y : (Option ℕ)) → StandAlike l x y → (us ts : Terms) → l ⊢ us ≋ ts → SplicedAll l y (term_trees ts) → SplicedAll l x (term_trees us)
     same_all_spliced x y k nil ts h g = tt
     same_all_spliced x y k (u :: us) nil h g = let z = same_counts l.classes (u :: us) nil h in absurd (omega arith)
     same_all_spliced x y k (u :: us) (t :: ts) h g =
         let a = cons_open l u t us ts h in (same_spliced x y k u t a.0 g.0, same_all_spliced x y k us ts a.1 g.1)
 
   pub same_of : (u t : Term) → l ⊢ u ≈ t → TermOf l t → TermOf l u
-  same_of u t h g = (same_over u t h g.0, same_spliced Elsewhere Elsewhere tt u t h g.1)
+  same_of u t h g = (same_over u t h g.0, same_spliced None None tt u t h g.1)
 
   same_all_of : (us ts : Terms) → l ⊢ us ≋ ts → TermsOf l ts → TermsOf l us
   same_all_of nil ts h g = tt
@@ -115,7 +113,7 @@ module _ (l : Language) (c : Classed l) where
 
   -- a variable is assigned terms of the language
   abbrev Of : Assignment → ℕ → Type 0
-  Of a v = (w : Terms) × TermsOf l w × (a v ≡ some w)
+  Of a v = (w : Terms) × TermsOf l w × (a v ≡ Some w)
 
   next : (a : Assignment) (u v : ℕ) (vs : List ℕ) → Of a u → among v (u ∷ vs) ≡ true → (among v vs ≡ true → Of a v) → Of a v
   next a u v vs o m f = go (eqb u v) refl m
@@ -154,9 +152,9 @@ module _ (l : Language) (c : Classed l) where
   extends_over There Here here q a b t g h x v = go (a v) (among v (free q)) (x v) (λ m. holds_of There q b t [] v g h m (λ n. absurd (false≢true n)))
     where
       go : (o : Option Terms) (m : Bool) → ExtendsAt There o m (b v) → (m ≡ true → Of b v) → ExtendsAt Here o m (b v)
-      go (some w) m y f = y
-      go none true y f = let o = f refl in (o.0, here o.0 o.1, o.2)
-      go none false y f = y
+      go (Some w) m y f = y
+      go None true y f = let o = f refl in (o.0, here o.0 o.1, o.2)
+      go None false y f = y
 
   -- the pattern holds over the ones if it does over the others; within a complement the other way round
   mutual

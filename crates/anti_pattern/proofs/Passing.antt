@@ -4,7 +4,6 @@ use mathlib.Core.Path.{◌≡◌, refl, sym, ◌∙◌, ap, ap₂, subst}
 use mathlib.Core.Logic.{◌⊎◌, inl, inr}
 use mathlib.Core.List.{List, [], ◌∷◌, ◌++◌, map}
 use mathlib.Core.Bool.{Bool, true, false, cond, false≢true, not-eq-not}
-use mathlib.Core.Option.{Option, none, some}
 use native.Mathlib.Omega.{arith}
 use lib.ListN.{length}
 use lib.Dec.{eqb, leb, ltb}
@@ -32,6 +31,7 @@ use Rattle.anti_pattern.proofs.Machinery.{machine_level, machine_run_fresh}
 use Rattle.anti_pattern.proofs.Metering.{leb_true, leb_false, Split, enough, over, split, meter_spent, meter_within, meter_fail, meter_used_up, meter_one, meter_after}
 use Rattle.anti_pattern.proofs.Following.{numbers_equal, numbers_same, lengths_permit, check_answers}
 use Rattle.anti_pattern.proofs.Placed.{AnswerIn, Placed, Places, finish_places, searches_places, fresh_found}
+use Rattle.std.specs.Prelude.{Option, Some, None}
 
 after_fail : (o : Answers) (n : ℕ) → after o n (λ u. fail) ≡ record { out = o; cost = n }
 after_fail (found e m o) n = ap (answering e n) (after_fail o m)
@@ -119,8 +119,8 @@ Only k l = (e : Env) (put : List Deferred) (f : Env) → AnswerIn (k e put).out 
 
 if_some_only : {A : Type 0} (o : Option A) (k l : A → Result) (f : Env) → ((x : A) → AnswerIn (k x).out f → AnswerIn (l x).out f)
     → AnswerIn (if_some o k).out f → AnswerIn (if_some o l).out f
-if_some_only none k l f r h = h
-if_some_only (some x) k l f r h = r x h
+if_some_only None k l f r h = h
+if_some_only (Some x) k l f r h = r x h
 
 if_true_only : (m : Bool) (k l : Unit {0} → Result) (f : Env) → (AnswerIn (k tt).out f → AnswerIn (l tt).out f)
     → AnswerIn (if_true m k).out f → AnswerIn (if_true m l).out f
@@ -130,10 +130,10 @@ if_true_only false k l f r h = h
 run_only : (classes : List ℕ) (m : Tries) (o : Option Terms) (ts : Terms) (g g' h h' : Terms → Terms → Result) (f : Env)
     → ((w us : Terms) → AnswerIn (g w us).out f → AnswerIn (g' w us).out f) → ((w us : Terms) → AnswerIn (h w us).out f → AnswerIn (h' w us).out f)
     → AnswerIn (try_run classes o m ts g h).out f → AnswerIn (try_run classes o every ts g' h').out f
-run_only classes m none ts g g' h h' f r s a =
+run_only classes m None ts g g' h h' f r s a =
     let x = fresh_found m ts g f a in
     subst (λ (z : Terms). AnswerIn (lengths nil z g').out f) (sym x.2) (lengths_have x.0 x.1 nil g' f (r x.0 x.1 x.3))
-run_only classes m (some w) ts g g' h h' f r s a = if_some_only (behind classes w ts) (h w) (h' w) f (s w) a
+run_only classes m (Some w) ts g g' h h' f r s a = if_some_only (behind classes w ts) (h w) (h' w) f (s w) a
 
 module _ (table classes : List ℕ) (how : ℕ → Tries) where
   mutual
@@ -175,7 +175,7 @@ module _ (table classes : List ℕ) (how : ℕ → Tries) where
 
   -- what is assigned stays
   resume_places : (fs : List Frame) → (P : Assignment → ℕ → Option ℕ) × Places (resume table classes how fs) P
-  resume_places [] = (λ b v. none, finish_places)
+  resume_places [] = (λ b v. None, finish_places)
   resume_places (x ∷ fs) =
       let r = resume_places fs in (
         λ b v. place_all table x.patterns x.elements x.at b v (r.0 b v),
@@ -183,7 +183,7 @@ module _ (table classes : List ℕ) (how : ℕ → Tries) where
       )
 
   machine_keeps : (fs : List Frame) (e : Env) (ds : List Pending) (f : Env) → AnswerIn (machine table classes how fs e ds).out f
-      → (v : ℕ) (w : Terms) → e.value v ≡ some w → f.value v ≡ some w
+      → (v : ℕ) (w : Terms) → e.value v ≡ Some w → f.value v ≡ Some w
   unfolding machine
   machine_keeps fs e ds f h v w i =
       let p = resume_places fs in
@@ -259,7 +259,7 @@ module _ (table classes : List ℕ) (how : ℕ → Tries) (is : Env → Bool) wh
 
   -- a free run name
   module _ (tells : (f : Env) → is f ≡ true → Permitted how f.value) (v n at : ℕ) (qs : Children) (fs : List Frame) (e : Env) (ds : List Pending)
-      (fresh : e.value v ≡ none) (given : how v ≡ only n) where
+      (fresh : e.value v ≡ None) (given : how v ≡ only n) where
     abbrev onward : (ℕ → Tries) → Terms → Terms → Result
     onward h w us = machine table classes h (frame qs us (at + sizes table w) ∷ fs) (bind e v at w) ds
 
@@ -284,10 +284,10 @@ module _ (table classes : List ℕ) (how : ℕ → Tries) (is : Env → Bool) wh
       others : (w zs : Terms) → count w < count x → (f : Env) → AnswerIn (onward freely w zs).out f → is f ≡ false
       others w zs l f a = (not-eq-not {b = false}).0 (λ i. go (tells f i v w (kept f a)))
         where
-          kept : (f : Env) → AnswerIn (onward freely w zs).out f → f.value v ≡ some w
+          kept : (f : Env) → AnswerIn (onward freely w zs).out f → f.value v ≡ Some w
           kept f a =
               machine_keeps table classes freely (frame qs zs (at + sizes table w) ∷ fs) (bind e v at w) ds f a v w
-              (ap (λ (m : Bool). cond m (some w) (e.value v)) (eqb_same v))
+              (ap (λ (m : Bool). cond m (Some w) (e.value v)) (eqb_same v))
 
           go : Permits (how v) (count w) → ⊥
           go p = let i : n ≡ count w = subst (λ (m : Tries). Permits m (count w)) given p in omega (arith, fits)
@@ -397,7 +397,7 @@ module _ (l : Language) (q : Pattern) (t : Term) (given : List ℕ) (n : ℕ) wh
   -- an answer that the pass ends with is the first of the search resumed after the given one
   pub passed_first : (e : Env) (left : ℕ)
       → passing l.table l.classes (given_to (free_runs q) given) (has_lengths q given) (frame (plain q end) (single t) 0 ∷ []) start [] n ≡ ended (met e left)
-      → first_answer (resumed_after l q t given).out ≡ some e
+      → first_answer (resumed_after l q t given).out ≡ Some e
   unfolding passing resumed_after meter
   passed_first e left h =
       follows_first (meter n (machine l.table l.classes (given_to (free_runs q) given) (frame (plain q end) (single t) 0 ∷ []) start []))
@@ -405,12 +405,12 @@ module _ (l : Language) (q : Pattern) (t : Term) (given : List ℕ) (n : ℕ) wh
       (ap (λ (r : Result). follow (meter n (machine l.table l.classes (given_to (free_runs q) given) (frame (plain q end) (single t) 0 ∷ []) start [])) (resumed (has_lengths q given) r.out))
       (machine_level l.table l.classes freely q t 0 start) ∙ h)
     where
-      metered_first : (m : Bool) (o : Answers) (k : ℕ) → metered m o k ≡ met e left → first_answer o ≡ some e
-      metered_first true (found f c o) k h = let z : f ≡ e = cc in ap some z
+      metered_first : (m : Bool) (o : Answers) (k : ℕ) → metered m o k ≡ met e left → first_answer o ≡ Some e
+      metered_first true (found f c o) k h = let z : f ≡ e = cc in ap Some z
       metered_first true failed k h = let z : ◌≡◌ {A = ℕ} 0 1 = cc in absurd (omega arith)
       metered_first false o k h = let z : ◌≡◌ {A = ℕ} 0 1 = cc in absurd (omega arith)
 
-      follows_first : (m : Metered) (r : Result) → follow m r ≡ ended (met e left) → first_answer r.out ≡ some e
+      follows_first : (m : Metered) (r : Result) → follow m r ≡ ended (met e left) → first_answer r.out ≡ Some e
       follows_first (met f k) r h = let z : meter k r ≡ met e left = cc in metered_first (leb r.cost k) r.out (k - r.cost) z
       follows_first (missed k) r h = let z : ◌≡◌ {A = ℕ} 0 1 = cc in absurd (omega arith)
       follows_first used_up r h = let z : ◌≡◌ {A = ℕ} 0 1 = cc in absurd (omega arith)

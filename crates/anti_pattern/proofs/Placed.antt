@@ -4,7 +4,6 @@ use mathlib.Core.Path.{◌≡◌, refl, sym, ◌∙◌, ap, ap₂, subst}
 use mathlib.Core.Logic.{◌⊎◌, inl, inr}
 use mathlib.Core.List.{List, [], ◌∷◌, ◌++◌}
 use mathlib.Core.Bool.{Bool, true, false, cond, false≢true}
-use mathlib.Core.Option.{Option, none, some}
 use native.Mathlib.Omega.{arith}
 use lib.Dec.{eqb}
 use Rattle.answers.specs.Part.{part, absent}
@@ -27,12 +26,13 @@ use Rattle.term.proofs.SameParts.{same_terms_holds, same_counts, same_sizes}
 use Rattle.anti_pattern.proofs.Alike.{cons_open}
 use Rattle.anti_pattern.proofs.Facts.{eqb_same, join_nil, join_one, none_some, behind_alike}
 use Rattle.anti_pattern.proofs.First.{some_is, none_is, answer_satisfies}
+use Rattle.std.specs.Prelude.{Option, Some, None}
 
 -- an answer of an outcome
 abbrev pub AnswerIn : Answers → Env → Type 0
 AnswerIn o f = Member f (answers o)
 
-pub first_answers : (o : Answers) (e : Env) → first_answer o ≡ some e → AnswerIn o e
+pub first_answers : (o : Answers) (e : Env) → first_answer o ≡ Some e → AnswerIn o e
 first_answers (found f m o) e h = inl (some_is h)
 first_answers failed e h = absurd (none_is h)
 
@@ -47,8 +47,8 @@ answers_after failed n g f h = inr h
 
 -- from e on, f was found: what was assigned stays, with its offset; what has a place in the rest has its offset
 abbrev pub Placed : Option Terms → ℕ → Option ℕ → Option Terms → ℕ → Type 0
-Placed (some w) o p x y = (x ≡ some w) × (y ≡ o)
-Placed none o p x y = (n : ℕ) → p ≡ some n → y ≡ n
+Placed (Some w) o p x y = (x ≡ Some w) × (y ≡ o)
+Placed None o p x y = (n : ℕ) → p ≡ Some n → y ≡ n
 
 abbrev pub PlacedAt : Env → Env → ℕ → Option ℕ → Type 0
 PlacedAt e f v p = Placed (e.value v) (e.offset v) p (f.value v) (f.offset v)
@@ -67,37 +67,37 @@ finish_found e f (d ∷ ds) h = go (d e).out (d e).cost h (finish_found e f ds)
     go (found g m o) n h r = absurd h
     go failed n h r = r h
 
-unchanged : (e : Env) (v : ℕ) → PlacedAt e e v none
+unchanged : (e : Env) (v : ℕ) → PlacedAt e e v None
 unchanged e v = go (e.value v)
   where
-    go : (o : Option Terms) → Placed o (e.offset v) none o (e.offset v)
-    go none = λ n h. absurd (let z : ◌≡◌ {A = ℕ} 0 1 = cc in omega arith)
-    go (some w) = (refl, refl)
+    go : (o : Option Terms) → Placed o (e.offset v) None o (e.offset v)
+    go None = λ n h. absurd (let z : ◌≡◌ {A = ℕ} 0 1 = cc in omega arith)
+    go (Some w) = (refl, refl)
 
-pub finish_places : Places finish (λ b v. none)
-finish_places e put f h v = subst (λ (g : Env). PlacedAt e g v none) (finish_found e f put h) (unchanged e v)
+pub finish_places : Places finish (λ b v. None)
+finish_places e put f h v = subst (λ (g : Env). PlacedAt e g v None) (finish_found e f put h) (unchanged e v)
 
 -- a variable that is assigned here
 module _ (e f : Env) (u at : ℕ) (w : Terms) (P : ℕ → Option ℕ) where
-  placed_fresh : e.value u ≡ none → ((v : ℕ) → PlacedAt (bind e u at w) f v (P v))
-      → (v : ℕ) → PlacedAt e f v (cond (eqb u v) (some at) (P v))
+  placed_fresh : e.value u ≡ None → ((v : ℕ) → PlacedAt (bind e u at w) f v (P v))
+      → (v : ℕ) → PlacedAt e f v (cond (eqb u v) (Some at) (P v))
   placed_fresh q h v = go (eqb u v) refl (h v)
     where
-      go : (m : Bool) → eqb u v ≡ m → Placed (cond m (some w) (e.value v)) (cond m at (e.offset v)) (P v) (f.value v) (f.offset v)
-          → PlacedAt e f v (cond m (some at) (P v))
+      go : (m : Bool) → eqb u v ≡ m → Placed (cond m (Some w) (e.value v)) (cond m at (e.offset v)) (P v) (f.value v) (f.offset v)
+          → PlacedAt e f v (cond m (Some at) (P v))
       go true r y =
-          subst (λ (o : Option Terms). Placed o (e.offset v) (some at) (f.value v) (f.offset v))
-          (sym (subst (λ (j : ℕ). e.value j ≡ none) (eqb-true u v r) q)) (λ n s. y.1 ∙ cc)
+          subst (λ (o : Option Terms). Placed o (e.offset v) (Some at) (f.value v) (f.offset v))
+          (sym (subst (λ (j : ℕ). e.value j ≡ None) (eqb-true u v r) q)) (λ n s. y.1 ∙ cc)
       go false r y = y
 
-  placed_kept : (x : Terms) → e.value u ≡ some x → ((v : ℕ) → PlacedAt e f v (P v))
-      → (v : ℕ) → PlacedAt e f v (cond (eqb u v) (some at) (P v))
+  placed_kept : (x : Terms) → e.value u ≡ Some x → ((v : ℕ) → PlacedAt e f v (P v))
+      → (v : ℕ) → PlacedAt e f v (cond (eqb u v) (Some at) (P v))
   placed_kept x q h v = go (eqb u v) refl
     where
-      go : (m : Bool) → eqb u v ≡ m → PlacedAt e f v (cond m (some at) (P v))
+      go : (m : Bool) → eqb u v ≡ m → PlacedAt e f v (cond m (Some at) (P v))
       go true r =
-          let i : e.value v ≡ some x = subst (λ (j : ℕ). e.value j ≡ some x) (eqb-true u v r) q in
-          subst (λ (o : Option Terms). Placed o (e.offset v) (some at) (f.value v) (f.offset v)) (sym i)
+          let i : e.value v ≡ Some x = subst (λ (j : ℕ). e.value j ≡ Some x) (eqb-true u v r) q in
+          subst (λ (o : Option Terms). Placed o (e.offset v) (Some at) (f.value v) (f.offset v)) (sym i)
           (subst (λ (o : Option Terms). Placed o (e.offset v) (P v) (f.value v) (f.offset v)) i (h v))
       go false r = h v
 
@@ -136,11 +136,11 @@ if_true_found true g f h = h
 if_true_found false g f h = absurd h
 
 -- a name or a run name has a place here, or further on
-place_here : (u at v : ℕ) (vs : List ℕ) (other : Option ℕ) → (among v vs ≡ true → (n : ℕ) × (other ≡ some n)) → among v (u ∷ vs) ≡ true
-    → (n : ℕ) × (cond (eqb u v) (some at) other ≡ some n)
+place_here : (u at v : ℕ) (vs : List ℕ) (other : Option ℕ) → (among v vs ≡ true → (n : ℕ) × (other ≡ Some n)) → among v (u ∷ vs) ≡ true
+    → (n : ℕ) × (cond (eqb u v) (Some at) other ≡ Some n)
 place_here u at v vs other f m = go (eqb u v) m
   where
-    go : (c : Bool) → cond c true (among v vs) ≡ true → (n : ℕ) × (cond c (some at) other ≡ some n)
+    go : (c : Bool) → cond c true (among v vs) ≡ true → (n : ℕ) × (cond c (Some at) other ≡ Some n)
     go true m = (at, refl)
     go false m = f m
 
@@ -151,12 +151,12 @@ each_same f g e v (suc n) = ap₂ ◌∷◌ (e v) (each_same f g e (suc v) n)
 module _ (l : Language) where
   name_places : (e : Env) (u at : ℕ) (w : Terms) (k : Continuation) (P : Assignment → ℕ → Option ℕ) → Places k P → (put : List Deferred) (f : Env)
       (o : Option Terms) → e.value u ≡ o → AnswerIn (if_some (same_or l.classes o w e (bind e u at w)) (λ g. k g put)).out f
-      → (v : ℕ) → PlacedAt e f v (cond (eqb u v) (some at) (P f.value v))
-  name_places e u at w k P j put f none q h = placed_fresh e f u at w (P f.value) q (j (bind e u at w) put f h)
-  name_places e u at w k P j put f (some x) q h = go (same_terms l.classes x w) h
+      → (v : ℕ) → PlacedAt e f v (cond (eqb u v) (Some at) (P f.value v))
+  name_places e u at w k P j put f None q h = placed_fresh e f u at w (P f.value) q (j (bind e u at w) put f h)
+  name_places e u at w k P j put f (Some x) q h = go (same_terms l.classes x w) h
     where
-      go : (m : Bool) → AnswerIn (if_some (cond m (some e) none) (λ g. k g put)).out f
-          → (v : ℕ) → PlacedAt e f v (cond (eqb u v) (some at) (P f.value v))
+      go : (m : Bool) → AnswerIn (if_some (cond m (Some e) None) (λ g. k g put)).out f
+          → (v : ℕ) → PlacedAt e f v (cond (eqb u v) (Some at) (P f.value v))
       go true h = placed_kept e f u at w (P f.value) x q (j e put f h)
       go false h = absurd h
 
@@ -169,13 +169,13 @@ module _ (l : Language) where
 
   rest_found : (w ts : Terms) (g : Terms → Result) (f : Env) (o : Option Terms) → behind l.classes w ts ≡ o → AnswerIn (if_some o g).out f
       → (x : Terms) × (us : Terms) × (l ⊢ w ≋ x) × (ts ≡ x ⧺ us) × AnswerIn (g us).out f
-  rest_found w ts g f none r h = absurd h
-  rest_found w ts g f (some us) r h = let i = behind_alike l.classes w ts us r in (i.0, us, i.2, i.1, h)
+  rest_found w ts g f None r h = absurd h
+  rest_found w ts g f (Some us) r h = let i = behind_alike l.classes w ts us r in (i.0, us, i.2, i.1, h)
 
-  rest_is : (o : Option Terms) (w x us ts : Terms) → o ≡ some w → l ⊢ w ≋ x → ts ≡ x ⧺ us → us ≡ past (assigned o) ts
+  rest_is : (o : Option Terms) (w x us ts : Terms) → o ≡ Some w → l ⊢ w ≋ x → ts ≡ x ⧺ us → us ≡ past (assigned o) ts
   rest_is o w x us ts h i r = sym (ap (λ (y : Terms). past y ts) (ap assigned h) ∙ ap (past w) r ∙ past_same w x us i)
 
-  rest_place : (P : Terms → Terms → ℕ → Option ℕ) (o : Option Terms) (w x us ts : Terms) → o ≡ some w → l ⊢ w ≋ x → ts ≡ x ⧺ us
+  rest_place : (P : Terms → Terms → ℕ → Option ℕ) (o : Option Terms) (w x us ts : Terms) → o ≡ Some w → l ⊢ w ≋ x → ts ≡ x ⧺ us
       → P w us ≡ P (assigned o) (past (assigned o) ts)
   rest_place P o w x us ts h i r = ap₂ P (sym (ap assigned h)) (rest_is o w x us ts h i r)
 
@@ -184,21 +184,21 @@ module _ (l : Language) where
       → (v : ℕ) → PlacedAt (bind e u at w) f v (P w us v))
       (kept : (w us : Terms) → AnswerIn (h w us).out f → (v : ℕ) → PlacedAt e f v (P w us v)) where
     abbrev Goal : (ℕ → Option ℕ) → Type 0
-    Goal p = (v : ℕ) → PlacedAt e f v (cond (eqb u v) (some at) (p v))
+    Goal p = (v : ℕ) → PlacedAt e f v (cond (eqb u v) (Some at) (p v))
 
     run_places : (m : Tries) (o : Option Terms) → e.value u ≡ o → AnswerIn (try_run l.classes o m ts g h).out f
         → Goal (P (assigned (f.value u)) (past (assigned (f.value u)) ts))
-    run_places m none q r =
+    run_places m None q r =
         let s = fresh_found m ts g f r in
         let k = fresh s.0 s.1 s.3 in
-        let i : f.value u ≡ some s.0 =
-        (subst (λ (m : Bool). Placed (cond m (some s.0) (e.value u)) (cond m at (e.offset u)) (P s.0 s.1 u) (f.value u) (f.offset u))
+        let i : f.value u ≡ Some s.0 =
+        (subst (λ (m : Bool). Placed (cond m (Some s.0) (e.value u)) (cond m at (e.offset u)) (P s.0 s.1 u) (f.value u) (f.offset u))
         (eqb_same u) (k u)).0 in
         subst Goal (rest_place P (f.value u) s.0 s.0 s.1 ts i (same_terms_holds l.classes s.0) s.2) (placed_fresh e f u at s.0 (P s.0 s.1) q k)
-    run_places m (some w) q r =
+    run_places m (Some w) q r =
         let s = rest_found w ts (h w) f (behind l.classes w ts) refl r in
         let k = kept w s.1 s.4 in
-        let i : f.value u ≡ some w =
+        let i : f.value u ≡ Some w =
         (subst (λ (o : Option Terms). Placed o (e.offset u) (P w s.1 u) (f.value u) (f.offset u)) q (k u)).0 in
         subst Goal (rest_place P (f.value u) w s.0 s.1 ts i s.2 s.3) (placed_kept e f u at w (P w s.1) w q k)
 
@@ -230,21 +230,21 @@ module _ (l : Language) where
 
   -- the offset of each variable that has a place is that of its first place
   search_placed : (how : ℕ → Tries) (q : Pattern) (t : Term) (f : Env) → AnswerIn (search l.table l.classes how q t zero start [] finish).out f
-      → (v n : ℕ) → place l.table q t zero f.value v none ≡ some n → f.offset v ≡ n
-  search_placed how q t f h v n p = search_places how q t zero finish (λ b v. none) finish_places start [] f h v n p
+      → (v n : ℕ) → place l.table q t zero f.value v None ≡ Some n → f.offset v ≡ n
+  search_placed how q t f h v n p = search_places how q t zero finish (λ b v. None) finish_places start [] f h v n p
 
   -- each free variable has a place
   mutual
     has_place : (q : Pattern) (t : Term) (at : ℕ) (b : Assignment) (v : ℕ) (vs : List ℕ) (other : Option ℕ) → Holds l (TermsOf l) q b t
-        → (among v vs ≡ true → (n : ℕ) × (other ≡ some n)) → among v (vars q vs) ≡ true
-        → (n : ℕ) × (place l.table q t at b v other ≡ some n)
+        → (among v vs ≡ true → (n : ℕ) × (other ≡ Some n)) → among v (vars q vs) ≡ true
+        → (n : ℕ) × (place l.table q t at b v other ≡ Some n)
     has_place (name u) t at b v vs other h f m = place_here u at v vs other f m
     has_place (symbol s qs) (node r ts) at b v vs other h f m = has_place_all qs ts (at + width l.table r) b v vs other h.1 f m
     has_place (complement q) t at b v vs other h f m = f m
 
     has_place_all : (qs : Children) (ts : Terms) (at : ℕ) (b : Assignment) (v : ℕ) (vs : List ℕ) (other : Option ℕ) → HoldAll l (TermsOf l) qs b ts
-        → (among v vs ≡ true → (n : ℕ) × (other ≡ some n)) → among v (vars_all qs vs) ≡ true
-        → (n : ℕ) × (place_all l.table qs ts at b v other ≡ some n)
+        → (among v vs ≡ true → (n : ℕ) × (other ≡ Some n)) → among v (vars_all qs vs) ≡ true
+        → (n : ℕ) × (place_all l.table qs ts at b v other ≡ Some n)
     has_place_all end ts at b v vs other h f m = f m
     has_place_all (plain q qs) nil at b v vs other h f m = absurd h
     has_place_all (plain q qs) (t :: ts) at b v vs other h f m =
@@ -256,36 +256,36 @@ module _ (l : Language) where
         (subst (λ (y : Terms). HoldAll l (TermsOf l) qs b y) (rest_is (b u) h.0 h.1 h.2 ts h.3 h.4 h.5) h.6) f) m
 
   -- the part that is shown for a variable, at the offset found and at its first place
-  shows : (n : ℕ) (p : Option ℕ) (m : Bool) (o : Option Terms) → ExtendsAt (TermsOf l) none m o
-      → (m ≡ true → (k : ℕ) × (p ≡ some k)) → ((k : ℕ) → p ≡ some k → n ≡ k) → assigned_part l.table o n ≡ or_absent p (assigned_part l.table o)
-  shows n p true none x g i = absurd (none_some x.2)
-  shows n p true (some w) x g i = let k = g refl in rw (k.1, i k.0 k.1)
-  shows n p false none x g i = absent_there p
+  shows : (n : ℕ) (p : Option ℕ) (m : Bool) (o : Option Terms) → ExtendsAt (TermsOf l) None m o
+      → (m ≡ true → (k : ℕ) × (p ≡ Some k)) → ((k : ℕ) → p ≡ Some k → n ≡ k) → assigned_part l.table o n ≡ or_absent p (assigned_part l.table o)
+  shows n p true None x g i = absurd (none_some x.2)
+  shows n p true (Some w) x g i = let k = g refl in rw (k.1, i k.0 k.1)
+  shows n p false None x g i = absent_there p
     where
-      absent_there : (p : Option ℕ) → absent ≡ or_absent p (assigned_part l.table none)
-      absent_there none = refl
-      absent_there (some k) = refl
-  shows n p false (some w) x g i = absurd (none_some (sym x))
+      absent_there : (p : Option ℕ) → absent ≡ or_absent p (assigned_part l.table None)
+      absent_there None = refl
+      absent_there (Some k) = refl
+  shows n p false (Some w) x g i = absurd (none_some (sym x))
 
   module _ (q : Pattern) (t : Term) where
     -- each free variable has a place and a value
     pub free_placed : (a : Assignment) → Satisfies l q t a → (v : ℕ) → among v (free q) ≡ true
-        → (at : ℕ) × (w : Terms) × (place l.table q t zero a v none ≡ some at) × (a v ≡ some w)
+        → (at : ℕ) × (w : Terms) × (place l.table q t zero a v None ≡ Some at) × (a v ≡ Some w)
     unfolding Extends
     free_placed a s v m =
-        let p = has_place q t zero a v [] none s.holds (λ m. absurd (false≢true m)) m in
-        let w = subst (λ (c : Bool). ExtendsAt (TermsOf l) none c (a v)) m (s.exact v) in (p.0, w.0, p.1, w.2)
+        let p = has_place q t zero a v [] None s.holds (λ m. absurd (false≢true m)) m in
+        let w = subst (λ (c : Bool). ExtendsAt (TermsOf l) None c (a v)) m (s.exact v) in (p.0, w.0, p.1, w.2)
 
     -- and no other variable has
     pub others_absent : (a : Assignment) → Satisfies l q t a → (v : ℕ) → among v (free q) ≡ false → variable_part l.table q t a v ≡ absent
     unfolding Extends
     others_absent a s v m =
-        let w : a v ≡ none = subst (λ (c : Bool). ExtendsAt (TermsOf l) none c (a v)) m (s.exact v) in
-        ap (λ (o : Option Terms). or_absent (place l.table q t zero a v none) (assigned_part l.table o)) w ∙ go (place l.table q t zero a v none)
+        let w : a v ≡ None = subst (λ (c : Bool). ExtendsAt (TermsOf l) None c (a v)) m (s.exact v) in
+        ap (λ (o : Option Terms). or_absent (place l.table q t zero a v None) (assigned_part l.table o)) w ∙ go (place l.table q t zero a v None)
       where
-        go : (p : Option ℕ) → or_absent p (assigned_part l.table none) ≡ absent
-        go none = refl
-        go (some k) = refl
+        go : (p : Option ℕ) → or_absent p (assigned_part l.table None) ≡ absent
+        go None = refl
+        go (Some k) = refl
 
     -- every answer that satisfies is shown at the first places
     pub shown_at_first_places : (how : ℕ → Tries) (e : Env) → AnswerIn (search l.table l.classes how q t zero start [] finish).out e
@@ -296,8 +296,8 @@ module _ (l : Language) where
       where
         each : (v : ℕ) → assigned_part l.table (e.value v) (e.offset v) ≡ variable_part l.table q t e.value v
         each v =
-            shows (e.offset v) (place l.table q t zero e.value v none) (among v (free q)) (e.value v) (s.exact v)
-            (has_place q t zero e.value v [] none s.holds (λ m. absurd (false≢true m)))
+            shows (e.offset v) (place l.table q t zero e.value v None) (among v (free q)) (e.value v) (s.exact v)
+            (has_place q t zero e.value v [] None s.holds (λ m. absurd (false≢true m)))
             (search_placed how q t e h v)
 
     pub shown_at_first_place : TermOf l t → (e : Env) → AnswerIn (whole l q t).out e → parts l.table e ≡ parts_at l.table q t e.value
@@ -307,10 +307,10 @@ module _ (l : Language) where
 
   module _ (k : Alike l.table l.classes) where
     part_one : (o p : Option Terms) (at : ℕ) → OneAt l o p → assigned_part l.table o at ≡ assigned_part l.table p at
-    part_one none none at h = refl
-    part_one none (some x) at h = absurd h
-    part_one (some w) none at h = absurd h
-    part_one (some w) (some x) at h = ap₂ (part at) (same_sizes l.table l.classes k w x h) (same_counts l.classes w x h)
+    part_one None None at h = refl
+    part_one None (Some x) at h = absurd h
+    part_one (Some w) None at h = absurd h
+    part_one (Some w) (Some x) at h = ap₂ (part at) (same_sizes l.table l.classes k w x h) (same_counts l.classes w x h)
 
     past_one : (w x ts : Terms) → l ⊢ w ≋ x → past w ts ≡ past x ts
     past_one nil nil ts h = refl
@@ -320,16 +320,16 @@ module _ (l : Language) where
     past_one (t :: w) (y :: x) (u :: ts) h = past_one w x ts (cons_open l t y w x h).1
 
     assigned_one : (o p : Option Terms) → OneAt l o p → l ⊢ assigned o ≋ assigned p
-    assigned_one none none h = refl
-    assigned_one none (some x) h = absurd h
-    assigned_one (some w) none h = absurd h
-    assigned_one (some w) (some x) h = h
+    assigned_one None None h = refl
+    assigned_one None (Some x) h = absurd h
+    assigned_one (Some w) None h = absurd h
+    assigned_one (Some w) (Some x) h = h
 
     module _ (a b : Assignment) (e : CountAsOne l a b) (v : ℕ) where
       mutual
         pub place_one : (q : Pattern) (t : Term) (at : ℕ) (other other' : Option ℕ) → other ≡ other'
             → place l.table q t at a v other ≡ place l.table q t at b v other'
-        place_one (name u) t at other other' i = ap (cond (eqb u v) (some at)) i
+        place_one (name u) t at other other' i = ap (cond (eqb u v) (Some at)) i
         place_one (symbol s qs) (node r ts) at other other' i = places_one qs ts (at + width l.table r) other other' i
         place_one (complement q) t at other other' i = i
 
@@ -342,7 +342,7 @@ module _ (l : Language) where
             (places_one qs ts (at + size l.table t) other other' i)
         places_one (run u qs) ts at other other' i =
             let h = assigned_one (a u) (b u) (e u) in
-            ap (cond (eqb u v) (some at))
+            ap (cond (eqb u v) (Some at))
             (places_one qs (past (assigned (a u)) ts) (at + sizes l.table (assigned (a u))) other other' i
             ∙ ap₂ (λ (us : Terms) (n : ℕ). place_all l.table qs us (at + n) b v other') (past_one (assigned (a u)) (assigned (b u)) ts h)
             (same_sizes l.table l.classes k (assigned (a u)) (assigned (b u)) h))
@@ -351,10 +351,10 @@ module _ (l : Language) where
     parts_one q t a b e = each_same (variable_part l.table q t a) (variable_part l.table q t b) each 0 variables
       where
         go : (p : Option ℕ) (o r : Option Terms) → OneAt l o r → or_absent p (assigned_part l.table o) ≡ or_absent p (assigned_part l.table r)
-        go none o r h = refl
-        go (some at) o r h = part_one o r at h
+        go None o r h = refl
+        go (Some at) o r h = part_one o r at h
 
         each : (v : ℕ) → variable_part l.table q t a v ≡ variable_part l.table q t b v
         each v =
-            ap (λ (p : Option ℕ). or_absent p (assigned_part l.table (a v))) (place_one a b e v q t zero none none refl)
-            ∙ go (place l.table q t zero b v none) (a v) (b v) (e v)
+            ap (λ (p : Option ℕ). or_absent p (assigned_part l.table (a v))) (place_one a b e v q t zero None None refl)
+            ∙ go (place l.table q t zero b v None) (a v) (b v) (e v)

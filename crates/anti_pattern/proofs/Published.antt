@@ -4,7 +4,6 @@ use mathlib.Core.Path.{◌≡◌, refl, sym, ◌∙◌, ap, subst, fun_ext}
 use mathlib.Core.Logic.{◌⊎◌, inl, inr, ite, ◌↔◌}
 use mathlib.Core.List.{List, [], ◌∷◌, map}
 use mathlib.Core.Bool.{Bool, true, false, cond, false≢true}
-use mathlib.Core.Option.{Option, none, some}
 use native.Mathlib.Omega.{arith}
 use lib.Dec.{eqb}
 use borrow.Author.Tests.{eqb-true}
@@ -26,6 +25,7 @@ use Rattle.anti_pattern.proofs.Facts.{eqb_same, head_same, none_some, some_same}
 use Rattle.anti_pattern.proofs.First.{equal_lengths}
 use Rattle.anti_pattern.proofs.Renamed.{member}
 use Rattle.anti_pattern.proofs.Taken.{Fits, FitAll, ground_there, ground_fits, ground_none, free_occurs}
+use Rattle.std.specs.Prelude.{Option, Some, None}
 
 -- an anti-term as a pattern
 abbrev mutual
@@ -113,17 +113,17 @@ abbrev acts : Substitution → Antis ℕ → Antis ℕ
 acts σ qs = replace_all (λ x. value (σ x) x) qs
 
 module _ (σ : Substitution) (x : ℕ) where
-  value_occurs : (y : ℕ) (m : Option Term) → σ y ≡ m → Occurs x (value m y) → (x ≡ y) × (σ x ≡ none)
-  value_occurs y none e h = (h, ap σ h ∙ e)
-  value_occurs y (some u) e h = absurd (ground_none u x h)
+  value_occurs : (y : ℕ) (m : Option Term) → σ y ≡ m → Occurs x (value m y) → (x ≡ y) × (σ x ≡ None)
+  value_occurs y None e h = (h, ap σ h ∙ e)
+  value_occurs y (Some u) e h = absurd (ground_none u x h)
 
   mutual
-    act_occurs : (q : Anti ℕ) → Occurs x (act σ q) → Occurs x q × (σ x ≡ none)
+    act_occurs : (q : Anti ℕ) → Occurs x (act σ q) → Occurs x q × (σ x ≡ None)
     act_occurs (var y) h = value_occurs y (σ y) refl h
     act_occurs (neg q) h = act_occurs q h
     act_occurs (app f qs) h = acts_occurs qs h
 
-    acts_occurs : (qs : Antis ℕ) → OccursIn x (acts σ qs) → OccursIn x qs × (σ x ≡ none)
+    acts_occurs : (qs : Antis ℕ) → OccursIn x (acts σ qs) → OccursIn x qs × (σ x ≡ None)
     acts_occurs ε h = absurd h
     acts_occurs (q ▸ qs) (inl h) = let r = act_occurs q h in (inl r.0, r.1)
     acts_occurs (q ▸ qs) (inr h) = let r = acts_occurs qs h in (inr r.0, r.1)
@@ -139,7 +139,7 @@ module _ (σ : Substitution) (x : ℕ) where
     acts_free (q ▸ qs) (inl h) = inl (act_free q h)
     acts_free (q ▸ qs) (inr h) = inr (acts_free qs h)
 
-  module _ (e : σ x ≡ none) where
+  module _ (e : σ x ≡ None) where
     mutual
       occurs_act : (q : Anti ℕ) → Occurs x q → Occurs x (act σ q)
       occurs_act (var y) h = subst (λ (m : Option Term). Occurs x (value m y)) (sym e ∙ ap σ h) h
@@ -165,43 +165,43 @@ module _ (σ : Substitution) (x : ℕ) where
 -- an assignment has what the substitution has; else what the valuation has for the variables F; else nothing
 
 abbrev known : {P : Type 0} → Option Term → Dec P → Term → Option Terms
-known (some u) d v = some (single u)
-known none (yes p) v = some (single v)
-known none (no n) v = none
+known (Some u) d v = Some (single u)
+known None (yes p) v = Some (single v)
+known None (no n) v = None
 
-known_yes : {P : Type 0} (d : Dec P) (v : Term) → P → known none d v ≡ some (single v)
+known_yes : {P : Type 0} (d : Dec P) (v : Term) → P → known None d v ≡ Some (single v)
 known_yes (yes p) v f = refl
 known_yes (no n) v f = absurd (n f)
 
 -- the term of a sequence of one, or else another
 abbrev term_or : Term → Option Terms → Term
-term_or d none = d
-term_or d (some nil) = d
-term_or d (some (t :: ts)) = t
+term_or d None = d
+term_or d (Some nil) = d
+term_or d (Some (t :: ts)) = t
 
 -- what is assigned, or else the value, if the name is to be assigned
 abbrev extended : Option Terms → Bool → Term → Option Terms
-extended (some w) m v = some w
-extended none true v = some (single v)
-extended none false v = none
+extended (Some w) m v = Some w
+extended None true v = Some (single v)
+extended None false v = None
 
 module _ (q : Anti ℕ) (σ : Substitution) where
   replace_same : (ρ θ : ℕ → Anti ℕ) → ((x : ℕ) → ρ x ≡ θ x) → replace ρ q ≡ replace θ q
   replace_same ρ θ e = ap (λ (f : ℕ → Anti ℕ). replace f q) (fun_ext e)
 
   -- where only free variables have values, the substitution may act everywhere
-  act_same : ((x : ℕ) (u : Term) → σ x ≡ some u → Free x q) → σ ⟨ q ⟩ ≡ act σ q
+  act_same : ((x : ℕ) (u : Term) → σ x ≡ Some u → Free x q) → σ ⟨ q ⟩ ≡ act σ q
   act_same d = replace_same (λ x. ite (free? x q) (value (σ x) x) (var x)) (λ x. value (σ x) x) (λ x. go x (free? x q) (σ x) refl)
     where
       go : (x : ℕ) (f : Dec (Free x q)) (m : Option Term) → σ x ≡ m → ite f (value m x) (var x) ≡ value m x
       go x (yes f) m e = refl
-      go x (no n) none e = refl
-      go x (no n) (some u) e = absurd (n (d x u e))
+      go x (no n) None e = refl
+      go x (no n) (Some u) e = absurd (n (d x u e))
 
 abbrev first_of : Option Terms → Option Term
-first_of none = none
-first_of (some nil) = none
-first_of (some (t :: ts)) = some t
+first_of None = None
+first_of (Some nil) = None
+first_of (Some (t :: ts)) = Some t
 
 mutual
   pub no_runs_holds : (q : Pattern) → NoRuns q → (vs : List ℕ) → runs q vs ≡ vs
@@ -217,12 +217,12 @@ mutual
 module _ (l : Language) where
   -- the values of the free variables are single terms
   mutual
-    holds_free : (q : Anti ℕ) (b : Assignment) (t : Term) (x : ℕ) → Holds l (TermsOf l) (pattern q) b t → Free x q → (v : Term) × (b x ≡ some (single v))
+    holds_free : (q : Anti ℕ) (b : Assignment) (t : Term) (x : ℕ) → Holds l (TermsOf l) (pattern q) b t → Free x q → (v : Term) × (b x ≡ Some (single v))
     holds_free (var y) b t x h e = (h.0, ap b e ∙ h.1)
     holds_free (neg q) b t x h e = absurd e
     holds_free (app f qs) b (node r ts) x h e = holds_free_all qs b ts x h.1 e
 
-    holds_free_all : (qs : Antis ℕ) (b : Assignment) (ts : Terms) (x : ℕ) → HoldAll l (TermsOf l) (patterns qs) b ts → FreeIn x qs → (v : Term) × (b x ≡ some (single v))
+    holds_free_all : (qs : Antis ℕ) (b : Assignment) (ts : Terms) (x : ℕ) → HoldAll l (TermsOf l) (patterns qs) b ts → FreeIn x qs → (v : Term) × (b x ≡ Some (single v))
     holds_free_all ε b ts x h e = absurd e
     holds_free_all (q ▸ qs) b nil x h e = absurd h
     holds_free_all (q ▸ qs) b (t :: ts) x h (inl e) = holds_free q b t x h.0 e
@@ -230,31 +230,31 @@ module _ (l : Language) where
 
   -- every term that is assigned is of the language
   abbrev OfLanguage : Assignment → Type 0
-  OfLanguage b = (v : ℕ) (w : Terms) → b v ≡ some w → TermsOf l w
+  OfLanguage b = (v : ℕ) (w : Terms) → b v ≡ Some w → TermsOf l w
 
   extends_of : (a b : Assignment) (vs : List ℕ) → OfLanguage a → Extends (TermsOf l) a vs b → OfLanguage b
   unfolding Extends
   extends_of a b vs g x v w e = go (a v) (among v vs) refl (x v)
     where
       go : (o : Option Terms) (m : Bool) → a v ≡ o → ExtendsAt (TermsOf l) o m (b v) → TermsOf l w
-      go (some y) m i z = g v w (i ∙ sym z ∙ e)
-      go none true i z = subst (TermsOf l) (some_same (sym z.2 ∙ e)) z.1
-      go none false i z = absurd (none_some (sym z ∙ e))
+      go (Some y) m i z = g v w (i ∙ sym z ∙ e)
+      go None true i z = subst (TermsOf l) (some_same (sym z.2 ∙ e)) z.1
+      go None false i z = absurd (none_some (sym z ∙ e))
 
   -- what counts as a single term, and as nothing
-  one_single : (o : Option Terms) (v : Term) → OneAt l o (some (single v)) → (u : Term) × (o ≡ some (single u)) × (l ⊢ u ≈ v)
-  one_single none v h = absurd h
-  one_single (some w) v h = let r = single_open l w v h in (r.0, ap some r.1, r.2)
+  one_single : (o : Option Terms) (v : Term) → OneAt l o (Some (single v)) → (u : Term) × (o ≡ Some (single u)) × (l ⊢ u ≈ v)
+  one_single None v h = absurd h
+  one_single (Some w) v h = let r = single_open l w v h in (r.0, ap Some r.1, r.2)
 
-  single_one : (o : Option Terms) (u v : Term) → o ≡ some (single u) → l ⊢ u ≈ v → OneAt l o (some (single v))
-  single_one o u v e h = some_one l o (some (single v)) (single u) (single v) e refl (single_same l u v h)
+  single_one : (o : Option Terms) (u v : Term) → o ≡ Some (single u) → l ⊢ u ≈ v → OneAt l o (Some (single v))
+  single_one o u v e h = some_one l o (Some (single v)) (single u) (single v) e refl (single_same l u v h)
 
-  one_none : (o : Option Terms) → OneAt l o none → o ≡ none
-  one_none none h = refl
-  one_none (some w) h = absurd h
+  one_none : (o : Option Terms) → OneAt l o None → o ≡ None
+  one_none None h = refl
+  one_none (Some w) h = absurd h
 
-  none_one : (o : Option Terms) → o ≡ none → OneAt l o none
-  none_one o e = subst (λ (p : Option Terms). OneAt l p none) (sym e) tt
+  none_one : (o : Option Terms) → o ≡ None → OneAt l o None
+  none_one o e = subst (λ (p : Option Terms). OneAt l p None) (sym e) tt
 
   module _ (σ : Substitution) where
     -- a complement, where its inside holds of the same terms
@@ -277,14 +277,14 @@ module _ (l : Language) where
           valued i = go (d i) refl
             where
               go : (o : Option Terms) → d i ≡ o → TermOf l (term_or t o)
-              go none e = g
-              go (some nil) e = g
-              go (some (u :: us)) e = (of_d i (u :: us) e).0
+              go None e = g
+              go (Some nil) e = g
+              go (Some (u :: us)) e = (of_d i (u :: us) e).0
 
-          stays : (i : ℕ) (v : Term) → b i ≡ some (single v) → d i ≡ some (single v)
+          stays : (i : ℕ) (v : Term) → b i ≡ Some (single v) → d i ≡ Some (single v)
           stays i v e = extends_at l b d (free (pattern q)) i (single v) e x
 
-          fixed : (i : ℕ) (v : Term) → d i ≡ some (single v) → OneAt l (d i) (some (single (c i)))
+          fixed : (i : ℕ) (v : Term) → d i ≡ Some (single v) → OneAt l (d i) (Some (single (c i)))
           fixed i v e = single_one (d i) v (c i) e (term_eq l v (c i) (sym (ap (term_or t) e)))
 
           agrees : (i : ℕ) → Occurs i (act σ q) → F i → l ⊢ c i ≈ a i
@@ -296,11 +296,11 @@ module _ (l : Language) where
 
           linked : (i : ℕ) (m : Option Term) (k : Dec (F i)) (f : Dec (Free i (act σ q))) → σ i ≡ m → OneAt l (b i) (known m k (a i))
               → OneAt l (d i) (known m (either? k f) (c i))
-          linked i (some v) k f e r = let s = one_single (b i) v r in single_one (d i) s.0 v (stays i s.0 s.1) s.2
-          linked i none (yes y) f e r = let s = one_single (b i) (a i) r in fixed i s.0 (stays i s.0 s.1)
-          linked i none (no y) (yes f) e r = let s = holds_free q d t i h (act_free σ i q f) in fixed i s.0 s.1
-          linked i none (no y) (no f) e r =
-              none_one (d i) (free_or q i (λ m. ExtendsAt (TermsOf l) none m (d i) → d i ≡ none) (λ g. absurd (f (free_act σ i e q g))) (λ g z. z)
+          linked i (Some v) k f e r = let s = one_single (b i) v r in single_one (d i) s.0 v (stays i s.0 s.1) s.2
+          linked i None (yes y) f e r = let s = one_single (b i) (a i) r in fixed i s.0 (stays i s.0 s.1)
+          linked i None (no y) (yes f) e r = let s = holds_free q d t i h (act_free σ i q f) in fixed i s.0 s.1
+          linked i None (no y) (no f) e r =
+              none_one (d i) (free_or q i (λ m. ExtendsAt (TermsOf l) None m (d i) → d i ≡ None) (λ g. absurd (f (free_act σ i e q g))) (λ g z. z)
               (subst (λ (m : Option Terms). ExtendsAt (TermsOf l) m (among i (free (pattern q))) (d i)) (one_none (b i) r) (x i)))
 
       comp_back : Holds l (TermsOf l) (complement (pattern q)) b t → Fits l F (neg (act σ q)) a t
@@ -314,30 +314,30 @@ module _ (l : Language) where
           d i = extended (b i) (among i (free (pattern q))) (c i)
 
           extends : (i : ℕ) (m : Option Terms) (k : Bool) → ExtendsAt (TermsOf l) m k (extended m k (c i))
-          extends i (some w) k = refl
-          extends i none true = (single (c i), (valued i, tt), refl)
-          extends i none false = refl
+          extends i (Some w) k = refl
+          extends i None true = (single (c i), (valued i, tt), refl)
+          extends i None false = refl
 
           was : (i : ℕ) (m : Option Terms) → b i ≡ m → d i ≡ extended m (among i (free (pattern q))) (c i)
           was i m r = ap (λ (o : Option Terms). extended o (among i (free (pattern q))) (c i)) r
 
-          stays : (i : ℕ) (v : Term) → OneAt l (b i) (some (single v)) → OneAt l (d i) (some (single v))
-          stays i v r = let s = one_single (b i) v r in single_one (d i) s.0 v (was i (some (single s.0)) s.1) s.2
+          stays : (i : ℕ) (v : Term) → OneAt l (b i) (Some (single v)) → OneAt l (d i) (Some (single v))
+          stays i v r = let s = one_single (b i) v r in single_one (d i) s.0 v (was i (Some (single s.0)) s.1) s.2
 
           linked : (i : ℕ) → Occurs i q → (m : Option Term) (k : Dec (F i)) (f : Dec (Free i (act σ q))) → σ i ≡ m
               → OneAt l (b i) (known m k (a i)) → OneAt l (d i) (known m (either? k f) (c i))
-          linked i u (some v) k f e r = stays i v r
-          linked i u none (yes y) f e r =
-              one_trans l (d i) (some (single (a i))) (some (single (c i))) (stays i (a i) r)
+          linked i u (Some v) k f e r = stays i v r
+          linked i u None (yes y) f e r =
+              one_trans l (d i) (Some (single (a i))) (Some (single (c i))) (stays i (a i) r)
               (single_same l (a i) (c i) (term_sym l (c i) (a i) (agrees i (occurs_act σ i e q u) y)))
-          linked i u none (no y) (yes f) e r =
-              single_one (d i) (c i) (c i) (was i none (one_none (b i) r)
-              ∙ free_or q i (λ m. extended none m (c i) ≡ some (single (c i))) (λ z. refl) (λ z. absurd (z (act_free σ i q f)))) (term_eq l (c i) (c i) refl)
-          linked i u none (no y) (no f) e r =
-              none_one (d i) (was i none (one_none (b i) r) ∙ free_or q i (λ m. extended none m (c i) ≡ none) (λ z. absurd (f (free_act σ i e q z))) (λ z. refl))
+          linked i u None (no y) (yes f) e r =
+              single_one (d i) (c i) (c i) (was i None (one_none (b i) r)
+              ∙ free_or q i (λ m. extended None m (c i) ≡ Some (single (c i))) (λ z. refl) (λ z. absurd (z (act_free σ i q f)))) (term_eq l (c i) (c i) refl)
+          linked i u None (no y) (no f) e r =
+              none_one (d i) (was i None (one_none (b i) r) ∙ free_or q i (λ m. extended None m (c i) ≡ None) (λ z. absurd (f (free_act σ i e q z))) (λ z. refl))
 
     -- a name
-    named : (x : ℕ) (b : Assignment) (t v : Term) → OneAt l (b x) (some (single v)) → (l ⊢ v ≈ t) ↔ Holds l (TermsOf l) (name x) b t
+    named : (x : ℕ) (b : Assignment) (t v : Term) → OneAt l (b x) (Some (single v)) → (l ⊢ v ≈ t) ↔ Holds l (TermsOf l) (name x) b t
     named x b t v k =
         let r = one_single (b x) v k in (
           λ h. (r.0, r.1, term_trans l r.0 v t r.2 h),
@@ -347,8 +347,8 @@ module _ (l : Language) where
 
     name_link : (x : ℕ) (F : ℕ → Type 0) (F? : (x : ℕ) → Dec (F x)) (a : ℕ → Term) (b : Assignment) (t : Term) (m : Option Term)
         → ((y : ℕ) → Free y (value m x) → F y) → OneAt l (b x) (known m (F? x) (a x)) → Fits l F (value m x) a t ↔ Holds l (TermsOf l) (name x) b t
-    name_link x F F? a b t none s k = named x b t (a x) (subst (OneAt l (b x)) (known_yes (F? x) (a x) (s x refl)) k)
-    name_link x F F? a b t (some u) s k =
+    name_link x F F? a b t None s k = named x b t (a x) (subst (OneAt l (b x)) (known_yes (F? x) (a x) (s x refl)) k)
+    name_link x F F? a b t (Some u) s k =
         let r = named x b t u k in (λ h. r.0 (ground_there l F a u t h), λ h. ground_fits l F a u t (r.1 h))
 
     mutual
@@ -386,9 +386,9 @@ module _ (l : Language) where
           link σ q (λ x. Free x (act σ q)) (λ x. free? x (act σ q)) a (assignment σ) t g of (λ x f. f) (λ x u. go x (σ x) (free? x (act σ q)))
         where
           go : (x : ℕ) (m : Option Term) (d : Dec (Free x (act σ q))) → OneAt l (singly m) (known m d (a x))
-          go x (some u) d = single_same l u u (term_eq l u u refl)
-          go x none (yes f) = absurd (o x f)
-          go x none (no n) = tt
+          go x (Some u) d = single_same l u u (term_eq l u u refl)
+          go x None (yes f) = absurd (o x f)
+          go x None (no n) = tt
 
       member_there : l ⊢ t ∈⟦ act σ q ⟧ → Holds l (TermsOf l) (pattern q) (assignment σ) t
       member_there m = let s = (member l (act σ q) t g).0 m in (closed s.0).0 s.2
@@ -400,24 +400,24 @@ module _ (l : Language) where
     there : Solution l q t σ → Satisfies l (pattern q) t (assignment σ)
     unfolding Extends
     there s = record {
-      exact = λ x. free_or q x (λ m. ExtendsAt (TermsOf l) none m (singly (σ x))) (is_free x (σ x) refl) (not_free x (σ x) refl);
+      exact = λ x. free_or q x (λ m. ExtendsAt (TermsOf l) None m (singly (σ x))) (is_free x (σ x) refl) (not_free x (σ x) refl);
       holds = member_there grounds' (λ x w e. of x (σ x) refl w e) (subst (λ (r : Anti ℕ). l ⊢ t ∈⟦ r ⟧) (act_same q σ (λ x u e. (s.domain x u e).0)) s.member);
     }
       where
         grounds' : (x : ℕ) → Free x (act σ q) → ⊥
         grounds' x f = s.grounding x (subst (λ (r : Anti ℕ). Free x r) (sym (act_same q σ (λ x u e. (s.domain x u e).0))) f)
 
-        of : (x : ℕ) (m : Option Term) → σ x ≡ m → (w : Terms) → singly m ≡ some w → TermsOf l w
-        of x none e w i = absurd (none_some i)
-        of x (some u) e w i = subst (TermsOf l) (some_same i) ((s.domain x u e).1, tt)
+        of : (x : ℕ) (m : Option Term) → σ x ≡ m → (w : Terms) → singly m ≡ Some w → TermsOf l w
+        of x None e w i = absurd (none_some i)
+        of x (Some u) e w i = subst (TermsOf l) (some_same i) ((s.domain x u e).1, tt)
 
-        is_free : (x : ℕ) (m : Option Term) → σ x ≡ m → Free x q → (w : Terms) × TermsOf l w × (singly m ≡ some w)
-        is_free x none e f = absurd (grounds' x (free_act σ x e q f))
-        is_free x (some u) e f = (single u, ((s.domain x u e).1, tt), refl)
+        is_free : (x : ℕ) (m : Option Term) → σ x ≡ m → Free x q → (w : Terms) × TermsOf l w × (singly m ≡ Some w)
+        is_free x None e f = absurd (grounds' x (free_act σ x e q f))
+        is_free x (Some u) e f = (single u, ((s.domain x u e).1, tt), refl)
 
-        not_free : (x : ℕ) (m : Option Term) → σ x ≡ m → (Free x q → ⊥) → singly m ≡ none
-        not_free x none e n = refl
-        not_free x (some u) e n = absurd (n (s.domain x u e).0)
+        not_free : (x : ℕ) (m : Option Term) → σ x ≡ m → (Free x q → ⊥) → singly m ≡ None
+        not_free x None e n = refl
+        not_free x (Some u) e n = absurd (n (s.domain x u e).0)
 
     back : Satisfies l (pattern q) t (assignment σ) → Solution l q t σ
     unfolding Extends
@@ -428,22 +428,22 @@ module _ (l : Language) where
           (member_back grounds' (extends_of unassigned (assignment σ) (free (pattern q)) (λ v w e. absurd (none_some e)) s.exact) s.holds);
     }
       where
-        has : (x : ℕ) (u : Term) → σ x ≡ some u → Free x q × TermOf l u
+        has : (x : ℕ) (u : Term) → σ x ≡ Some u → Free x q × TermOf l u
         has x u e =
-            free_or q x (λ m. ExtendsAt (TermsOf l) none m (singly (σ x)) → Free x q × TermOf l u)
+            free_or q x (λ m. ExtendsAt (TermsOf l) None m (singly (σ x)) → Free x q × TermOf l u)
             (λ f y. (f, (subst (TermsOf l) (some_same (sym y.2 ∙ ap singly e)) y.1).0))
             (λ n y. absurd (none_some (sym y ∙ ap singly e))) (s.exact x)
 
         grounds' : (x : ℕ) → Free x (act σ q) → ⊥
         grounds' x f =
             let r = act_occurs σ x q (free_occurs (act σ q) x f) in
-            free_or q x (λ m. ExtendsAt (TermsOf l) none m (singly (σ x)) → ⊥) (λ g y. none_some (sym (ap singly r.1) ∙ y.2))
+            free_or q x (λ m. ExtendsAt (TermsOf l) None m (singly (σ x)) → ⊥) (λ g y. none_some (sym (ap singly r.1) ∙ y.2))
             (λ n y. n (act_free σ x q f)) (s.exact x)
 
   -- what satisfies the pattern is a substitution
   substitution : (q : Anti ℕ) (t : Term) (a : Assignment) → Satisfies l (pattern q) t a → a ≡ assignment (λ x. first_of (a x))
   unfolding Extends
-  substitution q t a s = fun_ext (λ x. free_or q x (λ m. ExtendsAt (TermsOf l) none m (a x) → a x ≡ singly (first_of (a x)))
+  substitution q t a s = fun_ext (λ x. free_or q x (λ m. ExtendsAt (TermsOf l) None m (a x) → a x ≡ singly (first_of (a x)))
       (λ f y. let r = holds_free q a t x s.holds f in r.1 ∙ ap (λ (m : Option Terms). singly (first_of m)) (sym r.1))
       (λ n y. y ∙ ap (λ (m : Option Terms). singly (first_of m)) (sym y)) (s.exact x))
 

@@ -5,7 +5,6 @@ use mathlib.Core.Path.{◌≡◌, refl, sym, ◌∙◌, ap, subst}
 use mathlib.Core.Logic.{◌⊎◌, inl, inr, ite, ◌↔◌}
 use mathlib.Core.HLevel.{×_discrete}
 use mathlib.Core.List.{[], ◌∷◌, ◌++◌, List-discrete}
-use mathlib.Core.Option.{Option, none, some, discrete}
 use native.Mathlib.Omega.{arith}
 use native.Mathlib.Decide.{ℕ_discrete}
 use Rattle.term.specs.Term.{Term, node, Terms, nil, ◌::◌}
@@ -16,10 +15,17 @@ use Rattle.anti_pattern.specs.Published.{◌⊢◌∈⟦◌⟧}
 use Rattle.anti_pattern.specs.Scope.{Position, Owner, belongs, owners_within, Scoped, rename, rename_all, apart, Apart, ApartAll}
 use Rattle.term.proofs.SameParts.{same_term_holds}
 use Rattle.anti_pattern.proofs.Alike.{term_sym, term_trans, term_eq}
-use Rattle.anti_pattern.proofs.Taken.{Fits, FitAll, Some, outermost?, taken}
+use Rattle.anti_pattern.proofs.Taken.{Fits, FitAll, Some as SomeOf, outermost?, taken}
+use Rattle.std.specs.Prelude.{Option, Some, None}
+
+position? : (x y : Option Position) → Dec (x ≡ y)
+position? None None = yes refl
+position? None (Some q) = no (λ e. let z : ◌≡◌ {A = ℕ} 0 1 = cc in absurd (omega arith))
+position? (Some p) None = no (λ e. let z : ◌≡◌ {A = ℕ} 0 1 = cc in absurd (omega arith))
+position? (Some p) (Some q) = elim (List-discrete ℕ_discrete p q) [ yes e ↦ yes (ap Some e) | no n ↦ no (λ e. n (cc)) ]
 
 pub scoped? : (x y : Scoped) → Dec (x ≡ y)
-scoped? = ×_discrete ℕ_discrete (discrete (List-discrete ℕ_discrete))
+scoped? = ×_discrete ℕ_discrete position?
 
 -- positions: the second is the first or lies below it
 
@@ -45,39 +51,39 @@ under_one (m ∷ p) i j (l ∷ ω) h k = under_one p i j ω h.1 k.1
 
 -- the names of a level
 
-owners_kept : (o : Owner) (p : Position) (q : Anti ℕ) (x : ℕ) (ω : Position) → o x ≡ some ω → owners_within o p q x ≡ some ω
+owners_kept : (o : Owner) (p : Position) (q : Anti ℕ) (x : ℕ) (ω : Position) → o x ≡ Some ω → owners_within o p q x ≡ Some ω
 owners_kept o p q x ω e = rw e
 
 -- what is free belongs to a level: an outer one, or this
-belongs_free : {P : Type 0} (m : Option Position) (d : Dec P) (p : Position) → P → (ω : Position) × (belongs m (ite d (some p) none) ≡ some ω)
-belongs_free (some ω) d p f = (ω, refl)
-belongs_free none (yes y) p f = (p, refl)
-belongs_free none (no n) p f = absurd (n f)
+belongs_free : {P : Type 0} (m : Option Position) (d : Dec P) (p : Position) → P → (ω : Position) × (belongs m (ite d (Some p) None) ≡ Some ω)
+belongs_free (Some ω) d p f = (ω, refl)
+belongs_free None (yes y) p f = (p, refl)
+belongs_free None (no n) p f = absurd (n f)
 
-owners_free : (o : Owner) (p : Position) (q : Anti ℕ) (x : ℕ) → Free x q → (ω : Position) × (owners_within o p q x ≡ some ω)
+owners_free : (o : Owner) (p : Position) (q : Anti ℕ) (x : ℕ) → Free x q → (ω : Position) × (owners_within o p q x ≡ Some ω)
 owners_free o p q x f = belongs_free (o x) (free? x q) _ f
 
-owners_inv : (o : Owner) (p : Position) (q : Anti ℕ) (x : ℕ) (ω : Position) → owners_within o p q x ≡ some ω
-    → (o x ≡ some ω) ⊎ ((o x ≡ none) × Free x q × (p ≡ ω))
+owners_inv : (o : Owner) (p : Position) (q : Anti ℕ) (x : ℕ) (ω : Position) → owners_within o p q x ≡ Some ω
+    → (o x ≡ Some ω) ⊎ ((o x ≡ None) × Free x q × (p ≡ ω))
 owners_inv o p q x ω = go (o x) (free? x q)
   where
-    go : (m : Option Position) (d : Dec (Free x q)) → belongs m (ite d (some p) none) ≡ some ω → (m ≡ some ω) ⊎ ((m ≡ none) × Free x q × (p ≡ ω))
-    go (some θ) d e = inl e
-    go none (yes y) e = inr (refl, y, cc)
-    go none (no n) e = inl e
+    go : (m : Option Position) (d : Dec (Free x q)) → belongs m (ite d (Some p) None) ≡ Some ω → (m ≡ Some ω) ⊎ ((m ≡ None) × Free x q × (p ≡ ω))
+    go (Some θ) d e = inl e
+    go None (yes y) e = inr (refl, y, cc)
+    go None (no n) e = inl e
 
 -- each free name belongs to a level
 abbrev Covers : Owner → Anti ℕ → Type 0
-Covers o q = (x : ℕ) → Free x q → (ω : Position) × (o x ≡ some ω)
+Covers o q = (x : ℕ) → Free x q → (ω : Position) × (o x ≡ Some ω)
 
 abbrev CoversAll : Owner → Antis ℕ → Type 0
-CoversAll o qs = (x : ℕ) → FreeIn x qs → (ω : Position) × (o x ≡ some ω)
+CoversAll o qs = (x : ℕ) → FreeIn x qs → (ω : Position) × (o x ≡ Some ω)
 
 abbrev Owned : Owner → Scoped → Type 0
-Owned o y = (ω : Position) × (o y.0 ≡ some ω) × (y.1 ≡ some ω)
+Owned o y = (ω : Position) × (o y.0 ≡ Some ω) × (y.1 ≡ Some ω)
 
 abbrev Inner : Position → Scoped → Type 0
-Inner p y = (ω : Position) × (y.1 ≡ some ω) × Under p ω
+Inner p y = (ω : Position) × (y.1 ≡ Some ω) × Under p ω
 
 -- what stands in the renamed anti-term belongs to a level around it, or to one within it
 mutual
@@ -130,7 +136,7 @@ mutual
 
 -- what belongs to a level around or to this one
 abbrev Knows : (Scoped → Type 0) → Owner → Type 0
-Knows F o = (x : ℕ) (ω : Position) → o x ≡ some ω → F (x, some ω)
+Knows F o = (x : ℕ) (ω : Position) → o x ≡ Some ω → F (x, Some ω)
 
 knows_within : (F : Scoped → Type 0) (o : Owner) (p : Position) (q : Anti ℕ) → Knows F o
     → Knows (λ y. F y ⊎ Free y (rename (owners_within o p q) p q)) (owners_within o p q)
@@ -165,7 +171,7 @@ mutual
       go y (inl r) s = owned y r
       go y (inr r) (inl s) = owned y s
       go y (inr r) (inr s) =
-          let a : y.1 ≡ some r.0 = r.1 in let b : y.1 ≡ some s.2.0 = s.2.1 in
+          let a : y.1 ≡ Some r.0 = r.1 in let b : y.1 ≡ Some s.2.0 = s.2.1 in
           let e : r.0 ≡ s.2.0 = cc in
           let n : i ≡ s.0 = under_one p i s.0 s.2.0 (subst (Under (p ++ (i ∷ []))) e r.2) s.2.2 in
           absurd (omega (arith, s.1))
@@ -185,20 +191,20 @@ mutual
 
 module _ (x : ℕ) (ω : Position) where
   mutual
-    occurs_kept : (q : Anti ℕ) (o : Owner) (p : Position) → o x ≡ some ω → Occurs x q → Occurs (x, some ω) (rename o p q)
-    occurs_kept (var y) o p k h = let i : some ω ≡ o y = sym k ∙ ap o h in cc
+    occurs_kept : (q : Anti ℕ) (o : Owner) (p : Position) → o x ≡ Some ω → Occurs x q → Occurs (x, Some ω) (rename o p q)
+    occurs_kept (var y) o p k h = let i : Some ω ≡ o y = sym k ∙ ap o h in cc
     occurs_kept (neg q) o p k h = occurs_kept q (owners_within o (p ++ (0 ∷ [])) q) (p ++ (0 ∷ [])) (owners_kept o (p ++ (0 ∷ [])) q x ω k) h
     occurs_kept (app f qs) o p k h = occurs_kept_all qs o p 0 k h
 
-    occurs_kept_all : (qs : Antis ℕ) (o : Owner) (p : Position) (i : ℕ) → o x ≡ some ω → OccursIn x qs → OccursIn (x, some ω) (rename_all o p i qs)
+    occurs_kept_all : (qs : Antis ℕ) (o : Owner) (p : Position) (i : ℕ) → o x ≡ Some ω → OccursIn x qs → OccursIn (x, Some ω) (rename_all o p i qs)
     occurs_kept_all ε o p i k h = absurd h
     occurs_kept_all (q ▸ qs) o p i k (inl h) = inl (occurs_kept q o (p ++ (i ∷ [])) k h)
     occurs_kept_all (q ▸ qs) o p i k (inr h) = inr (occurs_kept_all qs o p (suc i) k h)
 
 -- the variables F are those that belong to a level
 record Matched (F : ℕ → Type 0) (G : Scoped → Type 0) (o : Owner) : Type 0 where
-  has : (x : ℕ) → F x → (ω : Position) × (o x ≡ some ω)
-  only : (x : ℕ) (ω : Position) → o x ≡ some ω → F x
+  has : (x : ℕ) → F x → (ω : Position) × (o x ≡ Some ω)
+  only : (x : ℕ) (ω : Position) → o x ≡ Some ω → F x
   knows : Knows G o
   owned : (y : Scoped) → G y → Owned o y
 
@@ -231,10 +237,10 @@ module _ (l : Language) where
         let m' : Matched F' G' o' = matched_within F G o p' q m in (
           λ n d v g h. n (λ x. d (x, o' x)) (λ x. v (x, o' x))
               (λ x u f. let k = m.has x f in
-              let w = g (x, some k.0) (occurs_kept x k.0 q o' p' (owners_kept o p' q x k.0 k.1) u) (m.knows x k.0 k.1) in
+              let w = g (x, Some k.0) (occurs_kept x k.0 q o' p' (owners_kept o p' q x k.0 k.1) u) (m.knows x k.0 k.1) in
               term_trans l (d (x, o' x)) (c (x, o x)) (a x)
               (subst (λ (z : Option Position). l ⊢ d (x, z) ≈ c (x, o x)) (sym (owners_kept o p' q x k.0 k.1))
-              (subst (λ (z : Option Position). l ⊢ d (x, some k.0) ≈ c (x, z)) (sym k.1) w))
+              (subst (λ (z : Option Position). l ⊢ d (x, Some k.0) ≈ c (x, z)) (sym k.1) w))
               (term_sym l (a x) (c (x, o x)) (link x u f)))
               ((renamed q o' p' F' G' (λ x. d (x, o' x)) d t (λ x. inr) m' (λ x u f. same_term_holds l.classes (d (x, o' x)))).1 h),
           λ n b v g h. n (λ y. b y.0) (λ y. v y.0)
@@ -260,22 +266,22 @@ module _ (l : Language) where
 
 module _ (q : Anti ℕ) where
   abbrev own : Owner
-  own = owners_within (λ x. none) [] q
+  own = owners_within (λ x. None) [] q
 
-  own_free : (x : ℕ) (ω : Position) → own x ≡ some ω → Free x q
+  own_free : (x : ℕ) (ω : Position) → own x ≡ Some ω → Free x q
   own_free x ω e =
-      elim (owners_inv (λ x. none) [] q x ω e) [ inl i ↦ absurd (let z : ◌≡◌ {A = ℕ} 0 1 = cc in omega arith) | inr i ↦ i.1 ]
+      elim (owners_inv (λ x. None) [] q x ω e) [ inl i ↦ absurd (let z : ◌≡◌ {A = ℕ} 0 1 = cc in omega arith) | inr i ↦ i.1 ]
 
   matched_apart : Matched (λ x. Free x q) (λ y. Free y (apart q)) own
   matched_apart = record {
-    has = owners_free (λ x. none) [] q;
+    has = owners_free (λ x. None) [] q;
     only = own_free;
     knows = λ x ω e. subst (λ (z : Option Position). Free (x, z) (apart q)) e (free_rename q own [] x (own_free x ω e));
-    owned = owned_free (λ x. none) [] q;
+    owned = owned_free (λ x. None) [] q;
   }
 
   module _ (l : Language) (t : Term) where
-    some_apart : Some l (apart q) t ↔ Some l q t
+    some_apart : SomeOf l (apart q) t ↔ SomeOf l q t
     some_apart = (
       λ s. (λ x. s.0 (x, own x), λ x. s.1 (x, own x), (go (λ x. s.0 (x, own x)) s.0 (λ x. refl)).1 s.2),
       λ s. (λ y. s.0 y.0, λ y. s.1 y.0, (go s.0 (λ y. s.0 y.0) (λ x. refl)).0 s.2),
@@ -286,7 +292,7 @@ module _ (q : Anti ℕ) where
         go a c e = renamed l q own [] (λ x. Free x q) (λ y. Free y (apart q)) a c t (λ x f. f) matched_apart (λ x u f. term_eq l (a x) (c (x, own x)) (e x))
 
     -- in any way
-    in_way : TermOf l t → (w : Way (apart q)) → Semantics l w t ↔ Some l q t
+    in_way : TermOf l t → (w : Way (apart q)) → Semantics l w t ↔ SomeOf l q t
     in_way g w =
         let i = taken l scoped? w (apart_rename q own [] (λ y. Free y (apart q)) matched_apart.has matched_apart.knows) t g in
         let j = some_apart in (λ h. j.0 (i.0 h), λ h. i.1 (j.1 h))
@@ -337,7 +343,7 @@ mutual
 
 module _ (n : ℕ) (q : Anti Scoped) (h : negs q ≤ suc n) (rest : (r : Anti Scoped) → negs r ≤ n → Way r) where
   fresh : Scoped
-  fresh = (bound q, none)
+  fresh = (bound q, None)
 
   take_one : Dec (Outermost q) → Way q
   unfolding fresh
@@ -348,7 +354,7 @@ module _ (n : ℕ) (q : Anti Scoped) (h : negs q ≤ suc n) (rest : (r : Anti Sc
   take_one (no m) = bare m
 
 taking_all : (n : ℕ) (q : Anti Scoped) → negs q ≤ n → Way q
-taking_all zero q h = bare {q = q} (λ ω. omega (arith, negs_put q ω (var (0, none))))
+taking_all zero q h = bare {q = q} (λ ω. omega (arith, negs_put q ω (var (0, None))))
 taking_all (suc n) q h = take_one n q h (λ r k. taking_all n r k) (outermost? q)
 
 taking : (q : Anti Scoped) → Way q
@@ -363,7 +369,7 @@ module _ (l : Language) (q : Anti ℕ) (t : Term) (g : TermOf l t) where
   pub any_way : (w v : Way (apart q)) → Semantics l w t ↔ Semantics l v t
   any_way w v = let i = in_way q l t g w in let j = in_way q l t g v in (λ h. j.1 (i.0 h), λ h. i.1 (j.0 h))
 
-  pub member : (l ⊢ t ∈⟦ q ⟧) ↔ Some l q t
+  pub member : (l ⊢ t ∈⟦ q ⟧) ↔ SomeOf l q t
   member = (λ m. (in_way q l t g m.0).0 m.1, λ s. (some_way q, (in_way q l t g (some_way q)).1 s))
 
   -- the rule enters only where names clash: where they are apart already, 001 alone comes to the same, in any way

@@ -1,8 +1,7 @@
 -- Anti-terms as they are published: source document 001, definitions 2.1 to 2.3.
-use Rattle.std.specs.Prelude.{ℕ, ◌≡◌, ◌⊎◌}
+use Rattle.std.specs.Prelude.{ℕ, ◌≡◌, ◌⊎◌, Option, Some, None}
 use Rattle.std.proofs.Common.{inl, inr}
 use Rattle.std.proofs.Math.Logic.{ite}
-use Rattle.std.proofs.Math.Option.{Option, none, some}
 use Rattle.std.proofs.Math.Decide.{ℕ_discrete}
 use Rattle.term.specs.Term.{Term, node, Terms, nil, ◌::◌}
 
@@ -80,8 +79,8 @@ abbrev pub Substitution : Type 0
 Substitution = ℕ → Option Term
 
 abbrev pub value : Option Term → ℕ → Anti ℕ
-value none x = var x
-value (some t) x = ground_term t
+value None x = var x
+value (Some t) x = ground_term t
 
 infix 80 ◌⟨◌⟩
 abbrev pub ◌⟨◌⟩ : Substitution → Anti ℕ → Anti ℕ

@@ -1,6 +1,5 @@
 -- What is demanded of the search, of its answer and of the published definition, in a language. The theorems are in proofs/Demands.
-use Rattle.std.specs.Prelude.{ℕ, zero, ◌<◌, ◌≤◌, ◌≡◌, ◌⊎◌, ◌↔◌, List, [], ◌∷◌, map, true, false, length, get_or}
-use Rattle.std.proofs.Math.Option.{none, some}
+use Rattle.std.specs.Prelude.{ℕ, zero, ◌<◌, ◌≤◌, ◌≡◌, ◌⊎◌, ◌↔◌, List, [], ◌∷◌, map, true, false, length, get_or, Some, None}
 use Rattle.answers.specs.Part.{part, absent}
 use Rattle.answers.specs.declared.Part.{Part}
 use Rattle.term.specs.Pattern.{Pattern}
@@ -62,8 +61,8 @@ module _ (l : Language) where
   module _ (q : Pattern) (t : Term) where
     -- 1. What the search finds satisfies, and every other satisfying assignment has later run lengths; where it fails, none satisfies.
     pub record SearchDecides : Type 0 where
-      pub found_first : (e : Env) → first_answer (whole l q t).out ≡ some e → First q t e.value
-      pub failed_none : first_answer (whole l q t).out ≡ none → Unsatisfied q t
+      pub found_first : (e : Env) → first_answer (whole l q t).out ≡ Some e → First q t e.value
+      pub failed_none : first_answer (whole l q t).out ≡ None → Unsatisfied q t
       -- "Equal lists mean equal satisfying assignments."
       pub equal_lengths : (a b : Assignment) → Satisfies l q t a → Satisfies l q t b → run_lengths q a ≡ run_lengths q b → CountAsOne l a b
 
@@ -71,7 +70,7 @@ module _ (l : Language) where
     pub record PartsShown : Type 0 where
       pub shown_at_first_place : (e : Env) → Member e (answers (whole l q t).out) → parts l.table e ≡ parts_at l.table q t e.value
       pub free_placed : (a : Assignment) → Satisfies l q t a → (v : ℕ) → among v (free q) ≡ true
-          → (at : ℕ) × (w : Terms) × (place l.table q t zero a v none ≡ some at) × (a v ≡ some w)
+          → (at : ℕ) × (w : Terms) × (place l.table q t zero a v None ≡ Some at) × (a v ≡ Some w)
       pub others_absent : (a : Assignment) → Satisfies l q t a → (v : ℕ) → among v (free q) ≡ false → variable_part l.table q t a v ≡ absent
 
     -- 3. Spent exactly when the count is over the allowance; otherwise bound or none, by the meaning alone, with the count.

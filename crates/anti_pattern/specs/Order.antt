@@ -1,6 +1,5 @@
 -- Which of two satisfying assignments is the first: document 01's "First".
-use Rattle.std.specs.Prelude.{ℕ, zero, ◌<◌, ◌≡◌, ◌⊎◌, List, [], ◌∷◌, map}
-use Rattle.std.proofs.Math.Option.{Option, none, some}
+use Rattle.std.specs.Prelude.{ℕ, zero, ◌<◌, ◌≡◌, ◌⊎◌, List, [], ◌∷◌, map, Option, Some, None}
 use Rattle.term.specs.Term.{Terms, count}
 use Rattle.term.specs.Pattern.{Pattern}
 use Rattle.anti_pattern.specs.Variables.{free_runs}
@@ -8,8 +7,8 @@ use Rattle.anti_pattern.specs.Meaning.{Assignment}
 
 -- the length of what is assigned, in elements
 abbrev pub length_of : Option Terms → ℕ
-length_of none = zero
-length_of (some w) = count w
+length_of None = zero
+length_of (Some w) = count w
 
 -- "the lengths, in elements, of the free run names in order of their first place outside complements"
 abbrev pub run_lengths : Pattern → Assignment → List ℕ

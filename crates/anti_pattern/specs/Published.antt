@@ -1,7 +1,6 @@
 -- Anti-pattern matching as it is published, in a language: source document 001, definition 3.2, for patterns without run names. A list symbol with
 -- n children is a symbol with n children.
-use Rattle.std.specs.Prelude.{ℕ, ◌≡◌}
-use Rattle.std.proofs.Math.Option.{Option, none, some}
+use Rattle.std.specs.Prelude.{ℕ, ◌≡◌, Option, Some, None}
 use Rattle.term.specs.Pattern.{Pattern, name, symbol, complement, Children, end, plain, run}
 use Rattle.term.specs.Term.{Term, Terms, single}
 use Rattle.anti_pattern.specs.AntiTerm.{Anti, var, neg, app, Antis, ε, ◌▸◌, Free, Substitution, ◌⟨◌⟩}
@@ -17,7 +16,7 @@ l ⊢ t ∈⟦ q ⟧ = (w : Way (apart q)) × Semantics l w t
 
 -- Definition 3.2: a solution of q ≪ t is a grounding substitution σ with t ∈ ⟦σ(q)⟧, here of the free variables of q only
 pub record Solution (l : Language) (q : Anti ℕ) (t : Term) (σ : Substitution) : Type 0 where
-  pub domain : (x : ℕ) (u : Term) → σ x ≡ some u → Free x q × TermOf l u
+  pub domain : (x : ℕ) (u : Term) → σ x ≡ Some u → Free x q × TermOf l u
   pub grounding : (x : ℕ) → Free x (σ ⟨ q ⟩) → ⊥
   pub member : l ⊢ t ∈⟦ σ ⟨ q ⟩ ⟧
 
@@ -47,8 +46,8 @@ abbrev mutual
 
 -- a substitution as an assignment
 abbrev pub singly : Option Term → Option Terms
-singly none = none
-singly (some t) = some (single t)
+singly None = None
+singly (Some t) = Some (single t)
 
 abbrev pub assignment : Substitution → Assignment
 assignment σ x = singly (σ x)

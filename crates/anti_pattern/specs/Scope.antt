@@ -1,7 +1,6 @@
 -- Document 01's rule of scope, where source document 001 leaves a choice: each name is renamed by the level that it belongs to.
-use Rattle.std.specs.Prelude.{ℕ, suc, ◌⊎◌, List, [], ◌∷◌, ◌++◌}
+use Rattle.std.specs.Prelude.{ℕ, suc, ◌⊎◌, List, [], ◌∷◌, ◌++◌, Option, Some, None}
 use Rattle.std.proofs.Math.Logic.{ite}
-use Rattle.std.proofs.Math.Option.{Option, none, some}
 use Rattle.anti_pattern.specs.AntiTerm.{Anti, var, neg, app, Antis, ε, ◌▸◌, Free, free?, Occurs, OccursIn}
 
 -- a level is the whole pattern or the inside of a complement, told by its position: a sequence of numbers, where the inside of a
@@ -16,11 +15,11 @@ Owner = ℕ → Option Position
 -- in the level q at p: "a name that is free further out is fixed within a complement; any other belongs to the outermost complement
 -- within which it is free"
 abbrev pub belongs : Option Position → Option Position → Option Position
-belongs (some outer) here = some outer
-belongs none here = here
+belongs (Some outer) here = Some outer
+belongs None here = here
 
 abbrev pub owners_within : Owner → Position → Anti ℕ → Owner
-owners_within o p q x = belongs (o x) (ite (free? x q) (some p) none)
+owners_within o p q x = belongs (o x) (ite (free? x q) (Some p) None)
 
 -- a name, and the level that it belongs to
 abbrev pub Scoped : Type 0
@@ -39,7 +38,7 @@ abbrev mutual
 
 -- the names renamed apart
 abbrev pub apart : Anti ℕ → Anti Scoped
-apart q = rename (owners_within (λ x. none) [] q) [] q
+apart q = rename (owners_within (λ x. None) [] q) [] q
 
 -- the names of q are apart, where the variables F are free in q or further out: what stands in two children is one of F
 abbrev mutual

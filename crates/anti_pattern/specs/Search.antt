@@ -1,8 +1,7 @@
 -- The counted search: document 01's "The count". What comes after a pair is a function of the assignments made so far and of the
 -- complements put by. "Symbols of one class count as the same wherever a symbol or two parts are compared"; a call that brings no class list
 -- has the empty one.
-use Rattle.std.specs.Prelude.{ℕ, zero, suc, ◌+◌, List, [], ◌∷◌, ◌++◌, Bool, true, false, cond, eqb}
-use Rattle.std.proofs.Math.Option.{Option, none, some}
+use Rattle.std.specs.Prelude.{ℕ, zero, suc, ◌+◌, List, [], ◌∷◌, ◌++◌, Bool, true, false, cond, eqb, Option, Some, None}
 use Rattle.term.specs.Class.{class_of}
 use Rattle.term.specs.Table.{width}
 use Rattle.term.specs.Term.{Term, Terms, node, nil, ◌::◌, ◌⧺◌, single, size, sizes}
@@ -20,7 +19,7 @@ abbrev pub update : {A : Type 0} → (ℕ → A) → ℕ → A → ℕ → A
 update f v x i = cond (eqb v i) x (f i)
 
 abbrev pub bind : Env → ℕ → ℕ → Terms → Env
-bind e v at w = record { value = update e.value v (some w); offset = update e.offset v at }
+bind e v at w = record { value = update e.value v (Some w); offset = update e.offset v at }
 
 abbrev pub start : Env
 start = record { value = unassigned; offset = λ v. zero }
@@ -31,8 +30,8 @@ pub data Answers : Type 0 where
   failed : Answers
 
 abbrev pub first_answer : Answers → Option Env
-first_answer (found e n o) = some e
-first_answer failed = none
+first_answer (found e n o) = Some e
+first_answer failed = None
 
 -- the answers, each by the search resumed after the one before it
 abbrev pub answers : Answers → List Env
@@ -64,8 +63,8 @@ if_true true f = f tt
 if_true false f = fail
 
 abbrev pub if_some : {A : Type 0} → Option A → (A → Result) → Result
-if_some none f = fail
-if_some (some x) f = f x
+if_some None f = fail
+if_some (Some x) f = f x
 
 -- the answers of the first result, and where these end those of the second
 abbrev pub after : Answers → ℕ → (Unit {0} → Result) → Result
@@ -119,22 +118,22 @@ try_fresh (only n) ts f = counted (exactly n nil ts f)
 module _ (classes : List ℕ) where
   -- "An unassigned name takes the node; an assigned one must equal it."
   abbrev pub same_or : Option Terms → Terms → Env → Env → Option Env
-  same_or none w e fresh = some fresh
-  same_or (some x) w e fresh = cond (same_terms classes x w) (some e) none
+  same_or None w e fresh = Some fresh
+  same_or (Some x) w e fresh = cond (same_terms classes x w) (Some e) None
 
   abbrev pub assign : Env → ℕ → ℕ → Terms → Option Env
   assign e v at w = same_or (e.value v) w e (bind e v at w)
 
   -- what is left of the second sequence behind the first, where it begins with it
   unfoldable pub behind : Terms → Terms → Option Terms
-  behind nil us = some us
-  behind (t :: ts) nil = none
-  behind (t :: ts) (u :: us) = cond (same_term classes t u) (behind ts us) none
+  behind nil us = Some us
+  behind (t :: ts) nil = None
+  behind (t :: ts) (u :: us) = cond (same_term classes t u) (behind ts us) None
 
   -- an assigned run name "tries its own length only, counted even where it doesn't fit, and the elements there must equal its run"
   abbrev pub try_run : Option Terms → Tries → Terms → (Terms → Terms → Result) → (Terms → Terms → Result) → Result
-  try_run none how ts fresh same = try_fresh how ts fresh
-  try_run (some w) how ts fresh same = counted (if_some (behind w ts) (same w))
+  try_run None how ts fresh same = try_fresh how ts fresh
+  try_run (Some w) how ts fresh same = counted (if_some (behind w ts) (same w))
 
 module _ (table classes : List ℕ) where
   unfoldable mutual

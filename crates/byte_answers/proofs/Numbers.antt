@@ -2,9 +2,10 @@
 use native.Mathlib.Omega.{arith}
 use mathlib.Core.Path.{◌≡◌, refl}
 use Rattle.answers.proofs.Numbers.{numbered}
-use Rattle.byte_answers.specs.Answers.{checked_number, checked_count}
-use Rattle.byte_answers.specs.declared.Checked.{Checked}
+use Rattle.answers.specs.Shown.{fault_number, size_told}
+use Rattle.std.specs.Prelude.{ℕ, Result, Ok, Err}
+use Rattle.answers.specs.declared.Fault.{Fault}
 
-pub accepted_number : (c : Checked) → checked_number c ≡ 0 → c ≡ Checked.Accepted (checked_count c)
-accepted_number (Checked.Accepted n) z = refl
-accepted_number (Checked.Refused r i) z = absurd (omega (arith, numbered r))
+pub accepted_number : (c : Result ℕ Fault) → fault_number c ≡ 0 → c ≡ Ok (size_told c)
+accepted_number (Ok n) z = refl
+accepted_number (Err f) z = absurd (omega (arith, numbered f.refusal))

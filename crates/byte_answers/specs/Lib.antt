@@ -1,2 +1,2 @@
--- What reading and writing bytes answers: document 01's number, and the values beside it.
+-- What reading and writing bytes answers beside a length.
 pub mod Answers

@@ -4,7 +4,6 @@ use native.Mathlib.Omega.{arith}
 use mathlib.Core.Path.{◌≡◌, refl, sym, ◌∙◌, ap}
 use mathlib.Core.Logic.{◌↔◌}
 use mathlib.Core.List.{List, ◌++◌}
-use mathlib.Core.Option.{Option, none, some}
 use mathlib.Core.Bool.{true}
 use lib.ListN.{length, drop, length-append, length-drop, drop_of_length-le}
 use lib.Seq.{drop_at}
@@ -19,6 +18,7 @@ use Rattle.call.specs.Verdict.{Verdict, passed, fault}
 use Rattle.call.specs.Call.{checks, answer_by, written, buffer_by}
 use Rattle.call.specs.Demands.{Handled}
 use Rattle.call.proofs.Checks.{passed_exactly}
+use Rattle.std.specs.Prelude.{Option, Some, None}
 
 -- numbers that leave a buffer's length as it is leave what lies past 144
 past_numbers : (ns before : List ℕ) → length (ns ++ drop answer_width before) ≡ length before → drop answer_width (ns ++ drop answer_width before) ≡ drop answer_width before
@@ -30,8 +30,8 @@ past_numbers ns before same = go (split (length before) answer_width)
         drop_at ns (drop answer_width before) answer_width (omega (arith, sym same ∙ length-append ns (drop answer_width before), length-drop answer_width before))
 
 past_written : (o : Option (List Part)) (before : List ℕ) → length (written o before) ≡ length before → drop answer_width (written o before) ≡ drop answer_width before
-past_written none before same = refl
-past_written (some ps) before same = past_numbers (numbers ps) before same
+past_written None before same = refl
+past_written (Some ps) before same = past_numbers (numbers ps) before same
 
 module _ {X A : Type 0} (refused : Refusal → ℕ → A) (told : X → A) (bound : X → Option (List Part)) where
   -- what is told shows: a refusal has its number and count 0, and what is not bound writes nothing
@@ -39,7 +39,7 @@ module _ {X A : Type 0} (refused : Refusal → ℕ → A) (told : X → A) (boun
     pub numbered : (r : Refusal) (i : ℕ) → number (refused r i) ≡ number_of r
     pub uncounted : (r : Refusal) (i : ℕ) → count (refused r i) ≡ 0
     pub told_uncounted : (x : X) (r : Refusal) → number (told x) ≡ number_of r → count (told x) ≡ 0
-    pub unbound : (x : X) → (number (told x) ≡ 0 → ⊥) → bound x ≡ none
+    pub unbound : (x : X) → (number (told x) ≡ 0 → ⊥) → bound x ≡ None
 
   module _ (before : List ℕ) where
     past_by : (v : Verdict X) → length (buffer_by bound v before) ≡ length before → drop answer_width (buffer_by bound v before) ≡ drop answer_width before

@@ -1,7 +1,6 @@
 -- A call with an answer buffer, on all inputs: the checks in order, then the answer and the final buffer. A call gives its own reading of its input
 -- (of type X) and its work on what was read.
-use Rattle.std.specs.Prelude.{ℕ, List, ◌++◌, drop, leb}
-use Rattle.std.proofs.Math.Option.{Option, none, some}
+use Rattle.std.specs.Prelude.{ℕ, List, ◌++◌, drop, leb, Option, Some, None}
 use Rattle.answers.specs.declared.Part.{Part}
 use Rattle.answers.specs.declared.Refusal.{Refusal}
 use Rattle.answers.specs.declared.Refusal.TheVariants.{Table, Narrow, Class}
@@ -22,8 +21,8 @@ answer_by refused told (passed x) = told x
 
 -- the answer buffer, which held `before`, by the part of each variable where the answer is bound: "what lies past 144 stays"
 abbrev pub written : Option (List Part) → List ℕ → List ℕ
-written none before = before
-written (some parts) before = numbers parts ++ drop answer_width before
+written None before = before
+written (Some parts) before = numbers parts ++ drop answer_width before
 
 -- "All but bound leave the answer buffer untouched."
 abbrev pub buffer_by : {X : Type 0} → (X → Option (List Part)) → Verdict X → List ℕ → List ℕ

@@ -11,10 +11,6 @@ use Rattle.answers.specs.Refusal.{number_of}
 use Rattle.answers.specs.Answers.{cost_number, cost_count}
 use Rattle.answers.specs.declared.Refusal.{Refusal}
 use Rattle.answers.specs.declared.Refusal.TheVariants.{Table, Class}
-use Rattle.answers.specs.declared.Cost.{Cost}
-use Rattle.answers.specs.declared.Cost.TheVariants.{AtMost, NoBound}
-use Rattle.byte_answers.specs.declared.Read.{Read}
-use Rattle.byte_answers.specs.declared.Read.TheVariants.{Ends}
 use Rattle.term.specs.Limits.{Octets, nesting, longest_pattern, PatternAccepted}
 use Rattle.term.specs.Pattern.{Pattern}
 use Rattle.reader.specs.Brought.{Brought, language_of, brought_accepted}
@@ -32,11 +28,12 @@ use Rattle.cost.specs.Call.{cost_of}
 use Rattle.cost.specs.Demands.{Input, Costs, Demanded}
 use Rattle.cost.specs.Tally.{tally}
 use Rattle.cost.proofs.Tally.{tally_pattern}
+use Rattle.std.specs.Prelude.{Result, Ok, Err, Option, Some, None}
 
-refused_count : (c : Cost) (r : Refusal) → cost_number c ≡ number_of r → cost_count c ≡ 0
-refused_count (AtMost n) r e = absurd (word_or_refusal 0 refl r e)
-refused_count NoBound r e = refl
-refused_count (Cost.Refused x) r e = refl
+refused_count : (c : Result (Option ℕ) Refusal) (r : Refusal) → cost_number c ≡ number_of r → cost_count c ≡ 0
+refused_count (Ok (Some n)) r e = absurd (word_or_refusal 0 refl r e)
+refused_count (Ok None) r e = refl
+refused_count (Err x) r e = refl
 
 table_small : (table : List ℕ) → table_accepted table ≡ true → length table ≤ largest_table
 unfolding table_accepted
@@ -48,7 +45,7 @@ table_small table t = go (leb (length table) largest_table) refl t
 
 -- of an accepted pattern
 module _ (l : Language) (q : Pattern) (accepted : PatternAccepted l q) where
-  costs_by : (b : Bool) → has_runs q ≡ b → Costs l.table q (cond b NoBound (AtMost (nodes q)))
+  costs_by : (b : Bool) → has_runs q ≡ b → Costs l.table q (cond b (Ok None) (Ok (Some (nodes q))))
   costs_by false e =
       let n = (runs_exactly q).0 e in record {
         bound_exactly = (λ h. n, λ h. refl);
@@ -74,15 +71,15 @@ module _ (l : Language) (q : Pattern) (accepted : PatternAccepted l q) where
 module _ (brought : Brought) (pattern : List ℕ) where
   -- by what is told of each check
 
-  table_refused : table_accepted brought.table ≡ false → Cost.Refused Table ≡ cost_of brought pattern
+  table_refused : table_accepted brought.table ≡ false → Err Table ≡ cost_of brought pattern
   unfolding cost_of
   table_refused t = rw t
 
-  class_refused : table_accepted brought.table ≡ true → brought_accepted brought ≡ false → Cost.Refused Class ≡ cost_of brought pattern
+  class_refused : table_accepted brought.table ≡ true → brought_accepted brought ≡ false → Err Class ≡ cost_of brought pattern
   unfolding cost_of
   class_refused t l = rw (t, l)
 
-  pattern_refused : (r : Refusal) → table_accepted brought.table ≡ true → brought_accepted brought ≡ true → read_pattern (language_of brought) pattern ≡ refused r → Cost.Refused r ≡ cost_of brought pattern
+  pattern_refused : (r : Refusal) → table_accepted brought.table ≡ true → brought_accepted brought ≡ true → read_pattern (language_of brought) pattern ≡ refused r → Err r ≡ cost_of brought pattern
   unfolding cost_of
   pattern_refused r t l e = rw (t, l, e)
 
@@ -91,7 +88,7 @@ module _ (brought : Brought) (pattern : List ℕ) where
     read_input q n t l e =
         let r = pattern_read (language_of brought) pattern octets n q e in record { table_accepted_holds = t; list_accepted_holds = l; pattern_bytes_holds = r.0; pattern_accepted = r.1 }
 
-    input_cost : (q : Pattern) → Input brought pattern q → cost_of brought pattern ≡ cond (has_runs q) NoBound (AtMost (nodes q))
+    input_cost : (q : Pattern) → Input brought pattern q → cost_of brought pattern ≡ cond (has_runs q) (Ok None) (Ok (Some (nodes q)))
     unfolding cost_of
     input_cost q i = rw (i.table_accepted_holds, i.list_accepted_holds, (pattern_iff (language_of brought) pattern octets q).1 (i.pattern_bytes_holds, i.pattern_accepted))
 
@@ -105,7 +102,7 @@ module _ (brought : Brought) (pattern : List ℕ) where
       costs = λ q i. subst (Costs brought.table q) (sym (input_cost q i)) (costs_by (language_of brought) q i.pattern_accepted (has_runs q) refl);
     }
       where
-        no_refusal : (b : Bool) (n : ℕ) (r : Refusal) → cost_number (cond b NoBound (AtMost n)) ≡ number_of r → ⊥
+        no_refusal : (b : Bool) (n : ℕ) (r : Refusal) → cost_number (cond b (Ok None) (Ok (Some n))) ≡ number_of r → ⊥
         no_refusal true n r e = word_or_refusal 10 refl r e
         no_refusal false n r e = word_or_refusal 0 refl r e
 
@@ -117,34 +114,34 @@ module _ (brought : Brought) (pattern : List ℕ) where
         refused_by_holds true t true l (read q n) e h = absurd (h q (read_input q n t l e))
 
     -- the whole contract
-    abbrev Called : Cost → Type 0
+    abbrev Called : Result (Option ℕ) Refusal → Type 0
     Called c = (c ≡ cost_of brought pattern) × Demanded brought pattern c
 
-    called : (c : Cost) → c ≡ cost_of brought pattern → Called c
+    called : (c : Result (Option ℕ) Refusal) → c ≡ cost_of brought pattern → Called c
     called c e = (e, subst (Demanded brought pattern) (sym e) demanded)
 
-    pub table_fails : table_accepted brought.table ≡ false → Called (Cost.Refused Table)
-    table_fails t = called (Cost.Refused Table) (table_refused t)
+    pub table_fails : table_accepted brought.table ≡ false → Called (Err Table)
+    table_fails t = called (Err Table) (table_refused t)
 
-    pub class_fails : table_accepted brought.table ≡ true → brought_accepted brought ≡ false → Called (Cost.Refused Class)
-    class_fails t l = called (Cost.Refused Class) (class_refused t l)
+    pub class_fails : table_accepted brought.table ≡ true → brought_accepted brought ≡ false → Called (Err Class)
+    class_fails t l = called (Err Class) (class_refused t l)
 
-    pub pattern_fails : table_accepted brought.table ≡ true → brought_accepted brought ≡ true → (r : Refusal) → shown (read_pattern (language_of brought) pattern) ≡ Read.Refused r → Called (Cost.Refused r)
-    pattern_fails t l r e = called (Cost.Refused r) (pattern_refused r t l (refused_shown (read_pattern (language_of brought) pattern) r e))
+    pub pattern_fails : table_accepted brought.table ≡ true → brought_accepted brought ≡ true → (r : Refusal) → shown (read_pattern (language_of brought) pattern) ≡ Err r → Called (Err r)
+    pattern_fails t l r e = called (Err r) (pattern_refused r t l (refused_shown (read_pattern (language_of brought) pattern) r e))
 
     -- where all pass, the nodes are counted
-    module _ (t : table_accepted brought.table ≡ true) (l : brought_accepted brought ≡ true) (n : ℕ) (e : shown (read_pattern (language_of brought) pattern) ≡ Ends n) where
+    module _ (t : table_accepted brought.table ≡ true) (l : brought_accepted brought ≡ true) (n : ℕ) (e : shown (read_pattern (language_of brought) pattern) ≡ Ok n) where
       passed : (q : Pattern) × Input brought pattern q
       passed = let r = ends_shown (read_pattern (language_of brought) pattern) n e in (r.0, read_input r.0 n t l r.1)
 
       pub passes_short : length pattern ≤ longest_pattern
       passes_short = let p = passed in subst (λ (s : List ℕ). length s ≤ longest_pattern) p.1.pattern_bytes_holds p.1.pattern_accepted.short
 
-      pub passes_counted : (c : Cost) → c ≡ tally brought.table pattern false 0 → Called c
+      pub passes_counted : (c : Result (Option ℕ) Refusal) → c ≡ tally brought.table pattern false 0 → Called c
       unfolding tally
       passes_counted c h =
           let p = passed in
           let z : 0 + nodes p.0 ≡ nodes p.0 = omega arith in
           called c (h ∙ ap (λ (s : List ℕ). tally brought.table s false 0) (sym p.1.pattern_bytes_holds)
           ∙ tally_pattern brought.table (table_small brought.table t) p.0 nesting false 0 [] p.1.pattern_accepted.fits
-          ∙ ap (λ (k : ℕ). cond (has_runs p.0) NoBound (AtMost k)) z ∙ sym (input_cost p.0 p.1))
+          ∙ ap (λ (k : ℕ). cond (has_runs p.0) (Ok None) (Ok (Some k))) z ∙ sym (input_cost p.0 p.1))

@@ -1,9 +1,8 @@
 -- What is demanded of the call, document 02's L14: of its answer `c`.
-use Rattle.std.specs.Prelude.{ℕ, ◌≤◌, ◌≡◌, ◌↔◌, List, [], true}
+use Rattle.std.specs.Prelude.{ℕ, ◌≤◌, ◌≡◌, ◌↔◌, List, [], true, Result, Option}
 use Rattle.answers.specs.Refusal.{number_of}
 use Rattle.answers.specs.Answers.{cost_number, cost_count}
 use Rattle.answers.specs.declared.Refusal.{Refusal}
-use Rattle.answers.specs.declared.Cost.{Cost}
 use Rattle.term.specs.declared.Edition.{Edition}
 use Rattle.term.specs.Limits.{PatternAccepted}
 use Rattle.term.specs.Pattern.{Pattern, pattern_bytes}
@@ -24,7 +23,7 @@ pub record Input (brought : Brought) (pattern : List ℕ) (q : Pattern) : Type 0
   pub pattern_accepted : PatternAccepted (language_of brought) q
 
 -- of an accepted pattern
-pub record Costs (table : List ℕ) (q : Pattern) (c : Cost) : Type 0 where
+pub record Costs (table : List ℕ) (q : Pattern) (c : Result (Option ℕ) Refusal) : Type 0 where
   -- a bound exactly where there are no run names: the number of the pattern's nodes
   pub bound_exactly : (cost_number c ≡ 0) ↔ NoRuns q
   pub shows_nodes : NoRuns q → cost_count c ≡ nodes q
@@ -37,7 +36,7 @@ pub record Costs (table : List ℕ) (q : Pattern) (c : Cost) : Type 0 where
   pub none_exactly : (cost_number c ≡ 10) ↔ (NoRuns q → ⊥)
   pub none_shows : (NoRuns q → ⊥) → cost_count c ≡ 0
 
-pub record Demanded (brought : Brought) (pattern : List ℕ) (c : Cost) : Type 0 where
+pub record Demanded (brought : Brought) (pattern : List ℕ) (c : Result (Option ℕ) Refusal) : Type 0 where
   -- refused exactly when the table, the class list or the pattern is not accepted; a refusal shows 0
   pub refused_exactly : ((r : Refusal) × (cost_number c ≡ number_of r)) ↔ ((q : Pattern) → Input brought pattern q → ⊥)
   pub refused_shows : (r : Refusal) → cost_number c ≡ number_of r → cost_count c ≡ 0

@@ -4,7 +4,6 @@ use mathlib.Core.Path.{◌≡◌, refl, sym, ◌∙◌, ap, subst}
 use mathlib.Core.Logic.{◌⊎◌, inl, inr}
 use mathlib.Core.List.{List, ◌++◌}
 use mathlib.Core.Bool.{Bool, true, false, cond}
-use mathlib.Core.Option.{Option, none, some}
 use native.Mathlib.Omega.{arith}
 use lib.Dec.{leb}
 use lib.ListN.{length, drop}
@@ -12,7 +11,7 @@ use lib.Seq.{drop-append_seam}
 use borrow.Author.Tests.{le-leb, lt-leb, leb-true, leb-false}
 use Rattle.answers.specs.Answers.{applied_number, applied_count, applied_length}
 use Rattle.answers.specs.Refusal.{number_of}
-use Rattle.answers.specs.declared.Applied.TheVariants.{Bound, Refused}
+use Rattle.answers.specs.declared.Applied.TheVariants.{Bound}
 use Rattle.answers.specs.declared.Refusal.{Refusal}
 use Rattle.answers.specs.declared.Refusal.TheVariants.{Long, Full, NoExample}
 use Rattle.answers.proofs.Numbers.{word_or_refusal}
@@ -38,6 +37,7 @@ use Rattle.example.specs.Least.{bytes_in, Candidate}
 use Rattle.example.specs.Trial.{Trial, shows, no_example, spent_at, example}
 use Rattle.example.proofs.Exact.{ExampleExact, exact_of}
 use Rattle.example.proofs.Larger.{larger_example}
+use Rattle.std.specs.Prelude.{Ok, Err, Option, Some, None}
 
 -- what is demanded, by what the candidates come to
 
@@ -81,7 +81,7 @@ module _ (l : Language) (q : Pattern) (allowance size : ℕ) (exact : ExampleExa
   by_trial (shows s n) e = go (leb (length s) (length before)) refl
     where
       go : (m : Bool) → leb (length s) (length before) ≡ m
-          → Answered l q allowance size before (cond m (Bound n (length s)) (Refused Full)) (cond m (s ++ drop (length s) before) before)
+          → Answered l q allowance size before (cond m (Ok (Bound n (length s))) (Err Full)) (cond m (s ++ drop (length s) before) before)
       go true z =
           let h : length s ≤ length before = leb-true (length s) (length before) z in
           let w = shown_reached s n e in
@@ -132,8 +132,8 @@ module _ (l : Language) (q : Pattern) (allowance size : ℕ) (exact : ExampleExa
 uncounted : (x : Trial) (room : ℕ) → (applied_number (example_by x room) ≡ 0 → ⊥) → (applied_number (example_by x room) ≡ 11 → ⊥) → applied_count (example_by x room) ≡ 0
 uncounted (shows s n) room d g = go (leb (length s) room) d
   where
-    go : (m : Bool) → (applied_number (cond m (Bound n (length s)) (Refused Full)) ≡ 0 → ⊥)
-        → applied_count (cond m (Bound n (length s)) (Refused Full)) ≡ 0
+    go : (m : Bool) → (applied_number (cond m (Ok (Bound n (length s))) (Err Full)) ≡ 0 → ⊥)
+        → applied_count (cond m (Ok (Bound n (length s))) (Err Full)) ≡ 0
     go true y = absurd (y refl)
     go false y = refl
 uncounted no_example room d g = refl
@@ -143,8 +143,8 @@ untouched : (x : Trial) (before : List ℕ) → (applied_number (example_by x (l
     → (applied_length (example_by x (length before)) ≡ 0) × (output_by x before ≡ before)
 untouched (shows s n) before d = go (leb (length s) (length before)) d
   where
-    go : (m : Bool) → (applied_number (cond m (Bound n (length s)) (Refused Full)) ≡ 0 → ⊥)
-        → (applied_length (cond m (Bound n (length s)) (Refused Full)) ≡ 0) × (cond m (s ++ drop (length s) before) before ≡ before)
+    go : (m : Bool) → (applied_number (cond m (Ok (Bound n (length s))) (Err Full)) ≡ 0 → ⊥)
+        → (applied_length (cond m (Ok (Bound n (length s))) (Err Full)) ≡ 0) × (cond m (s ++ drop (length s) before) before ≡ before)
     go true y = absurd (y refl)
     go false y = (refl, refl)
 untouched no_example before d = (refl, refl)
@@ -154,8 +154,8 @@ past_stays : (x : Trial) (before : List ℕ)
     → drop (applied_length (example_by x (length before))) (output_by x before) ≡ drop (applied_length (example_by x (length before))) before
 past_stays (shows s n) before = go (leb (length s) (length before))
   where
-    go : (m : Bool) → drop (applied_length (cond m (Bound n (length s)) (Refused Full))) (cond m (s ++ drop (length s) before) before)
-        ≡ drop (applied_length (cond m (Bound n (length s)) (Refused Full))) before
+    go : (m : Bool) → drop (applied_length (cond m (Ok (Bound n (length s))) (Err Full))) (cond m (s ++ drop (length s) before) before)
+        ≡ drop (applied_length (cond m (Ok (Bound n (length s))) (Err Full))) before
     go true = drop-append_seam s (drop (length s) before)
     go false = refl
 past_stays no_example before = refl
@@ -166,8 +166,8 @@ refused_which : (x : Trial) (room : ℕ) (r : Refusal) → applied_number (examp
     → (applied_number (example_by x room) ≡ 12) ⊎ (applied_number (example_by x room) ≡ 22)
 refused_which (shows s n) room r e = go (leb (length s) room) e
   where
-    go : (m : Bool) → applied_number (cond m (Bound n (length s)) (Refused Full)) ≡ number_of r
-        → (applied_number (cond m (Bound n (length s)) (Refused Full)) ≡ 12) ⊎ (applied_number (cond m (Bound n (length s)) (Refused Full)) ≡ 22)
+    go : (m : Bool) → applied_number (cond m (Ok (Bound n (length s))) (Err Full)) ≡ number_of r
+        → (applied_number (cond m (Ok (Bound n (length s))) (Err Full)) ≡ 12) ⊎ (applied_number (cond m (Ok (Bound n (length s))) (Err Full)) ≡ 22)
     go true y = absurd (word_or_refusal 0 refl r y)
     go false y = inl refl
 refused_which no_example room r e = inr refl
@@ -220,8 +220,8 @@ module _ (brought : Brought) (pattern : List ℕ) (size : ℕ) where
   }
     where
       go : (o : Option (List ℕ)) → list_accepted brought.table o ≡ true → Classed (language_in brought.edition brought.table o)
-      go none e = inl refl
-      go (some c) e = inr e
+      go None e = inl refl
+      go (Some c) e = inr e
 
   module _ (octets : Octets pattern) (allowance : ℕ) (before : List ℕ) where
     module _ (q : Pattern) (e : checked brought pattern size ≡ passed q) where

@@ -2,6 +2,7 @@
 use Prim.Native.Nat.{ℕ, zero, suc, ◌+◌, ◌-◌, ◌<◌, ◌≤◌}
 use mathlib.Core.Path.{◌≡◌, refl, sym, ◌∙◌, ap, subst}
 use mathlib.Core.List.{List, [], ◌∷◌}
+use mathlib.Core.Logic.{inl, inr}
 use mathlib.Core.Bool.{Bool, true, false, cond}
 use native.Mathlib.Omega.{arith}
 use lib.Dec.{eqb}
@@ -26,9 +27,7 @@ use Rattle.anti_pattern.proofs.Facts.{head_same}
 use Rattle.anti_pattern.proofs.Within.{accepted_of}
 use Rattle.example.specs.Inner.{Rule, DownBy, FrontAt, TriesNext}
 use Rattle.example.specs.Odometer.{Skips}
-use Rattle.example.specs.declared.Down.TheVariants.{One, Two}
-use Rattle.example.specs.declared.Probe.TheVariants.{Dead}
-use Rattle.example.specs.declared.Tried.TheVariants.{Over}
+use Rattle.std.specs.Prelude.{Some, Ok}
 use Rattle.example.proofs.Probes.{take_get, take_less}
 use Rattle.example.proofs.Twins.{classed_alike}
 use Rattle.example.specs.Least.{bytes_in, Passed}
@@ -283,27 +282,25 @@ module _ (table classes pattern s : List ℕ) (allowance : ℕ) where
     next : allowance - (left - 1) ≡ allowance - left + 1
     next = omega (arith, more, h.spare)
 
-    pub fronted_dead : eqb (class_of classes (get_or pattern i 0)) (class_of classes (get_or s at 0)) ≡ false → FrontAt table classes pattern s allowance (Dead (at + 1))
+    pub fronted_dead : eqb (class_of classes (get_or pattern i 0)) (class_of classes (get_or s at 0)) ≡ false → FrontAt table classes pattern s allowance (Some (at + 1))
     fronted_dead e edition =
         fronting_dead (language edition table classes) pattern s i at (allowance - left) (h.fronting edition) low (eqb-false (class_of classes (get_or pattern i 0)) (class_of classes (get_or s at 0)) e) allowance
         (omega (arith, more, h.spare))
 
     module _ (e : eqb (class_of classes (get_or pattern i 0)) (class_of classes (get_or s at 0)) ≡ true) where
-      pub fronted_one : DownBy table pattern i s at One → Fronted table classes pattern s allowance (i + 1) (at + 1) (left - 1)
-      fronted_one d = record {
+      pub fronted_on : (m : ℕ) → DownBy table pattern i s at (Some m) → Fronted table classes pattern s allowance (i + m) (at + m) (left - 1)
+      fronted_on m (inl w) = subst (λ (n : ℕ). Fronted table classes pattern s allowance (i + n) (at + n) (left - 1)) (sym w.0) (record {
         within = omega (arith, inside);
         spare = omega (arith, h.spare);
         fronting = λ edition. fronting_one (language edition table classes) pattern s i at (allowance - left) (h.fronting edition) low
-            (eqb-true (class_of classes (get_or pattern i 0)) (class_of classes (get_or s at 0)) e) (allowance - (left - 1)) next d.0 d.1;
-      }
-
-      pub fronted_two : DownBy table pattern i s at Two → Fronted table classes pattern s allowance (i + 2) (at + 2) (left - 1)
-      fronted_two d = record {
-        within = d.3;
+            (eqb-true (class_of classes (get_or pattern i 0)) (class_of classes (get_or s at 0)) e) (allowance - (left - 1)) next w.1 w.2;
+      })
+      fronted_on m (inr w) = subst (λ (n : ℕ). Fronted table classes pattern s allowance (i + n) (at + n) (left - 1)) (sym w.0) (record {
+        within = w.4;
         spare = omega (arith, h.spare);
         fronting = λ edition. fronting_two (language edition table classes) pattern s i at (allowance - left) (h.fronting edition) low
-            (eqb-true (class_of classes (get_or pattern i 0)) (class_of classes (get_or s at 0)) e) (allowance - (left - 1)) next d.0 d.1 d.2;
-      }
+            (eqb-true (class_of classes (get_or pattern i 0)) (class_of classes (get_or s at 0)) e) (allowance - (left - 1)) next w.1 w.2 w.3;
+      })
 
-pub front_next : (l : Language) (lower pattern s : List ℕ) (allowance k : ℕ) → FrontAt l.table l.classes pattern s allowance (Dead k) → TriesNext l lower pattern s allowance Over k
+pub front_next : (l : Language) (lower pattern s : List ℕ) (allowance k : ℕ) → FrontAt l.table l.classes pattern s allowance (Some k) → TriesNext l lower pattern s allowance (Ok k)
 front_next l lower pattern s allowance k h q rule low = h l.edition q rule

@@ -18,11 +18,10 @@ use Rattle.term.specs.Tree.{number, list_code, encode}
 use Rattle.term.specs.declared.Code.TheVariants.{Symbol}
 use Rattle.term.specs.declared.Edition.{Edition}
 use Rattle.term.specs.declared.Edition.TheVariants.{One, Two}
-use Rattle.term.specs.declared.Stand.{Stand}
-use Rattle.term.specs.declared.Stand.TheVariants.{InList, Elsewhere}
 use Rattle.term.proofs.Sizes.{node_bytes, encode_append, term_size, number_terms}
 use Rattle.anti_pattern.specs.Order.{Smaller}
 use Rattle.example.proofs.Renaming.{rename, renames}
+use Rattle.std.specs.Prelude.{Option, Some, None}
 
 -- the first symbol that is not renamed to itself, root first, left to right: there is none, it is lowered or raised
 pub data Lead : Type 0 where
@@ -142,31 +141,31 @@ module _ (classes table : List ℕ) (f : ℕ → ℕ) (inside : (s : ℕ) → s 
     abbrev l : Language
     l = language edition table classes
 
-    abbrev stand_to : Stand → Stand
-    stand_to (InList s) = InList (f s)
-    stand_to Elsewhere = Elsewhere
+    abbrev stand_to : Option ℕ → Option ℕ
+    stand_to (Some s) = Some (f s)
+    stand_to None = None
 
     stand_to_holds : (s : ℕ) → stand_in table (Symbol (f s)) ≡ stand_to (stand_in table (Symbol s))
-    stand_to_holds s = ap (λ (b : Bool). cond b (InList (f s)) Elsewhere) (same_list_holds s) ∙ go (is_list table s)
+    stand_to_holds s = ap (λ (b : Bool). cond b (Some (f s)) None) (same_list_holds s) ∙ go (is_list table s)
       where
-        go : (b : Bool) → cond b (InList (f s)) Elsewhere ≡ stand_to (cond b (InList s) Elsewhere)
+        go : (b : Bool) → cond b (Some (f s)) None ≡ stand_to (cond b (Some s) None)
         go true = refl
         go false = refl
 
-    unspliced_to : (e : Edition) (x y : Stand) → unspliced e classes (stand_to x) (stand_to y) ≡ unspliced e classes x y
+    unspliced_to : (e : Edition) (x y : (Option ℕ)) → unspliced e classes (stand_to x) (stand_to y) ≡ unspliced e classes x y
     unspliced_to One x y = refl
-    unspliced_to Two (InList s) (InList r) = one s r
-    unspliced_to Two (InList s) Elsewhere = refl
-    unspliced_to Two Elsewhere y = refl
+    unspliced_to Two (Some s) (Some r) = one s r
+    unspliced_to Two (Some s) None = refl
+    unspliced_to Two None y = refl
 
     mutual
-      spliced_to : (x : Stand) (t : Term) → SplicedAt l x (term_tree t) → SplicedAt l (stand_to x) (term_tree (to t))
+      spliced_to : (x : (Option ℕ)) (t : Term) → SplicedAt l x (term_tree t) → SplicedAt l (stand_to x) (term_tree (to t))
       spliced_to x (node s ts) h = (
         ap (unspliced edition classes (stand_to x)) (stand_to_holds s) ∙ unspliced_to edition x (stand_in table (Symbol s)) ∙ h.0,
-        subst (λ (y : Stand). SplicedAll l y (term_trees (tos ts))) (sym (stand_to_holds s)) (all_spliced_to (stand_in table (Symbol s)) ts h.1),
+        subst (λ (y : (Option ℕ)). SplicedAll l y (term_trees (tos ts))) (sym (stand_to_holds s)) (all_spliced_to (stand_in table (Symbol s)) ts h.1),
       )
 
-      all_spliced_to : (x : Stand) (ts : Terms) → SplicedAll l x (term_trees ts) → SplicedAll l (stand_to x) (term_trees (tos ts))
+      all_spliced_to : (x : (Option ℕ)) (ts : Terms) → SplicedAll l x (term_trees ts) → SplicedAll l (stand_to x) (term_trees (tos ts))
       all_spliced_to x nil h = tt
       all_spliced_to x (t :: ts) h = (spliced_to x t h.0, all_spliced_to x ts h.1)
 
@@ -174,7 +173,7 @@ module _ (classes table : List ℕ) (f : ℕ → ℕ) (inside : (s : ℕ) → s 
     accepted_to t h = record {
       short = subst (λ (n : ℕ). n ≤ longest_record) (sym (long_to t)) h.short;
       fits = fits_to t nesting false h.fits;
-      spliced = spliced_to Elsewhere t h.spliced;
+      spliced = spliced_to None t h.spliced;
     }
 
   -- where no symbol changes the term stays

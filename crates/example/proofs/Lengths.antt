@@ -8,7 +8,7 @@ use lib.Dec.{leb}
 use lib.ListN.{length}
 use borrow.Author.Tests.{leb-true}
 use Rattle.answers.specs.Answers.{applied_length}
-use Rattle.answers.specs.declared.Applied.TheVariants.{Bound, Refused}
+use Rattle.answers.specs.declared.Applied.TheVariants.{Bound}
 use Rattle.answers.specs.declared.Refusal.TheVariants.{Table, Long, Full, Class}
 use Rattle.term.specs.Pattern.{Pattern}
 use Rattle.term.specs.Table.{table_accepted}
@@ -24,6 +24,7 @@ use Rattle.example.specs.Call.{largest_size, checked, example_by, example_of, re
 use Rattle.example.specs.Strings.{up_to}
 use Rattle.example.specs.Trial.{by_answer, try_one, try_each, example}
 use Rattle.example.proofs.Ordered.{Bytes, up_to_all}
+use Rattle.std.specs.Prelude.{Ok, Err}
 
 module _ (l : Language) (q : Pattern) (allowance size room : ℕ) where
   tried_short : (ss : List (List ℕ)) → All (λ s. (length s ≤ size) × Bytes s) ss → applied_length (example_by (try_each l q allowance ss) room) ≤ size
@@ -31,7 +32,7 @@ module _ (l : Language) (q : Pattern) (allowance size room : ℕ) where
   tried_short [] h = omega arith
   tried_short (s ∷ ss) h = by_reading (read_record l s) (tried_short ss h.1)
     where
-      fits : (n : ℕ) (m : Bool) → applied_length (cond m (Bound n (length s)) (Refused Full)) ≤ size
+      fits : (n : ℕ) (m : Bool) → applied_length (cond m (Ok (Bound n (length s))) (Err Full)) ≤ size
       fits n true = h.0.0
       fits n false = omega arith
 

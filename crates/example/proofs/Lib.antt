@@ -13,7 +13,7 @@ pub mod Probes
 pub mod Stepping
 pub mod Walks
 pub mod Notes
-pub mod Trying
+pub mod Trials
 pub mod Larger
 pub mod Demands
 pub mod Calls

@@ -3,7 +3,6 @@ use Prim.Native.Nat.{ℕ, zero, ◌+◌}
 use mathlib.Core.Path.{◌≡◌, refl, sym, ◌∙◌, ap, ap₂, subst}
 use mathlib.Core.List.{List, [], ◌∷◌, ◌++◌}
 use mathlib.Core.Bool.{Bool, true, false, cond, ◌&&◌}
-use mathlib.Core.Option.{Option, none, some}
 use native.Mathlib.Omega.{arith}
 use lib.Dec.{eqb}
 use Rattle.term.specs.Class.{class_of}
@@ -12,6 +11,7 @@ use Rattle.term.specs.Same.{same_term, same_terms}
 use Rattle.term.specs.Table.{width}
 use Rattle.term.specs.Term.{Term, node, Terms, nil, ◌::◌, ◌⧺◌, single, size, sizes}
 use Rattle.anti_pattern.specs.Search.{Env, bind, start, Answers, found, failed, first_answer, Result, plus, counted, fail, if_true, if_some, after, Deferred, Continuation, refuted, finish, lengths, freely, same_or, assign, behind, try_run, search, searches, level}
+use Rattle.std.specs.Prelude.{Option, Some, None}
 
 -- two symbols exchanged
 abbrev pub swap : ℕ → ℕ → ℕ → ℕ
@@ -27,8 +27,8 @@ module _ (classes : List ℕ) (f : ℕ → ℕ) where
     renames (t :: ts) = rename t :: renames ts
 
   abbrev renamed : Option Terms → Option Terms
-  renamed none = none
-  renamed (some w) = some (renames w)
+  renamed None = None
+  renamed (Some w) = Some (renames w)
 
   -- the pattern's symbols are of the class of a symbol exactly if they are of that of the renamed one
   abbrev mutual
@@ -106,7 +106,7 @@ module _ (classes : List ℕ) (f : ℕ → ℕ) where
   like_bind : (e e' : Env) (v at at' : ℕ) (w : Terms) → Likened e e' → Likened (bind e v at w) (bind e' v at' (renames w))
   like_bind e e' v at at' w h i = go (eqb v i)
     where
-      go : (m : Bool) → cond m (some (renames w)) (e'.value i) ≡ renamed (cond m (some w) (e.value i))
+      go : (m : Bool) → cond m (Some (renames w)) (e'.value i) ≡ renamed (cond m (Some w) (e.value i))
       go true = refl
       go false = h i
 
@@ -140,40 +140,40 @@ module _ (classes : List ℕ) (f : ℕ → ℕ) where
     behind_renames nil ts = refl
     behind_renames (t :: w) nil = refl
     behind_renames (t :: w) (u :: ts) =
-        ap₂ (λ (m : Bool) (o : Option Terms). cond m o none) (same_rename t u) (behind_renames w ts) ∙ go (same_term classes t u)
+        ap₂ (λ (m : Bool) (o : Option Terms). cond m o None) (same_rename t u) (behind_renames w ts) ∙ go (same_term classes t u)
       where
-        go : (m : Bool) → cond m (renamed (behind classes w ts)) none ≡ renamed (cond m (behind classes w ts) none)
+        go : (m : Bool) → cond m (renamed (behind classes w ts)) None ≡ renamed (cond m (behind classes w ts) None)
         go true = refl
         go false = refl
 
     like_some : (o o' : Option Terms) (g g' : Terms → Result) → o' ≡ renamed o → ((x : Terms) → Like (g x) (g' (renames x))) → Like (if_some o g) (if_some o' g')
-    like_some none o' g g' e h = subst (λ (y : Option Terms). Like fail (if_some y g')) (sym e) like_fail
-    like_some (some x) o' g g' e h = subst (λ (y : Option Terms). Like (g x) (if_some y g')) (sym e) (h x)
+    like_some None o' g g' e h = subst (λ (y : Option Terms). Like fail (if_some y g')) (sym e) like_fail
+    like_some (Some x) o' g g' e h = subst (λ (y : Option Terms). Like (g x) (if_some y g')) (sym e) (h x)
 
     run_like : (o o' : Option Terms) (v : ℕ) (ts : Terms) (g h g' h' : Terms → Terms → Result) → o' ≡ renamed o
         → ((x us : Terms) → Like (g x us) (g' (renames x) (renames us))) → ((x us : Terms) → Like (h x us) (h' (renames x) (renames us)))
         → Like (try_run classes o (freely v) ts g h) (try_run classes o' (freely v) (renames ts) g' h')
-    run_like none o' v ts g h g' h' e a b =
+    run_like None o' v ts g h g' h' e a b =
         subst (λ (y : Option Terms). Like (lengths nil ts g) (try_run classes y (freely v) (renames ts) g' h')) (sym e) (lengths_like nil ts g g' a)
-    run_like (some w) o' v ts g h g' h' e a b =
-        subst (λ (y : Option Terms). Like (try_run classes (some w) (freely v) ts g h) (try_run classes y (freely v) (renames ts) g' h')) (sym e)
+    run_like (Some w) o' v ts g h g' h' e a b =
+        subst (λ (y : Option Terms). Like (try_run classes (Some w) (freely v) ts g h) (try_run classes y (freely v) (renames ts) g' h')) (sym e)
         (like_counted (if_some (behind classes w ts) (h w)) (if_some (behind classes (renames w) (renames ts)) (h' (renames w)))
         (like_some (behind classes w ts) (behind classes (renames w) (renames ts)) (h w) (h' (renames w)) (behind_renames w ts) (b w)))
 
     -- a name
     module _ (e e' : Env) (v at at' : ℕ) (t : Term) (k k' : Continuation) (ds ds' : List Deferred) (l : Likened e e') (p : LikePut ds ds') (n : LikeNext k k') where
-      kept_like : (m m' : Bool) → m' ≡ m → Like (if_some (cond m (some e) none) (λ g. k g ds)) (if_some (cond m' (some e') none) (λ g. k' g ds'))
-      kept_like true m' h = subst (λ (b : Bool). Like (k e ds) (if_some (cond b (some e') none) (λ g. k' g ds'))) (sym h) (n e e' l ds ds' p)
-      kept_like false m' h = subst (λ (b : Bool). Like fail (if_some (cond b (some e') none) (λ g. k' g ds'))) (sym h) like_fail
+      kept_like : (m m' : Bool) → m' ≡ m → Like (if_some (cond m (Some e) None) (λ g. k g ds)) (if_some (cond m' (Some e') None) (λ g. k' g ds'))
+      kept_like true m' h = subst (λ (b : Bool). Like (k e ds) (if_some (cond b (Some e') None) (λ g. k' g ds'))) (sym h) (n e e' l ds ds' p)
+      kept_like false m' h = subst (λ (b : Bool). Like fail (if_some (cond b (Some e') None) (λ g. k' g ds'))) (sym h) like_fail
 
       name_like : (o o' : Option Terms) → o' ≡ renamed o
           → Like (if_some (same_or classes o (single t) e (bind e v at (single t))) (λ g. k g ds))
           (if_some (same_or classes o' (single (rename t)) e' (bind e' v at' (single (rename t)))) (λ g. k' g ds'))
-      name_like none o' h =
+      name_like None o' h =
           subst (λ (y : Option Terms). Like (k (bind e v at (single t)) ds) (if_some (same_or classes y (single (rename t)) e' (bind e' v at' (single (rename t)))) (λ g. k' g ds'))) (sym h)
           (n (bind e v at (single t)) (bind e' v at' (single (rename t))) (like_bind e e' v at at' (single t) l) ds ds' p)
-      name_like (some x) o' h =
-          subst (λ (y : Option Terms). Like (if_some (same_or classes (some x) (single t) e (bind e v at (single t))) (λ g. k g ds))
+      name_like (Some x) o' h =
+          subst (λ (y : Option Terms). Like (if_some (same_or classes (Some x) (single t) e (bind e v at (single t))) (λ g. k g ds))
           (if_some (same_or classes y (single (rename t)) e' (bind e' v at' (single (rename t)))) (λ g. k' g ds'))) (sym h)
           (kept_like (same_terms classes x (single t)) (same_terms classes (renames x) (single (rename t))) (same_renames x (single t)))
 
@@ -227,9 +227,9 @@ module _ (classes : List ℕ) (f : ℕ → ℕ) where
     same_count table q x t = (whole_like table q x t).costs
 
     pub failed_alike : (table : List ℕ) (q : Pattern) → Fixed q → (t : Term)
-        → first_answer (level table classes q (rename t) zero start).out ≡ none → first_answer (level table classes q t zero start).out ≡ none
+        → first_answer (level table classes q (rename t) zero start).out ≡ None → first_answer (level table classes q t zero start).out ≡ None
     failed_alike table q x t h = go (whole_like table q x t).outs h
       where
-        go : {o o' : Answers} → LikeOut o o' → first_answer o' ≡ none → first_answer o ≡ none
+        go : {o o' : Answers} → LikeOut o o' → first_answer o' ≡ None → first_answer o ≡ None
         go (both_found i j g) e = let z : ◌≡◌ {A = ℕ} 0 1 = cc in absurd (omega arith)
         go both_failed e = refl

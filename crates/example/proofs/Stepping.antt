@@ -2,13 +2,11 @@
 use Prim.Native.Nat.{ℕ, zero, suc, ◌+◌, ◌-◌, ◌<◌, ◌≤◌}
 use mathlib.Core.Path.{◌≡◌, refl, sym, ◌∙◌, ap, ap₂, subst}
 use mathlib.Core.Logic.{◌⊎◌, inl, inr}
-use mathlib.Core.List.{List, [], ◌∷◌, ◌++◌, append-nil}
-use mathlib.Core.Bool.{Bool, true, false}
+use mathlib.Core.List.{List, [], ◌∷◌, ◌++◌}
+use mathlib.Core.Bool.{true}
 use native.Mathlib.Omega.{arith}
-use lib.Dec.{ltb}
-use borrow.Author.Tests.{ltb-true, ltb-false}
 use lib.ListN.{length, get_or, take, set, replicate, length-replicate, length-append, length-set, get_or-append}
-use lib.Seq.{take-suc, set_at, length-take-le, take-length, get_or-take}
+use lib.Seq.{take-suc, set_at, length-take-le, get_or-take}
 use Rattle.term.specs.Limits.{TermAccepted}
 use Rattle.term.specs.Pattern.{Pattern}
 use Rattle.term.specs.Table.{table_accepted}
@@ -16,11 +14,11 @@ use Rattle.term.specs.Term.{Term}
 use Rattle.anti_pattern.specs.Language.{Language}
 use Rattle.anti_pattern.specs.Order.{Smaller}
 use Rattle.example.specs.Least.{bytes_in, Passed, Behind}
-use Rattle.example.specs.Odometer.{NotBefore, Rises, Stepped, Skips}
+use Rattle.example.specs.Odometer.{NotBefore, Stepped, Skips}
 use Rattle.example.specs.Strings.{Earlier}
 use Rattle.example.proofs.Ordered.{Bytes, or_equal}
 use Rattle.example.proofs.Ranks.{rank, power_of, rank_below, smaller_rank, compare, between}
-use Rattle.example.proofs.Records.{accepted_bytes, bytes_octets as byte_at}
+use Rattle.example.proofs.Records.{accepted_bytes}
 
 pub zeros_least : (x : List ℕ) (n : ℕ) → Smaller x (replicate n 0) → ⊥
 zeros_least [] n h = h
@@ -160,16 +158,6 @@ pub record Turned (s : List ℕ) (k : ℕ) (r : List ℕ) (i : ℕ) : Type 0 whe
   pub bytes : r ≡ take i s ++ replicate (length s - i) 0
   pub full : (m : ℕ) → i ≤ m → m < k → get_or s m 0 ≡ 255
 
-pub turned_start : (s : List ℕ) (k i : ℕ) → k ≤ length s → i ≡ length s → Turned s k s i
-turned_start s k i h e =
-    let z : length s - i ≡ 0 = omega (arith, e) in
-    record {
-      within = omega (arith, e);
-      long = refl;
-      bytes = sym (ap₂ (λ (x : List ℕ) (n : ℕ). x ++ replicate n 0) (ap (λ (n : ℕ). take n s) e ∙ take-length s) z ∙ append-nil s);
-      full = λ m x y. absurd (omega (arith, h, e, x, y));
-    }
-
 module _ (s : List ℕ) (k : ℕ) (r : List ℕ) (i : ℕ) (h : Turned s k r i) (some : 0 < i) where
   back : suc (i - 1) ≡ i
   back = omega arith
@@ -196,7 +184,7 @@ module _ (s : List ℕ) (k : ℕ) (r : List ℕ) (i : ℕ) (h : Turned s k r i) 
         stored (get_or r (i - 1) 0 + 1) ∙ ap₂ (λ (x m : ℕ). take (i - 1) s ++ (x ∷ replicate m 0)) v n;
   }
 
-  pub turned_again : (i - 1 < k → 255 ≤ get_or r (i - 1) 0) → Bytes r → Turned s k (set r (i - 1) 0) (i - 1)
+  pub turned_again : (i - 1 < k → 255 ≤ get_or r (i - 1) 0) → get_or r (i - 1) 0 ≤ 255 → Turned s k (set r (i - 1) 0) (i - 1)
   turned_again f b = record {
     within = omega (arith, h.within);
     long = length-set r (i - 1) 0 ∙ h.long;
@@ -209,7 +197,7 @@ module _ (s : List ℕ) (k : ℕ) (r : List ℕ) (i : ℕ) (h : Turned s k r i) 
       go : (m : ℕ) → i - 1 ≤ m → m < k → ((i - 1) ≡ m) ⊎ (suc (i - 1) ≤ m) → get_or s m 0 ≡ 255
       go m x y (inl e) =
           sym (ap (λ (n : ℕ). get_or s n 0) e) ∙ sym turned_byte
-          ∙ omega (arith, f (omega (arith, e, y)), byte_at r b (i - 1))
+          ∙ omega (arith, f (omega (arith, e, y)), b)
       go m x y (inr z) = h.full m (omega (arith, z)) y
 
 pub turned_end : (s : List ℕ) (k : ℕ) (r : List ℕ) (i : ℕ) → Turned s k r i → i ≡ 0 → ((m : ℕ) → m < k → get_or s m 0 ≡ 255) × (r ≡ replicate (length s) 0)
@@ -220,10 +208,3 @@ turned_end s k r i h e = (
   where
     none : length s - 0 ≡ length s
     none = omega arith
-
-pub rises_by : (i k b : ℕ) → i < k → Rises i k b (ltb b 255)
-rises_by i k b h = go (ltb b 255) refl
-  where
-    go : (m : Bool) → ltb b 255 ≡ m → Rises i k b m
-    go true e = (h, ltb-true b 255 e)
-    go false e = λ x. ltb-false b 255 e

@@ -5,7 +5,6 @@ use mathlib.Core.Path.{◌≡◌, refl, sym, ◌∙◌, ap, ap₂, subst}
 use mathlib.Core.Logic.{inl, inr}
 use mathlib.Core.List.{List, [], ◌∷◌}
 use mathlib.Core.Bool.{Bool, true, false, cond}
-use mathlib.Core.Option.{Option, none, some}
 use native.Mathlib.Omega.{arith}
 use lib.Dec.{eqb}
 use lib.ListN.{length, get_or}
@@ -29,6 +28,7 @@ use Rattle.example.specs.Least.{bytes_in, Passed, Behind}
 use Rattle.example.specs.Inner.{Twins}
 use Rattle.example.proofs.Leads.{lowered, lead, long_to, accepted_to, first_bytes}
 use Rattle.example.proofs.Renaming.{swap, rename, Fixed, Fixeds, same_count, failed_alike}
+use Rattle.std.specs.Prelude.{Option, Some, None}
 
 -- what an accepted class list and the empty one have
 
@@ -72,12 +72,12 @@ renamed_passed l c q allowance f i t a low before =
           (failed_alike l.classes f i.one l.table q i.fixed t (failing u g n.1)),
     )
   where
-    failing : (u : Term) → TermAccepted l u → Unsatisfied l q u → first_answer (whole l q u).out ≡ none
+    failing : (u : Term) → TermAccepted l u → Unsatisfied l q u → first_answer (whole l q u).out ≡ None
     failing u g n = go (first_answer (whole l q u).out) refl
       where
-        go : (o : Option Env) → first_answer (whole l q u).out ≡ o → o ≡ none
-        go (some e) h = absurd (n e.value ((search_decides l (classed_alike l c) q u (accepted_of l u g)).found_first e h).satisfies)
-        go none h = refl
+        go : (o : Option Env) → first_answer (whole l q u).out ≡ o → o ≡ None
+        go (Some e) h = absurd (n e.value ((search_decides l (classed_alike l c) q u (accepted_of l u g)).found_first e h).satisfies)
+        go None h = refl
 
 -- the two renamings
 

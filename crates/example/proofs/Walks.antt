@@ -8,7 +8,7 @@ use native.Mathlib.Omega.{arith}
 use lib.Dec.{eqb, ltb}
 use lib.ListN.{length, get_or, set, replicate, length-set, length-replicate}
 use lib.Seq.{get_or-set_same, get_or-set_other}
-use borrow.Author.Tests.{eqb-true, eqb-false, eq-eqb, ne_eqb, ltb-true, ltb-false, lt-ltb, le-ltb}
+use borrow.Author.Tests.{eqb-true, eqb-false, ltb-true, ltb-false}
 use Rattle.term.specs.Class.{class_of}
 use Rattle.term.specs.Extent.{entry_of}
 use Rattle.term.specs.Pattern.{name}
@@ -18,9 +18,7 @@ use Rattle.term.specs.declared.Edition.{Edition}
 use Rattle.anti_pattern.specs.Language.{Language, language}
 use Rattle.example.specs.Inner.{LowerAt, NeedlessBy, LooksAt, Twins}
 use Rattle.example.specs.Odometer.{Skips, fit_of, step_of}
-use Rattle.example.specs.declared.Probe.TheVariants.{Dead}
-use Rattle.example.specs.declared.Step.{Step}
-use Rattle.example.specs.declared.Step.TheVariants.{On, Stuck}
+use Rattle.std.specs.Prelude.{Option, Some, None}
 use Rattle.example.proofs.Renaming.{swap}
 use Rattle.example.proofs.Probes.{Alive, alive_start, dead_over, dead_code, dead_low, dead_node, dead_list, dead_number, alive_node, alive_list}
 use Rattle.example.proofs.Trails.{Still}
@@ -63,41 +61,21 @@ walk_start table classes s = record {
   alive = λ edition. alive_start (language edition table classes) s (replicate 256 0);
 }
 
-fit_stuck : (size at trees : ℕ) → fit_of size at trees ≡ Stuck → size - at < trees
+fit_stuck : (size at trees : ℕ) → fit_of size at trees ≡ None → size - at < trees
 fit_stuck size at trees h = go (ltb (size - at) trees) refl h
   where
-    go : (m : Bool) → ltb (size - at) trees ≡ m → cond m Stuck (On at trees) ≡ Stuck → size - at < trees
+    go : (m : Bool) → ltb (size - at) trees ≡ m → cond {A = Option (ℕ × ℕ)} m None (Some (at, trees)) ≡ None → size - at < trees
     go true e z = ltb-true (size - at) trees e
     go false e z = let y : ◌≡◌ {A = ℕ} 0 1 = cc in absurd (omega arith)
 
-fit_on : (size at trees next left : ℕ) → fit_of size at trees ≡ On next left → (at ≡ next) × (trees ≡ left) × (trees ≤ size - at)
+fit_on : (size at trees next left : ℕ) → fit_of size at trees ≡ Some (next, left) → (at ≡ next) × (trees ≡ left) × (trees ≤ size - at)
 fit_on size at trees next left h = go (ltb (size - at) trees) refl h
   where
-    go : (m : Bool) → ltb (size - at) trees ≡ m → cond m Stuck (On at trees) ≡ On next left → (at ≡ next) × (trees ≡ left) × (trees ≤ size - at)
+    go : (m : Bool) → ltb (size - at) trees ≡ m → cond {A = Option (ℕ × ℕ)} m None (Some (at, trees)) ≡ Some (next, left) → (at ≡ next) × (trees ≡ left) × (trees ≤ size - at)
     go true e z = let y : ◌≡◌ {A = ℕ} 0 1 = cc in absurd (omega arith)
-    go false e z = (cc, cc, ltb-false (size - at) trees e)
-
--- what the code computes is the step
-
-pub fit_low : (size at trees : ℕ) → size - at < trees → Stuck ≡ fit_of size at trees
-fit_low size at trees h = rw (lt-ltb (size - at) trees h)
-
-pub fit_high : (size at trees : ℕ) → trees ≤ size - at → On at trees ≡ fit_of size at trees
-fit_high size at trees h = rw (le-ltb (size - at) trees h)
-
-module _ (table s : List ℕ) (at trees : ℕ) (x : ℕ) (e : x ≡ entry_of table (get_or s at 0)) where
-  pub step_short : x ≡ list → length s - at < 2 → Stuck ≡ step_of table s at trees
-  step_short i h = rw (eq-eqb (entry_of table (get_or s at 0)) list (sym e ∙ i), lt-ltb (length s - at) 2 h)
-
-  pub step_list : x ≡ list → 2 ≤ length s - at → (m : ℕ) → m ≡ get_or s (at + 1) 0 → (r : Step) → r ≡ fit_of (length s) (at + 2) (trees - 1 + m) → r ≡ step_of table s at trees
-  step_list i h m d r k =
-      k ∙ ap (λ (y : ℕ). fit_of (length s) (at + 2) (trees - 1 + y)) d
-      ∙ rw (eq-eqb (entry_of table (get_or s at 0)) list (sym e ∙ i), le-ltb (length s - at) 2 h)
-
-  pub step_node : (x ≡ list → ⊥) → (m : ℕ) → m ≡ x → (r : Step) → r ≡ fit_of (length s) (at + 1) (trees - 1 + m) → r ≡ step_of table s at trees
-  step_node i m d r k =
-      k ∙ ap (λ (y : ℕ). fit_of (length s) (at + 1) (trees - 1 + y)) (d ∙ e)
-      ∙ rw (ne_eqb (entry_of table (get_or s at 0)) list (λ z. i (e ∙ z)))
+    go false e z =
+        let y : ◌≡◌ {A = ℕ × ℕ} (at, trees) (next, left) = cc in
+        (ap (λ (p : ℕ × ℕ). p.0) y, ap (λ (p : ℕ × ℕ). p.1) y, ltb-false (size - at) trees e)
 
 module _ (table classes lower s seen : List ℕ) (at trees : ℕ) (w : Walk table classes s seen at trees) (inside : at < length s) where
   abbrev here : ℕ
@@ -107,11 +85,11 @@ module _ (table classes lower s seen : List ℕ) (at trees : ℕ) (w : Walk tabl
   speech edition = language edition table classes
 
   -- the term is over
-  pub stops_over : trees ≡ 0 → LooksAt table classes lower s (Dead at)
+  pub stops_over : trees ≡ 0 → LooksAt table classes lower s (Some at)
   stops_over z edition pattern q allowance r k = dead_over (speech edition) q allowance s seen at trees (w.alive edition) z inside
 
   -- no symbol of the table; where there are trees to come
-  pub stops_code : length table ≤ here → LooksAt table classes lower s (Dead at)
+  pub stops_code : length table ≤ here → LooksAt table classes lower s (Some at)
   stops_code h edition pattern q allowance r k = go trees refl
     where
       go : (n : ℕ) → trees ≡ n → Skips (speech edition) q allowance s at
@@ -127,7 +105,7 @@ module _ (table classes lower s seen : List ℕ) (at trees : ℕ) (w : Walk tabl
         go (suc n) z = omega arith
 
     -- a symbol that makes it needless
-    pub stops_needless : NeedlessBy classes lower seen here true → LooksAt table classes lower s (Dead (at + 1))
+    pub stops_needless : NeedlessBy classes lower seen here true → LooksAt table classes lower s (Some (at + 1))
     stops_needless h edition pattern q allowance r k = go h
       where
         twin : class_of classes here ≡ here → (a : ℕ) → Twins (speech edition) pattern a here → (get_or seen here 0 ≡ 1 → ⊥) → (get_or seen a 0 ≡ 1 → ⊥)
@@ -168,11 +146,11 @@ module _ (table classes lower s seen : List ℕ) (at trees : ℕ) (w : Walk tabl
       listed m e = ap (λ (x : ℕ). eqb x list) (sym entry_is) ∙ e
 
       -- the bytes left are too few
-      pub stops_stuck : step_of table s at trees ≡ Stuck → LooksAt table classes lower s (Dead (at + 1))
+      pub stops_stuck : step_of table s at trees ≡ None → LooksAt table classes lower s (Some (at + 1))
       stops_stuck z edition pattern q allowance r k = go (eqb (entry_of table here) list) (ltb (length s - at) 2) refl refl z
         where
           go : (m n : Bool) → eqb (entry_of table here) list ≡ m → ltb (length s - at) 2 ≡ n
-              → cond m (cond n Stuck (fit_of (length s) (at + 2) (trees - 1 + get_or s (at + 1) 0))) (fit_of (length s) (at + 1) (trees - 1 + entry_of table here)) ≡ Stuck
+              → cond m (cond n None (fit_of (length s) (at + 2) (trees - 1 + get_or s (at + 1) 0))) (fit_of (length s) (at + 1) (trees - 1 + entry_of table here)) ≡ None
               → Skips (speech edition) q allowance s (at + 1)
           go true true i j e =
               dead_list (speech edition) q allowance s seen at trees (w.alive edition) more now' grown (listed true i) (omega (arith, ltb-true (length s - at) 2 j))
@@ -182,7 +160,7 @@ module _ (table classes lower s seen : List ℕ) (at trees : ℕ) (w : Walk tabl
               dead_node (speech edition) q allowance s seen at trees (w.alive edition) more now' grown (listed false i)
               (subst (λ (x : ℕ). length s - (at + 1) < trees - 1 + x) entry_is (fit_stuck (length s) (at + 1) (trees - 1 + entry_of table here) e))
 
-      pub walks_on : (next left : ℕ) → step_of table s at trees ≡ On next left → Walk table classes s now' next left × (at < next)
+      pub walks_on : (next left : ℕ) → step_of table s at trees ≡ Some (next, left) → Walk table classes s now' next left × (at < next)
       walks_on next left z = go (eqb (entry_of table here) list) (ltb (length s - at) 2) refl refl z
         where
           own_now : (b : ℕ) → get_or now' b 0 ≡ 1 → class_of classes b ≡ b
@@ -192,7 +170,7 @@ module _ (table classes lower s seen : List ℕ) (at trees : ℕ) (w : Walk tabl
               by (inl i) = subst (λ (x : ℕ). class_of classes x ≡ x) (sym i) own
               by (inr i) = w.own b i
 
-          to : (x y : ℕ) → fit_of (length s) x y ≡ On next left → at < x → x ≤ length s → ((edition : Edition) → Alive (speech edition) s now' x y) → Walk table classes s now' next left × (at < next)
+          to : (x y : ℕ) → fit_of (length s) x y ≡ Some (next, left) → at < x → x ≤ length s → ((edition : Edition) → Alive (speech edition) s now' x y) → Walk table classes s now' next left × (at < next)
           to x y e i j v =
               let f = fit_on (length s) x y next left e in
               let d : y ≡ left = f.1 in let g : x ≡ next = f.0 in (
@@ -207,7 +185,7 @@ module _ (table classes lower s seen : List ℕ) (at trees : ℕ) (w : Walk tabl
               )
 
           go : (m n : Bool) → eqb (entry_of table here) list ≡ m → ltb (length s - at) 2 ≡ n
-              → cond m (cond n Stuck (fit_of (length s) (at + 2) (trees - 1 + get_or s (at + 1) 0))) (fit_of (length s) (at + 1) (trees - 1 + entry_of table here)) ≡ On next left
+              → cond m (cond n None (fit_of (length s) (at + 2) (trees - 1 + get_or s (at + 1) 0))) (fit_of (length s) (at + 1) (trees - 1 + entry_of table here)) ≡ Some (next, left)
               → Walk table classes s now' next left × (at < next)
           go true true i j e = let y : ◌≡◌ {A = ℕ} 0 1 = cc in absurd (omega arith)
           go true false i j e =
@@ -219,6 +197,6 @@ module _ (table classes lower s seen : List ℕ) (at trees : ℕ) (w : Walk tabl
               (alive_node (speech edition) (name 0) 0 s seen at trees (w.alive edition) more now' grown (listed false i)))
 
       -- by the index that is marked
-      pub walks_at : (i next left : ℕ) → i ≡ here → step_of table s at trees ≡ On next left → Walk table classes s (set seen i 1) next left × (at < next)
+      pub walks_at : (i next left : ℕ) → i ≡ here → step_of table s at trees ≡ Some (next, left) → Walk table classes s (set seen i 1) next left × (at < next)
       walks_at i next left d z =
           subst (λ (x : ℕ). Walk table classes s (set seen x 1) next left × (at < next)) (sym d) (walks_on next left z)

@@ -1,9 +1,9 @@
 -- The call: what it answers, and what it leaves in the output, on all inputs.
-use Rattle.std.specs.Prelude.{ℕ, List, ◌++◌, cond, leb, length, drop}
+use Rattle.std.specs.Prelude.{ℕ, List, ◌++◌, cond, leb, length, drop, Result, Ok, Err}
 use Rattle.answers.specs.declared.Refusal.{Refusal}
 use Rattle.answers.specs.declared.Refusal.TheVariants.{Table, Long, Class, Full, NoExample}
 use Rattle.answers.specs.declared.Applied.{Applied}
-use Rattle.answers.specs.declared.Applied.TheVariants.{Bound, Spent, Refused}
+use Rattle.answers.specs.declared.Applied.TheVariants.{Bound, Spent}
 use Rattle.term.specs.Pattern.{Pattern}
 use Rattle.term.specs.Table.{table_accepted}
 use Rattle.reader.specs.Reading.{read_pattern}
@@ -23,15 +23,15 @@ checked brought pattern size =
     (check (table_accepted brought.table) Table (check (brought_accepted brought) Class (reading (read_pattern (language_of brought) pattern))))
 
 -- "22 (no example), after all candidates"; "a short output 12, last". (None does not come up.)
-abbrev pub example_by : Trial → ℕ → Applied
-example_by (shows s n) room = cond (leb (length s) room) (Bound n (length s)) (Refused Full)
-example_by no_example room = Refused NoExample
-example_by (spent_at n) room = Spent n
+abbrev pub example_by : Trial → ℕ → Result Applied Refusal
+example_by (shows s n) room = cond (leb (length s) room) (Ok (Bound n (length s))) (Err Full)
+example_by no_example room = Err NoExample
+example_by (spent_at n) room = Ok (Spent n)
 
-abbrev pub refusal : Refusal → ℕ → Applied
-refusal r i = Refused r
+abbrev pub refusal : Refusal → ℕ → Result Applied Refusal
+refusal r i = Err r
 
-unfoldable pub example_of : Brought → List ℕ → ℕ → ℕ → ℕ → Applied
+unfoldable pub example_of : Brought → List ℕ → ℕ → ℕ → ℕ → Result Applied Refusal
 example_of brought pattern size allowance room =
     answer_by refusal (λ q. example_by (example (language_of brought) q allowance size) room) (checked brought pattern size)
 

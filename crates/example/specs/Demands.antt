@@ -1,5 +1,5 @@
 -- What is demanded of the call: of its answer `a`, and of the final output `after` where the output held `before`.
-use Rattle.std.specs.Prelude.{ℕ, ◌<◌, ◌≤◌, ◌≡◌, ◌⊎◌, ◌↔◌, List, [], true, length, drop}
+use Rattle.std.specs.Prelude.{ℕ, ◌<◌, ◌≤◌, ◌≡◌, ◌⊎◌, ◌↔◌, List, [], true, length, drop, Result}
 use Rattle.answers.specs.Answers.{applied_number, applied_count, applied_length}
 use Rattle.answers.specs.Refusal.{number_of}
 use Rattle.answers.specs.declared.Applied.{Applied}
@@ -44,7 +44,7 @@ module _ (l : Language) (q : Pattern) (allowance size : ℕ) where
   AllPassed = (t : Term) → Candidate l size t → Passed l q allowance t
 
   -- For an accepted pattern
-  pub record Answered (before : List ℕ) (a : Applied) (after : List ℕ) : Type 0 where
+  pub record Answered (before : List ℕ) (a : Result Applied Refusal) (after : List ℕ) : Type 0 where
     -- bound exactly if a record is reached for which the output has the room
     pub bound_exactly : (applied_number a ≡ 0) ↔ ((t : Term) × Reached t × (length (bytes_in l t) ≤ length before))
     -- it is the least of all accepted records that satisfy the pattern, of whatever size; "the count shown is the last one's"; the output begins with
@@ -62,7 +62,7 @@ module _ (l : Language) (q : Pattern) (allowance size : ℕ) where
     pub full_exactly : (applied_number a ≡ number_of Full) ↔ ((t : Term) × Reached t × (length before < length (bytes_in l t)))
 
 -- All that is demanded
-pub record Demanded (brought : Brought) (pattern : List ℕ) (size allowance : ℕ) (before : List ℕ) (a : Applied) (after : List ℕ) : Type 0 where
+pub record Demanded (brought : Brought) (pattern : List ℕ) (size allowance : ℕ) (before : List ℕ) (a : Result Applied Refusal) (after : List ℕ) : Type 0 where
   -- refused exactly if the input is not accepted, the output is too short for the record that is reached, or all candidates are passed over
   pub refused_exactly : ((r : Refusal) × (applied_number a ≡ number_of r))
       ↔ ((q : Pattern) → Input brought pattern size q
@@ -85,7 +85,7 @@ DemandedOf brought pattern size allowance before after =
     Demanded brought pattern size allowance before (example_of brought pattern size allowance (length before)) after
 
 -- answer, final output and demands in one, which only a private function's contract cites
-abbrev pub Called : Brought → List ℕ → ℕ → ℕ → List ℕ → Applied → List ℕ → Type 0
+abbrev pub Called : Brought → List ℕ → ℕ → ℕ → List ℕ → Result Applied Refusal → List ℕ → Type 0
 Called brought pattern size allowance before a after =
     (a ≡ example_of brought pattern size allowance (length before))
     × ((after ≡ output_of brought pattern size allowance before) × Demanded brought pattern size allowance before a after)

@@ -1,5 +1,5 @@
 -- Strings of one length, one after the other: those that a step passes over. Only the contracts of private functions cite this.
-use Rattle.std.specs.Prelude.{ℕ, suc, ◌+◌, ◌-◌, ◌<◌, ◌≤◌, ◌≡◌, ◌⊎◌, List, ◌∷◌, ◌++◌, Bool, true, false, cond, ltb, eqb, length, get_or, take, replicate}
+use Rattle.std.specs.Prelude.{ℕ, suc, ◌+◌, ◌-◌, ◌<◌, ◌≤◌, ◌≡◌, ◌⊎◌, List, ◌∷◌, ◌++◌, Bool, true, false, cond, ltb, eqb, length, get_or, take, replicate, Option, Some, None}
 use Rattle.term.specs.Extent.{entry_of}
 use Rattle.term.specs.Limits.{TermAccepted}
 use Rattle.term.specs.Pattern.{Pattern}
@@ -8,29 +8,20 @@ use Rattle.term.specs.Term.{Term}
 use Rattle.anti_pattern.specs.Language.{Language}
 use Rattle.anti_pattern.specs.Order.{Smaller}
 use Rattle.example.specs.Least.{bytes_in, Passed, Behind}
-use Rattle.example.specs.declared.Probe.{Probe}
-use Rattle.example.specs.declared.Probe.TheVariants.{Open, Dead}
-use Rattle.example.specs.declared.Step.{Step}
-use Rattle.example.specs.declared.Step.TheVariants.{On, Stuck}
 
 -- x is s or comes after it
 abbrev pub NotBefore : List ℕ → List ℕ → Type 0
 NotBefore s x = (s ≡ x) ⊎ Smaller s x
 
--- the trees that are to come after a node, each of which takes a byte at least
-abbrev pub fit_of : ℕ → ℕ → ℕ → Step
-fit_of size at trees = cond (ltb (size - at) trees) Stuck (On at trees)
+-- the place after a node and the trees that are to come, each of which takes a byte at least
+abbrev pub fit_of : ℕ → ℕ → ℕ → Option (ℕ × ℕ)
+fit_of size at trees = cond (ltb (size - at) trees) None (Some (at, trees))
 
-abbrev pub step_of : List ℕ → List ℕ → ℕ → ℕ → Step
+abbrev pub step_of : List ℕ → List ℕ → ℕ → ℕ → Option (ℕ × ℕ)
 step_of table s at trees =
     cond (eqb (entry_of table (get_or s at 0)) list)
-    (cond (ltb (length s - at) 2) Stuck (fit_of (length s) (at + 2) (trees - 1 + get_or s (at + 1) 0)))
+    (cond (ltb (length s - at) 2) None (fit_of (length s) (at + 2) (trees - 1 + get_or s (at + 1) 0)))
     (fit_of (length s) (at + 1) (trees - 1 + entry_of table (get_or s at 0)))
-
--- one of the first k bytes, and it can be more
-abbrev pub Rises : ℕ → ℕ → ℕ → Bool → Type 0
-Rises i k b true = (i < k) × (b < 255)
-Rises i k b false = i < k → 255 ≤ b
 
 -- byte i of s is one more and those behind it are 0; the bytes from there up to k could not be more
 pub record Stepped (s : List ℕ) (k : ℕ) (r : List ℕ) : Type 0 where
@@ -51,11 +42,12 @@ module _ (l : Language) (q : Pattern) (allowance : ℕ) where
   Skips s k = (t : Term) → TermAccepted l t → length (bytes_in l t) ≡ length s → take k (bytes_in l t) ≡ take k s
       → NotBefore s (bytes_in l t) → Behind l q allowance (bytes_in l t) → Passed l q allowance t
 
-  abbrev pub Probed : List ℕ → Probe → Type 0
-  Probed s Open = Unit {0}
-  Probed s (Dead k) = Skips s k
+  -- nothing is told of s, or after how many bytes it is passed over
+  abbrev pub Probed : List ℕ → Option ℕ → Type 0
+  Probed s None = Unit {0}
+  Probed s (Some k) = Skips s k
 
 -- within so many bytes
-abbrev pub ProbedWithin : ℕ → Probe → Type 0
-ProbedWithin n Open = Unit {0}
-ProbedWithin n (Dead k) = k ≤ n
+abbrev pub ProbedWithin : ℕ → Option ℕ → Type 0
+ProbedWithin n None = Unit {0}
+ProbedWithin n (Some k) = k ≤ n

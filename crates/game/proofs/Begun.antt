@@ -5,7 +5,6 @@ use mathlib.Core.Path.{◌≡◌, refl, sym, ◌∙◌, ap, subst}
 use mathlib.Core.Logic.{inl, inr, ◌↔◌}
 use mathlib.Core.List.{List, [], ◌∷◌, ◌++◌}
 use mathlib.Core.Bool.{Bool, true, false, cond, ◌||◌, false≢true}
-use mathlib.Core.Option.{Option, none, some}
 use lib.Dec.{ltb}
 use borrow.Author.Tests.{lt-ltb, le-ltb, ltb-true, ltb-false}
 use Rattle.term.specs.Term.{Term}
@@ -20,6 +19,7 @@ use Rattle.replace.specs.Splice.{spliced_in}
 use Rattle.game.specs.Move.{Rule, Game}
 use Rattle.game.specs.Search.{Ruling, forced, unforced, stopped, Opening, unneeded, by_rule, by_pass, Turn, to, nowhere, spends, turn_by, Allowing, each, turn, goal_at, goal_first, at_turn, unless_forced, if_forced, loader_tries, sender_tries, loader_turn, sender_turn, play}
 use Rattle.game.specs.Begun.{Searches, SomeOver, is_forced, is_unforced, unless_goal, if_move, rules_begun, loader_begun, sender_begun, begun}
+use Rattle.std.specs.Prelude.{Option, Some, None}
 
 abbrev stop_if : {A : Type 0} → Bool → Ruling A → Ruling A
 stop_if true x = stopped
@@ -87,8 +87,8 @@ turn_unspent l r t e = by (first_answer (whole l r.pattern t).out) e
     within false u h = let z : ◌≡◌ {A = ℕ} 0 1 = cc in omega arith
 
     by : (o : Option Env) → turn_by l.table (replaced_by l r.template o (count_of l r.pattern t)) ≡ spends → ⊥
-    by (some e) h = within (within_limits l.table (spliced_in l (instance r.template e.value))) (spliced_in l (instance r.template e.value)) h
-    by none h = let z : ◌≡◌ {A = ℕ} 0 1 = cc in omega arith
+    by (Some e) h = within (within_limits l.table (spliced_in l (instance r.template e.value))) (spliced_in l (instance r.template e.value)) h
+    by None h = let z : ◌≡◌ {A = ℕ} 0 1 = cc in omega arith
 
 abbrev settled_goal : Language → Game → Term → Answers → Matching
 settled_goal l g t o = matching_of l.table o (count_of l g.goal t)

@@ -5,7 +5,6 @@ use mathlib.Core.Path.{◌≡◌, refl, sym, ◌∙◌, ap, subst}
 use mathlib.Core.Logic.{◌↔◌}
 use mathlib.Core.List.{List}
 use mathlib.Core.Bool.{Bool, true, false}
-use mathlib.Core.Option.{Option}
 use lib.Dec.{leb}
 use borrow.Author.Tests.{le-leb, lt-leb, leb-true}
 use Rattle.answers.specs.Answers.{played_number, played_index, played_count}
@@ -14,105 +13,92 @@ use Rattle.answers.specs.declared.Played.{Played}
 use Rattle.answers.specs.declared.Refusal.{Refusal}
 use Rattle.answers.specs.declared.Refusal.TheVariants.{Table, Class, Turns}
 use Rattle.answers.proofs.Numbers.{word_or_refusal}
-use Rattle.byte_answers.specs.declared.Read.{Read}
-use Rattle.byte_answers.specs.declared.Read.TheVariants.{Ends}
 use Rattle.term.specs.declared.Edition.{Edition}
 use Rattle.term.specs.Limits.{Octets}
 use Rattle.term.specs.Table.{table_accepted}
 use Rattle.term.specs.Term.{Term}
-use Rattle.anti_pattern.specs.Language.{Language, language}
+use Rattle.anti_pattern.specs.Language.{Language}
 use Rattle.reader.specs.Reading.{shown, read_pattern, read_record}
 use Rattle.reader.proofs.Answers.{refused_shown, ends_shown}
 use Rattle.reader.proofs.Typed.{record_iff, pattern_iff, record_read, pattern_read}
 use Rattle.parts.specs.Shown.{answer_width}
-use Rattle.reader.specs.Brought.{Brought, or_empty, classes_of, language_of, brought_accepted}
+use Rattle.reader.specs.Brought.{Brought, language_of, brought_accepted}
 use Rattle.call.specs.Call.{checks, answer_by}
 use Rattle.call.specs.Verdict.{Verdict, passed, fault, check, reading, both}
 use Rattle.call.proofs.Brought.{brought_alike}
 use Rattle.call.proofs.Checks as every
-use Rattle.sheet.specs.Check.{edition_of}
-use Rattle.rules.specs.Call.{in_sheet}
 use Rattle.replace.proofs.Demands.{brought_classed}
-use Rattle.game.specs.Handed.{Sheets, with}
+use Rattle.game.specs.Handed.{Sheets, Handed, with}
 use Rattle.game.specs.Call.{most_turns, Input, side, Trees, game, trees, checked, told, play_of}
 use Rattle.game.specs.Demands.{shown_as, Answered, Demanded}
 use Rattle.game.specs.Move.{Rule, Game}
 use Rattle.game.specs.Search.{Ruling, forced, unforced, stopped, Opening, unneeded, by_rule, by_pass, play, each}
-use Rattle.game.specs.Turns.{check_of, Plays, Called}
-use Rattle.game.specs.declared.Check.{Check}
-use Rattle.game.specs.declared.Check.TheVariants.{Passed, Failed}
+use Rattle.game.specs.Turns.{check_of, Plays, Called, Bytewise, CalledOn}
 use Rattle.game.proofs.Begun.{spent_begun, larger}
 use Rattle.game.proofs.Exact.{game_exact}
 use Rattle.game.proofs.Templates.{check_failed, check_passed, side_read, read_side}
+use Rattle.std.specs.Prelude.{Result, Ok, Err, Option}
+use Rattle.answers.specs.declared.Fault.{Fault}
+use Rattle.answers.specs.Fault.{fault_at}
 
--- the checks of both sides, the goal and the state, each by what is told of the ones before it; the edition is the one that the first sheet tells
+-- the checks of both sides, the goal and the state, each by what is told of the ones before it, in the language of the call
 
-module _ (table : List ℕ) (list : Option (List ℕ)) (s : Sheets) (bytes : List ℕ) (edition : Edition) (like : edition ≡ edition_of s.loader) where
-  abbrev brings_in : Edition → Brought
-  brings_in x = record { edition = x; table = table; list = list }
-
+module _ (brought : Brought) (s : Sheets) (bytes : List ℕ) (lang : Language) (is : lang ≡ language_of brought) where
   abbrev loads : Verdict (List Rule)
-  loads = side (brings_in edition) s.loader s.loader_templates
+  loads = side brought s.loader s.loader_templates
 
   abbrev sends : Verdict (List Rule)
-  sends = side (brings_in edition) s.sender s.sender_templates
+  sends = side brought s.sender s.sender_templates
 
   abbrev All : Verdict Trees
-  All = trees (with (in_sheet s.loader table list) s) bytes
+  All = trees (with brought s) bytes
 
-  in_first : (r : Check) → r ≡ check_of (trees (with (brings_in edition) s) bytes) → r ≡ check_of All
-  in_first r e = e ∙ ap (λ (x : Edition). check_of (trees (with (brings_in x) s) bytes)) like
+  goal_as : (x : Result ℕ Refusal) → shown (read_pattern lang s.goal) ≡ x → shown (read_pattern (language_of brought) s.goal) ≡ x
+  goal_as x e = ap (λ (y : Language). shown (read_pattern y s.goal)) (sym is) ∙ e
 
-  pub loader_fails : (r : Refusal) (i : ℕ) → check_of loads ≡ Failed r i → Failed r i ≡ check_of All
-  loader_fails r i e = in_first (Failed r i) (rw (check_failed loads r i e))
+  record_as : (x : Result ℕ Refusal) → shown (read_record lang bytes) ≡ x → shown (read_record (language_of brought) bytes) ≡ x
+  record_as x e = ap (λ (y : Language). shown (read_record y bytes)) (sym is) ∙ e
 
-  module _ (a : check_of loads ≡ Passed) where
-    pub sender_fails : (r : Refusal) (i : ℕ) → check_of sends ≡ Failed r i → Failed r i ≡ check_of All
-    sender_fails r i e = in_first (Failed r i) (rw ((check_passed loads a).1, check_failed sends r i e))
+  module _ (a : check_of loads ≡ Ok tt) (b : check_of sends ≡ Ok tt) where
+    pub goal_fails : (r : Refusal) → shown (read_pattern lang s.goal) ≡ Err r → Err (fault_at r 0) ≡ check_of All
+    goal_fails r e =
+        rw ((check_passed loads a).1, (check_passed sends b).1, refused_shown (read_pattern (language_of brought) s.goal) r (goal_as (Err r) e))
 
-    module _ (b : check_of sends ≡ Passed) (classes : List ℕ) (is : classes ≡ or_empty list) where
-      abbrev lang : List ℕ → Language
-      lang y = language edition table y
+    module _ (m : ℕ) (c : shown (read_pattern lang s.goal) ≡ Ok m) where
+      pub record_fails : (r : Refusal) → shown (read_record lang bytes) ≡ Err r → Err (fault_at r 0) ≡ check_of All
+      record_fails r e =
+          rw ((check_passed loads a).1, (check_passed sends b).1, (ends_shown (read_pattern (language_of brought) s.goal) m (goal_as (Ok m) c)).1, refused_shown (read_record (language_of brought) bytes) r (record_as (Err r) e))
 
-      goal_as : (x : Read) → shown (read_pattern (lang classes) s.goal) ≡ x → shown (read_pattern (lang (or_empty list)) s.goal) ≡ x
-      goal_as x e = ap (λ (y : List ℕ). shown (read_pattern (lang y) s.goal)) (sym is) ∙ e
+      pub trees_pass : (n : ℕ) → shown (read_record lang bytes) ≡ Ok n → Ok tt ≡ check_of All
+      trees_pass n e =
+          rw ((check_passed loads a).1, (check_passed sends b).1, (ends_shown (read_pattern (language_of brought) s.goal) m (goal_as (Ok m) c)).1, (ends_shown (read_record (language_of brought) bytes) n (record_as (Ok n) e)).1)
 
-      record_as : (x : Read) → shown (read_record (lang classes) bytes) ≡ x → shown (read_record (lang (or_empty list)) bytes) ≡ x
-      record_as x e = ap (λ (y : List ℕ). shown (read_record (lang y) bytes)) (sym is) ∙ e
+module _ (brought : Brought) (s : Sheets) (bytes : List ℕ) where
+  pub loader_fails : (f : Fault) → check_of (side brought s.loader s.loader_templates) ≡ Err f → Err f ≡ check_of (trees (with brought s) bytes)
+  loader_fails f e = rw (check_failed (side brought s.loader s.loader_templates) f.refusal f.index e)
 
-      pub goal_fails : (r : Refusal) → shown (read_pattern (lang classes) s.goal) ≡ Read.Refused r → Failed r 0 ≡ check_of All
-      goal_fails r e =
-          in_first (Failed r 0)
-          (rw ((check_passed loads a).1, (check_passed sends b).1, refused_shown (read_pattern (lang (or_empty list)) s.goal) r (goal_as (Read.Refused r) e)))
-
-      module _ (m : ℕ) (c : shown (read_pattern (lang classes) s.goal) ≡ Ends m) where
-        pub record_fails : (r : Refusal) → shown (read_record (lang classes) bytes) ≡ Read.Refused r → Failed r 0 ≡ check_of All
-        record_fails r e =
-            in_first (Failed r 0)
-            (rw ((check_passed loads a).1, (check_passed sends b).1, (ends_shown (read_pattern (lang (or_empty list)) s.goal) m (goal_as (Ends m) c)).1, refused_shown (read_record (lang (or_empty list)) bytes) r (record_as (Read.Refused r) e)))
-
-        pub trees_pass : (n : ℕ) → shown (read_record (lang classes) bytes) ≡ Ends n → Passed ≡ check_of All
-        trees_pass n e =
-            in_first Passed
-            (rw ((check_passed loads a).1, (check_passed sends b).1, (ends_shown (read_pattern (lang (or_empty list)) s.goal) m (goal_as (Ends m) c)).1, (ends_shown (read_record (lang (or_empty list)) bytes) n (record_as (Ends n) e)).1))
+  pub sender_fails : check_of (side brought s.loader s.loader_templates) ≡ Ok tt → (f : Fault) → check_of (side brought s.sender s.sender_templates) ≡ Err f
+      → Err f ≡ check_of (trees (with brought s) bytes)
+  sender_fails a f e =
+      rw ((check_passed (side brought s.loader s.loader_templates) a).1, check_failed (side brought s.sender s.sender_templates) f.refusal f.index e)
 
 -- all checks
 
 module _ (turns : ℕ) (brought : Brought) (s : Sheets) (bytes : List ℕ) where
-  pub turns_fail : most_turns < turns → Failed Turns 0 ≡ check_of (checked turns (with brought s) bytes)
+  pub turns_fail : most_turns < turns → Err (fault_at Turns 0) ≡ check_of (checked turns (with brought s) bytes)
   turns_fail h = rw (lt-leb turns most_turns h)
 
   module _ (h : turns ≤ most_turns) where
-    pub table_fails : table_accepted brought.table ≡ false → Failed Table 0 ≡ check_of (checked turns (with brought s) bytes)
+    pub table_fails : table_accepted brought.table ≡ false → Err (fault_at Table 0) ≡ check_of (checked turns (with brought s) bytes)
     unfolding checks
     table_fails e = rw (le-leb turns most_turns h, e)
 
     module _ (tabled : table_accepted brought.table ≡ true) where
-      pub class_fails : brought_accepted brought ≡ false → Failed Class 0 ≡ check_of (checked turns (with brought s) bytes)
+      pub class_fails : brought_accepted brought ≡ false → Err (fault_at Class 0) ≡ check_of (checked turns (with brought s) bytes)
       unfolding checks
       class_fails e = rw (le-leb turns most_turns h, tabled, e)
 
-      pub trees_tell : brought_accepted brought ≡ true → (r : Check) → r ≡ check_of (trees (with brought s) bytes) → r ≡ check_of (checked turns (with brought s) bytes)
+      pub trees_tell : brought_accepted brought ≡ true → (r : Result (Unit {0}) Fault) → r ≡ check_of (trees (with brought s) bytes) → r ≡ check_of (checked turns (with brought s) bytes)
       unfolding checks
       trees_tell e r f = rw (le-leb turns most_turns h, tabled, e) f
 
@@ -226,7 +212,7 @@ module _ (turns : ℕ) (brought : Brought) (s : Sheets) (bytes : List ℕ) (load
   abbrev as_trees : Game → Term → Trees
   as_trees g t = ((g.loader, g.sender), (g.goal, t))
 
-  abbrev tells : ℕ → Trees → Played
+  abbrev tells : ℕ → Trees → Result Played Fault
   tells n x = told n (play l (each n) (game x) turns x.1.1)
 
   module _ (allowance : ℕ) where
@@ -257,7 +243,7 @@ module _ (turns : ℕ) (brought : Brought) (s : Sheets) (bytes : List ℕ) (load
           );
           larger_allowance = λ more u m.
               let e = larger l g turns t allowance more (λ z. u (ap (λ (y : Ruling Opening). played_number (told allowance y)) z)) m in
-              ap (answer_by Played.Refused (tells more)) (checked_from h a (as_trees g t) i) ∙ lifted more (play l (each more) g turns t) ruling e u;
+              ap (answer_by (λ r i. Err (fault_at r i)) (tells more)) (checked_from h a (as_trees g t) i) ∙ lifted more (play l (each more) g turns t) ruling e u;
         }
       where
         lifted : (more : ℕ) (y z : Ruling Opening) → y ≡ z → (played_number (told allowance z) ≡ 11 → ⊥) → told more y ≡ told allowance z
@@ -270,10 +256,10 @@ module _ (turns : ℕ) (brought : Brought) (s : Sheets) (bytes : List ℕ) (load
             go unforced u = refl
             go stopped u = absurd (u refl)
 
-    demanded_by : (v : Verdict Trees) → checked turns (with brought s) bytes ≡ v → Demanded turns (with brought s) bytes allowance (answer_by Played.Refused (tells allowance) v)
+    demanded_by : (v : Verdict Trees) → checked turns (with brought s) bytes ≡ v → Demanded turns (with brought s) bytes allowance (answer_by (λ r i. Err (fault_at r i)) (tells allowance) v)
     demanded_by (fault r j) e = record {
       refused_exactly = (λ z h a g t i. every.fault_passed (sym e ∙ checked_from h a (as_trees g t) i), λ f. (r, refl));
-      turns_first = λ h. ap (λ (v : Verdict Trees). played_number (answer_by Played.Refused (tells allowance) v)) (sym e ∙ check_failed (checked turns (with brought s) bytes) Turns 0 (sym (turns_fail turns brought s bytes h)));
+      turns_first = λ h. ap (λ (v : Verdict Trees). played_number (answer_by (λ r i. Err (fault_at r i)) (tells allowance) v)) (sym e ∙ check_failed (checked turns (with brought s) bytes) Turns 0 (sym (turns_fail turns brought s bytes h)));
       unspent_count = λ z. refl;
       spent_shows = λ z. absurd (word_or_refusal 11 refl r (sym z));
       answered = λ h a g t i. absurd (every.fault_passed (sym e ∙ checked_from h a (as_trees g t) i));
@@ -294,23 +280,32 @@ module _ (turns : ℕ) (brought : Brought) (s : Sheets) (bytes : List ℕ) (load
     unfolding play_of
     demanded = demanded_by (checked turns (with brought s) bytes) refl
 
-    abbrev CalledAs : Played → Type 0
+    abbrev CalledAs : Result Played Fault → Type 0
     CalledAs a = Called turns (with brought s) bytes allowance a
 
-    called : (a : Played) → a ≡ play_of turns (with brought s) bytes allowance → CalledAs a
+    called : (a : Result Played Fault) → a ≡ play_of turns (with brought s) bytes allowance → CalledAs a
     called a e = (e, subst (Demanded turns (with brought s) bytes allowance) (sym e) demanded)
 
     -- the code's answer where a check fails, and where all pass
-    pub play_fails : (r : Refusal) (i : ℕ) → check_of (checked turns (with brought s) bytes) ≡ Failed r i → CalledAs (Played.Refused r i)
+    pub play_fails : (r : Refusal) (i : ℕ) → check_of (checked turns (with brought s) bytes) ≡ Err (fault_at r i) → CalledAs (Err (fault_at r i))
     unfolding play_of
-    play_fails r i e = called (Played.Refused r i) (rw (check_failed (checked turns (with brought s) bytes) r i e))
+    play_fails r i e = called (Err (fault_at r i)) (rw (check_failed (checked turns (with brought s) bytes) r i e))
 
-    pub play_passes : (classes : List ℕ) → classes ≡ classes_of brought → check_of (checked turns (with brought s) bytes) ≡ Passed → (a : Played)
-        → Plays (language brought.edition brought.table classes) s allowance turns bytes a → CalledAs a
+    pub play_passes : (lang : Language) → lang ≡ language_of brought → check_of (checked turns (with brought s) bytes) ≡ Ok tt → (a : Result Played Fault)
+        → Plays lang s allowance turns bytes a → CalledAs a
     unfolding play_of
-    play_passes classes is e a f =
+    play_passes lang is e a f =
         let x = check_passed (checked turns (with brought s) bytes) e in
         let c = checked_to x.0 x.1 in
         let z : a ≡ tells allowance x.0 =
-        subst (λ (y : List ℕ). Plays (language brought.edition brought.table y) s allowance turns bytes a) is f (brought_classed brought c.1) (game x.0) x.0.1.1 c.2 in
+        subst (λ (y : Language). Plays y s allowance turns bytes a) is f (brought_classed brought c.1) (game x.0) x.0.1.1 c.2 in
         called a (rw x.1 z)
+
+-- by what the code hands
+
+abbrev pub in_edition : Edition → List ℕ → Option (List ℕ) → Brought
+in_edition e table list = record { edition = e; table = table; list = list }
+
+pub called_as : (h k : Handed) → h ≡ k → (turns : ℕ) (bytes : List ℕ) (allowance : ℕ) (a : Result Played Fault) → CalledOn turns h bytes allowance a
+    → Bytewise k.sheets → Called turns k bytes allowance a
+called_as h k e turns bytes allowance a c = subst (λ (x : Handed). CalledOn turns x bytes allowance a) e c

@@ -7,6 +7,6 @@ pub mod Begun
 pub mod Exact
 pub mod Sides
 pub mod Steps
-pub mod Moves
+pub mod Rulings
 pub mod Templates
 pub mod Calls

@@ -4,7 +4,6 @@ use native.Mathlib.Omega.{arith}
 use mathlib.Core.Path.{◌≡◌, refl, sym, ◌∙◌, ap, subst}
 use mathlib.Core.List.{List, [], ◌∷◌}
 use mathlib.Core.Bool.{true}
-use mathlib.Core.Option.{none, some}
 use lib.ListN.{length, get_or, drop, length-map}
 use Rattle.term.specs.Language.{Language}
 use Rattle.term.specs.Limits.{TermAccepted}
@@ -23,43 +22,44 @@ use Rattle.rules.proofs.Rules.{rule_at as pattern_at, rule_bytes, rules_none_emp
 use Rattle.game.specs.Accepted.{RuleAccepted, EachAccepted}
 use Rattle.game.specs.Call.{patterns, templates, Side}
 use Rattle.game.specs.Move.{Rule, rule_at}
+use Rattle.std.specs.Prelude.{Some, None}
 
 -- the rule of an index
 
-pub some_rule : {x y : Rule} → some x ≡ some y → x ≡ y
+pub some_rule : {x y : Rule} → Some x ≡ Some y → x ≡ y
 some_rule h = cc
 
-no_some : {x : Rule} → none ≡ some x → ⊥
+no_some : {x : Rule} → None ≡ Some x → ⊥
 no_some h = let z : ◌≡◌ {A = ℕ} 0 1 = cc in omega arith
 
-pub rule_drop : (rs : List Rule) (i : ℕ) (x : Rule) → rule_at rs i ≡ some x → drop i rs ≡ x ∷ drop (i + 1) rs
+pub rule_drop : (rs : List Rule) (i : ℕ) (x : Rule) → rule_at rs i ≡ Some x → drop i rs ≡ x ∷ drop (i + 1) rs
 rule_drop [] i x e = absurd (no_some e)
 rule_drop (r ∷ rs) zero x e = ap (λ (y : Rule). y ∷ rs) (some_rule e)
 rule_drop (r ∷ rs) (suc i) x e =
     let z : suc (i + 1) ≡ suc i + 1 = omega arith in
     rule_drop rs i x e ∙ ap (λ (n : ℕ). x ∷ drop n (r ∷ rs)) z
 
-pub rule_there : (rs : List Rule) (i : ℕ) → i < length rs → (x : Rule) × (rule_at rs i ≡ some x)
+pub rule_there : (rs : List Rule) (i : ℕ) → i < length rs → (x : Rule) × (rule_at rs i ≡ Some x)
 rule_there [] i h = absurd (omega arith)
 rule_there (r ∷ rs) zero h = (r, refl)
 rule_there (r ∷ rs) (suc i) h = rule_there rs i (omega arith)
 
-pub rule_below : (rs : List Rule) (i : ℕ) (x : Rule) → rule_at rs i ≡ some x → i < length rs
+pub rule_below : (rs : List Rule) (i : ℕ) (x : Rule) → rule_at rs i ≡ Some x → i < length rs
 rule_below [] i x e = absurd (no_some e)
 rule_below (r ∷ rs) zero x e = omega arith
 rule_below (r ∷ rs) (suc i) x e = let h = rule_below rs i x e in omega (arith, h)
 
-pub rule_accepted : (l : Language) (rs : List Rule) (i : ℕ) (x : Rule) → EachAccepted l rs → rule_at rs i ≡ some x → RuleAccepted l x
+pub rule_accepted : (l : Language) (rs : List Rule) (i : ℕ) (x : Rule) → EachAccepted l rs → rule_at rs i ≡ Some x → RuleAccepted l x
 rule_accepted l [] i x a e = absurd (no_some e)
 rule_accepted l (r ∷ rs) zero x a e = subst (RuleAccepted l) (some_rule e) a.0
 rule_accepted l (r ∷ rs) (suc i) x a e = rule_accepted l rs i x a.1 e
 
-pattern_of_holds : (rs : List Rule) (i : ℕ) (x : Rule) → rule_at rs i ≡ some x → pattern_at (patterns rs) i ≡ x.pattern
+pattern_of_holds : (rs : List Rule) (i : ℕ) (x : Rule) → rule_at rs i ≡ Some x → pattern_at (patterns rs) i ≡ x.pattern
 pattern_of_holds [] i x e = absurd (no_some e)
 pattern_of_holds (r ∷ rs) zero x e = ap (λ (y : Rule). y.pattern) (some_rule e)
 pattern_of_holds (r ∷ rs) (suc i) x e = pattern_of_holds rs i x e
 
-template_of : (rs : List Rule) (i : ℕ) (x : Rule) → rule_at rs i ≡ some x → pattern_at (templates rs) i ≡ x.template
+template_of : (rs : List Rule) (i : ℕ) (x : Rule) → rule_at rs i ≡ Some x → pattern_at (templates rs) i ≡ x.template
 template_of [] i x e = absurd (no_some e)
 template_of (r ∷ rs) zero x e = ap (λ (y : Rule). y.template) (some_rule e)
 template_of (r ∷ rs) (suc i) x e = template_of rs i x e
@@ -105,7 +105,7 @@ module _ (l : Language) (rule_sheet template_sheet : List ℕ) (rs : List Rule) 
 
   -- with a state, the parts of an index are input that is accepted for a replacement
   module _ (tabled : table_accepted l.table ≡ true) (t : Term) (bytes : List ℕ) (stands : term_bytes l.table t [] ≡ bytes) (st : TermAccepted l t) where
-    pub side_input : (i : ℕ) (x : Rule) → rule_at rs i ≡ some x → ReplaceInput l (part_at rule_sheet i) (part_at template_sheet i) bytes x.pattern x.template t
+    pub side_input : (i : ℕ) (x : Rule) → rule_at rs i ≡ Some x → ReplaceInput l (part_at rule_sheet i) (part_at template_sheet i) bytes x.pattern x.template t
     side_input i x e =
         let b = rule_below rs i x e in
         let m = written_part l rule_sheet (patterns rs) side.rules_bytes_holds side.rules_short i (omega (arith, b, length-map rs (λ r. r.pattern))) in

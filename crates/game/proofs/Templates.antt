@@ -10,11 +10,7 @@ use lib.Seq.{drop-cons}
 use borrow.Author.Tests.{le-leb, leb-true, eqb-true, eq-eqb}
 use Rattle.answers.specs.declared.Refusal.{Refusal}
 use Rattle.answers.specs.declared.Refusal.TheVariants.{Directory, Loose}
-use Rattle.byte_answers.specs.declared.Checked.{Checked}
-use Rattle.byte_answers.specs.declared.Checked.TheVariants.{Accepted}
-use Rattle.byte_answers.specs.declared.Read.{Read}
-use Rattle.byte_answers.specs.declared.Read.TheVariants.{Ends}
-use Rattle.term.specs.Language.{Language, language}
+use Rattle.term.specs.Language.{Language}
 use Rattle.term.specs.declared.Edition.{Edition}
 use Rattle.term.specs.declared.Edition.TheVariants.{One, Two}
 use Rattle.term.specs.Limits.{Octets, PatternAccepted}
@@ -24,13 +20,12 @@ use Rattle.anti_pattern.specs.Variables.{free}
 use Rattle.reader.specs.Reading.{Parsed, refused, read, shown, read_pattern}
 use Rattle.reader.proofs.Answers.{refused_shown, ends_shown}
 use Rattle.reader.proofs.Typed.{pattern_iff, pattern_read}
-use Rattle.reader.specs.Brought.{Brought, or_empty, language_in, language_of, brought_accepted}
+use Rattle.reader.specs.Brought.{Brought, language_in, language_of, brought_accepted}
 use Rattle.call.specs.Verdict.{Verdict, passed, fault}
 use Rattle.call.proofs.Checks.{fault_passed}
 use Rattle.sheet.specs.Check.{entry_count, edition_of, check_sheet, allowed, check_among}
 use Rattle.sheet.specs.Contents.{most_rules, check_each}
 use Rattle.sheet.specs.Entry.{entries, part_at}
-use Rattle.sheet.specs.declared.Editions.TheVariants.{Only}
 use Rattle.sheet.proofs.Checks.{accepted_directed, directed_accepted}
 use Rattle.sheet.proofs.Contents.{among_checked, among_sheet, contents_each, ContentsPassed, contents_passed}
 use Rattle.sheet.proofs.Entries.{part_entry, entry_octets, entries_count, entries_octets}
@@ -45,17 +40,19 @@ use Rattle.game.specs.Accepted.{EachAccepted}
 use Rattle.game.specs.Call.{patterns, templates, Side, with_rule, with_template, templates_from, templates_by, check_own, check_templates, side_by, side}
 use Rattle.game.specs.Move.{Rule}
 use Rattle.game.specs.Turns.{check_of, RulesChecked, ChecksTemplates}
-use Rattle.game.specs.declared.Check.{Check}
-use Rattle.game.specs.declared.Check.TheVariants.{Passed, Failed}
 use Rattle.game.proofs.Sides.{patterns_accepted, part_of_holds, written_entries, written_sheet, written_like}
+use Rattle.std.specs.Prelude.{Result, Ok, Err, Some}
+use Rattle.answers.specs.declared.Fault.{Fault}
+use Rattle.answers.specs.Fault.{fault_at}
 
 -- what the code's checks tell
 
-pub check_failed : {X : Type 0} (v : Verdict X) (r : Refusal) (i : ℕ) → check_of v ≡ Failed r i → v ≡ fault r i
-check_failed (fault x j) r i e = cc
+pub check_failed : {X : Type 0} (v : Verdict X) (r : Refusal) (i : ℕ) → check_of v ≡ Err (fault_at r i) → v ≡ fault r i
+check_failed (fault x j) r i e =
+    let z : ◌≡◌ {A = Fault} (fault_at x j) (fault_at r i) = cc in ap (λ (f : Fault). fault f.refusal f.index) z
 check_failed (passed x) r i e = let z : ◌≡◌ {A = ℕ} 0 1 = cc in absurd (omega arith)
 
-pub check_passed : {X : Type 0} (v : Verdict X) → check_of v ≡ Passed → (x : X) × (v ≡ passed x)
+pub check_passed : {X : Type 0} (v : Verdict X) → check_of v ≡ Ok tt → (x : X) × (v ≡ passed x)
 check_passed (fault x j) e = let z : ◌≡◌ {A = ℕ} 0 1 = cc in absurd (omega arith)
 check_passed (passed x) e = (x, refl)
 
@@ -77,16 +74,15 @@ module _ (l : Language) (rule_sheet template_sheet : List ℕ) where
   -- the templates before index i pass
   pub record CheckedTo (k i : ℕ) : Type 0 where
     pub counted : k ≡ entry_count template_sheet
-    pub few : k ≤ 65535
-    pub going : (n : ℕ) → RulesChecked l rule_sheet n → check_sheet template_sheet ≡ Accepted n
+    pub going : (n : ℕ) → RulesChecked l rule_sheet n → check_sheet template_sheet ≡ Ok n
         → check_of (templates_from l 0 ps es) ≡ check_of (templates_from l i (drop i ps) (drop i es))
 
-  pub check_starts : (k : ℕ) → k ≡ entry_count template_sheet → k ≤ 65535 → CheckedTo k 0
-  check_starts k c f = record { counted = c; few = f; going = λ n a b. refl }
+  pub check_starts : (k : ℕ) → k ≡ entry_count template_sheet → CheckedTo k 0
+  check_starts k c = record { counted = c; going = λ n a b. refl }
 
   module _ (rules_octets : Octets rule_sheet) (templates_octets : Octets template_sheet) (k i : ℕ) (at : CheckedTo k i) where
     -- past the last
-    pub check_ends : k ≤ i → ChecksTemplates l rule_sheet template_sheet Passed
+    pub check_ends : k ≤ i → ChecksTemplates l rule_sheet template_sheet (Ok tt)
     unfolding ChecksTemplates templates_from
     check_ends h n a b =
         let c = (accepted_directed template_sheet n b).counted in
@@ -97,7 +93,7 @@ module _ (l : Language) (rule_sheet template_sheet : List ℕ) where
 
     module _ (below : i < k) (rule template : List ℕ) (is_rule : rule ≡ part_at rule_sheet i) (is_template : template ≡ part_at template_sheet i) where
       -- the rule of the index, and what is left
-      next_rule : (n : ℕ) → RulesChecked l rule_sheet n → check_sheet template_sheet ≡ Accepted n
+      next_rule : (n : ℕ) → RulesChecked l rule_sheet n → check_sheet template_sheet ≡ Ok n
           → (p : Pattern) × (pattern_bytes l.table p [] ≡ rule) × PatternAccepted l p
           × (check_of (templates_from l 0 ps es) ≡ check_of (with_template i p (read_pattern l template) (templates_from l (i + 1) (drop (i + 1) ps) (drop (i + 1) es))))
       unfolding templates_from
@@ -117,20 +113,20 @@ module _ (l : Language) (rule_sheet template_sheet : List ℕ) where
             at.going n a b ∙ ap₂ (λ (ys : List Pattern) (zs : List (List ℕ)). check_of (templates_from l i ys zs)) dp de,
           )
 
-      pub template_refused : (r : Refusal) → shown (read_pattern l template) ≡ Read.Refused r → ChecksTemplates l rule_sheet template_sheet (Failed r i)
+      pub template_refused : (r : Refusal) → shown (read_pattern l template) ≡ Err r → ChecksTemplates l rule_sheet template_sheet (Err (fault_at r i))
       unfolding ChecksTemplates
       template_refused r e n a b =
           let x = next_rule n a b in
           sym (x.3 ∙ ap (λ (y : Parsed Pattern). check_of (with_template i x.0 y (templates_from l (i + 1) (drop (i + 1) ps) (drop (i + 1) es))))
           (refused_shown (read_pattern l template) r e))
 
-      template_octets : (n : ℕ) → check_sheet template_sheet ≡ Accepted n → Octets template
+      template_octets : (n : ℕ) → check_sheet template_sheet ≡ Ok n → Octets template
       template_octets n b =
           let c = accepted_directed template_sheet n b in
           subst Octets (sym (is_template ∙ part_entry template_sheet n i c (omega (arith, at.counted, c.counted)))) (entry_octets template_sheet templates_octets i)
 
-      read_on : (m : ℕ) → shown (read_pattern l template) ≡ Ends m → (r : Bool) → TellsLoose l.table rule template r → (n : ℕ)
-          → RulesChecked l rule_sheet n → check_sheet template_sheet ≡ Accepted n
+      read_on : (m : ℕ) → shown (read_pattern l template) ≡ Ok m → (r : Bool) → TellsLoose l.table rule template r → (n : ℕ)
+          → RulesChecked l rule_sheet n → check_sheet template_sheet ≡ Ok n
           → check_of (templates_from l 0 ps es) ≡ check_of (cond r (fault Loose i) (templates_from l (i + 1) (drop (i + 1) ps) (drop (i + 1) es)))
       unfolding TellsLoose
       read_on m e r f n a b =
@@ -149,29 +145,28 @@ module _ (l : Language) (rule_sheet template_sheet : List ℕ) where
           by true p q = refl
           by false p q = rule_checked_holds p q (templates_from l (i + 1) (drop (i + 1) ps) (drop (i + 1) es))
 
-      pub template_loose : (m : ℕ) → shown (read_pattern l template) ≡ Ends m → (r : Bool) → TellsLoose l.table rule template r → r ≡ true
-          → ChecksTemplates l rule_sheet template_sheet (Failed Loose i)
+      pub template_loose : (m : ℕ) → shown (read_pattern l template) ≡ Ok m → (r : Bool) → TellsLoose l.table rule template r → r ≡ true
+          → ChecksTemplates l rule_sheet template_sheet (Err (fault_at Loose i))
       unfolding ChecksTemplates
       template_loose m e r f t n a b =
           sym (read_on m e r f n a b ∙ ap (λ (w : Bool). check_of (cond w (fault Loose i) (templates_from l (i + 1) (drop (i + 1) ps) (drop (i + 1) es)))) t)
 
-      pub template_passes : (m : ℕ) → shown (read_pattern l template) ≡ Ends m → (r : Bool) → TellsLoose l.table rule template r → r ≡ false → CheckedTo k (i + 1)
+      pub template_passes : (m : ℕ) → shown (read_pattern l template) ≡ Ok m → (r : Bool) → TellsLoose l.table rule template r → r ≡ false → CheckedTo k (i + 1)
       template_passes m e r f t = record {
         counted = at.counted;
-        few = at.few;
         going = λ n a b.
             read_on m e r f n a b ∙ ap (λ (w : Bool). check_of (cond w (fault Loose i) (templates_from l (i + 1) (drop (i + 1) ps) (drop (i + 1) es)))) t;
       }
 
 -- the checks of one side
 
-same_edition_holds : (a b : Edition) → allowed (Only a) b ≡ true → b ≡ a
+same_edition_holds : (a b : Edition) → allowed (Some a) b ≡ true → b ≡ a
 same_edition_holds One One h = refl
 same_edition_holds One Two h = absurd (true≢false (sym h))
 same_edition_holds Two One h = absurd (true≢false (sym h))
 same_edition_holds Two Two h = refl
 
-edition_same : (a b : Edition) → b ≡ a → allowed (Only a) b ≡ true
+edition_same : (a b : Edition) → b ≡ a → allowed (Some a) b ≡ true
 edition_same One One h = refl
 edition_same One Two h = let z : ◌≡◌ {A = ℕ} 0 1 = cc in absurd (omega arith)
 edition_same Two One h = let z : ◌≡◌ {A = ℕ} 0 1 = cc in absurd (omega arith)
@@ -184,13 +179,13 @@ module _ (brought : Brought) (rule_sheet template_sheet : List ℕ) where
   abbrev rules : List Pattern
   rules = rules_of lang (entries rule_sheet)
 
-  pub rules_fail : (r : Refusal) (i : ℕ) → check_own brought rule_sheet ≡ Checked.Refused r i → Failed r i ≡ check_of (side brought rule_sheet template_sheet)
+  pub rules_fail : (r : Refusal) (i : ℕ) → check_own brought rule_sheet ≡ Err (fault_at r i) → Err (fault_at r i) ≡ check_of (side brought rule_sheet template_sheet)
   unfolding side
   rules_fail r i e = rw e
 
-  module _ (n : ℕ) (own : check_own brought rule_sheet ≡ Accepted n) where
-    own_passed : ContentsPassed false (Only brought.edition) brought.table brought.list rule_sheet n
-    own_passed = contents_passed false (Only brought.edition) brought.table brought.list rule_sheet n own
+  module _ (n : ℕ) (own : check_own brought rule_sheet ≡ Ok n) where
+    own_passed : ContentsPassed false (Some brought.edition) brought.table brought.list rule_sheet n
+    own_passed = contents_passed false (Some brought.edition) brought.table brought.list rule_sheet n own
 
     own_like : edition_of rule_sheet ≡ brought.edition
     own_like = same_edition_holds brought.edition (edition_of rule_sheet) own_passed.like
@@ -198,38 +193,33 @@ module _ (brought : Brought) (rule_sheet template_sheet : List ℕ) where
     rules_checked : RulesChecked lang rule_sheet n
     rules_checked = record { tabled = own_passed.tabled; directory = own_passed.sheet; each = rw own_like at own_passed.each }
 
-    pub sheet_fails : (r : Refusal) (i : ℕ) → check_templates lang template_sheet ≡ Checked.Refused r i → Failed r i ≡ check_of (side brought rule_sheet template_sheet)
+    pub sheet_fails : (r : Refusal) (i : ℕ) → check_templates lang template_sheet ≡ Err (fault_at r i) → Err (fault_at r i) ≡ check_of (side brought rule_sheet template_sheet)
     unfolding side
     sheet_fails r i e = rw (own, e)
 
     rules_counted : length rules ≡ n
     rules_counted = omega (arith, rules_length lang (entries rule_sheet) 0 n rules_checked.each)
 
-    entries_counted : entry_count rule_sheet ≡ n
-    entries_counted = (accepted_directed rule_sheet n rules_checked.directory).counted
+    templates_sheet : (m : ℕ) → check_templates lang template_sheet ≡ Ok m → check_sheet template_sheet ≡ Ok m
+    templates_sheet m e = (among_sheet (Some brought.edition) template_sheet m e).0
 
-    templates_sheet : (m : ℕ) → check_templates lang template_sheet ≡ Accepted m → check_sheet template_sheet ≡ Accepted m
-    templates_sheet m e = (among_sheet (Only brought.edition) template_sheet m e).0
-
-    pub numbers_fail : (m : ℕ) → check_templates lang template_sheet ≡ Accepted m → (entry_count template_sheet ≡ entry_count rule_sheet → ⊥)
-        → Failed Directory 0 ≡ check_of (side brought rule_sheet template_sheet)
+    pub numbers_fail : (m : ℕ) → check_templates lang template_sheet ≡ Ok m → (m ≡ n → ⊥)
+        → Err (fault_at Directory 0) ≡ check_of (side brought rule_sheet template_sheet)
     unfolding side
     numbers_fail m e d = rw (own, e) (go (eqb m (length rules)) refl)
       where
-        go : (b : Bool) → eqb m (length rules) ≡ b → Failed Directory 0 ≡ check_of (cond b (templates_from lang 0 rules (entries template_sheet)) (fault Directory 0))
-        go true h =
-            absurd (d ((accepted_directed template_sheet m (templates_sheet m e)).counted ∙ eqb-true m (length rules) h ∙ rules_counted ∙ sym entries_counted))
+        go : (b : Bool) → eqb m (length rules) ≡ b → Err (fault_at Directory 0) ≡ check_of (cond b (templates_from lang 0 rules (entries template_sheet)) (fault Directory 0))
+        go true h = absurd (d (eqb-true m (length rules) h ∙ rules_counted))
         go false h = refl
 
-    pub templates_tell : (m : ℕ) → check_templates lang template_sheet ≡ Accepted m → entry_count template_sheet ≡ entry_count rule_sheet → (r : Check) (list : List ℕ)
-        → list ≡ or_empty brought.list → ChecksTemplates (language brought.edition brought.table list) rule_sheet template_sheet r
+    pub templates_tell : (m : ℕ) → check_templates lang template_sheet ≡ Ok m → m ≡ n → (r : Result (Unit {0}) Fault) (x : Language)
+        → x ≡ language_of brought → ChecksTemplates x rule_sheet template_sheet r
         → r ≡ check_of (side brought rule_sheet template_sheet)
     unfolding side ChecksTemplates
-    templates_tell m e c r list is f =
-        let z : m ≡ n = sym (accepted_directed template_sheet m (templates_sheet m e)).counted ∙ c ∙ entries_counted in
-        let w : eqb m (length rules) ≡ true = eq-eqb m (length rules) (z ∙ sym rules_counted) in
-        let g = subst (λ (y : List ℕ). ChecksTemplates (language brought.edition brought.table y) rule_sheet template_sheet r) is f in
-        rw (own, e, w) (g n rules_checked (templates_sheet m e ∙ ap Accepted z))
+    templates_tell m e c r x is f =
+        let w : eqb m (length rules) ≡ true = eq-eqb m (length rules) (c ∙ sym rules_counted) in
+        let g = subst (λ (y : Language). ChecksTemplates y rule_sheet template_sheet r) is f in
+        rw (own, e, w) (g n rules_checked (templates_sheet m e ∙ ap Ok c))
 
 -- the templates that pass, and those that are written
 
@@ -293,15 +283,15 @@ module _ (brought : Brought) (rule_sheet template_sheet : List ℕ) (tabled : ta
       let bd = written_sheet l template_sheet (templates rs) d.templates_bytes d.templates_short in
       let bl = written_like l template_sheet (templates rs) d.templates_bytes d.templates_short in
       let w = rules_written l (patterns rs) (patterns_accepted l rs d.accepted) (λ j. rw (← ae) (entries_octets rule_sheet rules_octets j)) 0 in
-      let x : check_among (Only brought.edition) rule_sheet ≡ Accepted (length (patterns rs)) =
-      among_checked (Only brought.edition) rule_sheet (length (patterns rs)) true (directed_accepted rule_sheet (length (patterns rs)) ad) (edition_same brought.edition (edition_of rule_sheet) al) in
-      let y : check_templates l template_sheet ≡ Accepted (length (templates rs)) =
-      among_checked (Only brought.edition) template_sheet (length (templates rs)) true (directed_accepted template_sheet (length (templates rs)) bd) (edition_same brought.edition (edition_of template_sheet) bl) in
-      let c : check_own brought rule_sheet ≡ Accepted (length (patterns rs)) =
-      contents_each false (Only brought.edition) brought.table brought.list rule_sheet tabled classed (length (patterns rs)) x
+      let x : check_among (Some brought.edition) rule_sheet ≡ Ok (length (patterns rs)) =
+      among_checked (Some brought.edition) rule_sheet (length (patterns rs)) true (directed_accepted rule_sheet (length (patterns rs)) ad) (edition_same brought.edition (edition_of rule_sheet) al) in
+      let y : check_templates l template_sheet ≡ Ok (length (templates rs)) =
+      among_checked (Some brought.edition) template_sheet (length (templates rs)) true (directed_accepted template_sheet (length (templates rs)) bd) (edition_same brought.edition (edition_of template_sheet) bl) in
+      let c : check_own brought rule_sheet ≡ Ok (length (patterns rs)) =
+      contents_each false (Some brought.edition) brought.table brought.list rule_sheet tabled classed (length (patterns rs)) x
       (le-leb (length (patterns rs)) most_rules (omega (arith, length-map rs (λ r. r.pattern), d.few_rules)))
       ∙ ap₂ (λ (v : Edition) (es : List (List ℕ)). check_each false (language_in v brought.table brought.list) 0 es) al ae
-      ∙ w.1 ∙ ap Accepted (let z : 0 + length (patterns rs) ≡ length (patterns rs) = omega arith in z) in
+      ∙ w.1 ∙ ap Ok (let z : 0 + length (patterns rs) ≡ length (patterns rs) = omega arith in z) in
       let z : eqb (length (templates rs)) (length (patterns rs)) ≡ true = eq-eqb (length (templates rs)) (length (patterns rs)) (omega (arith, length-map rs (λ r. r.pattern), length-map rs (λ r. r.template))) in
       rw (c, ae, w.0, y, z, be)
       (templates_written l rs d.accepted (λ j. rw (← be) (entries_octets template_sheet templates_octets j)) 0)
@@ -310,10 +300,10 @@ module _ (brought : Brought) (rule_sheet template_sheet : List ℕ) (tabled : ta
   unfolding side
   read_side rs e = go (rules_by (check_own brought rule_sheet) (rules_of l (entries rule_sheet))) refl e
     where
-      by_sheet : (n : ℕ) → check_own brought rule_sheet ≡ Accepted n → (x : Checked) → check_templates l template_sheet ≡ x
+      by_sheet : (n : ℕ) → check_own brought rule_sheet ≡ Ok n → (x : Result ℕ Fault) → check_templates l template_sheet ≡ x
           → templates_by l (rules_of l (entries rule_sheet)) template_sheet x ≡ passed rs → Side l rule_sheet template_sheet rs
-      by_sheet n own (Checked.Refused r i) f e = absurd (fault_passed e)
-      by_sheet n own (Accepted m) f e = by_number (eqb m (length ps)) refl e
+      by_sheet n own (Err y) f e = absurd (fault_passed e)
+      by_sheet n own (Ok m) f e = by_number (eqb m (length ps)) refl e
         where
           ps : List Pattern
           ps = rules_of l (entries rule_sheet)
@@ -325,7 +315,7 @@ module _ (brought : Brought) (rule_sheet template_sheet : List ℕ) (tabled : ta
               let o = own_passed brought rule_sheet template_sheet n own in
               let x = rules_checked brought rule_sheet template_sheet n own in
               let like = own_like brought rule_sheet template_sheet n own in
-              let theirs = among_sheet (Only brought.edition) template_sheet m f in
+              let theirs = among_sheet (Some brought.edition) template_sheet m f in
               let likewise = same_edition_holds brought.edition (edition_of template_sheet) theirs.1 in
               let d = accepted_directed rule_sheet n x.directory in
               let c = accepted_directed template_sheet m theirs.0 in

@@ -4,7 +4,6 @@ use mathlib.Core.Path.{◌≡◌, refl, sym, ◌∙◌, subst}
 use mathlib.Core.Logic.{◌⊎◌, inl, inr}
 use mathlib.Core.List.{List, [], ◌∷◌}
 use mathlib.Core.Bool.{Bool, true, false, cond, false≢true}
-use mathlib.Core.Option.{Option, none, some}
 use native.Mathlib.Omega.{arith}
 use Rattle.term.specs.Class.{Alike}
 use Rattle.term.specs.Limits.{TermAccepted}
@@ -29,6 +28,7 @@ use Rattle.replace.proofs.Results.{one_result, instance_replaced, first_is_shown
 use Rattle.game.specs.Accepted.{RuleAccepted}
 use Rattle.game.specs.Move.{Rule, Game, Leads, Move, Stuck, Goal}
 use Rattle.game.specs.Search.{Ruling, forced, unforced, stopped, Turn, to, nowhere, spends, turn_by, turn, goal_first, Allowing, goal_at}
+use Rattle.std.specs.Prelude.{Option, Some, None}
 
 -- a ruling, where it is not stopped, decides P, and how it is forced meets Q
 pub data Decided {A : Type 0} (P : Type 0) (Q : A → Type 0) : Ruling A → Type 0 where
@@ -56,7 +56,7 @@ module _ (l : Language) (k : Alike l.table l.classes) (tabled : table_accepted l
     of : TermOf l t
     of = accepted_of l t st
 
-    shown : (e : Env) → first_answer (whole l p t).out ≡ some e → FirstShown l p t e.value
+    shown : (e : Env) → first_answer (whole l p t).out ≡ Some e → FirstShown l p t e.value
     shown = first_is_shown l (pattern_bytes l.table p []) (term_bytes l.table t []) k p t (record {
       table_accepted_holds = tabled;
       pattern_bytes_holds = refl;
@@ -117,8 +117,8 @@ module _ (l : Language) (k : Alike l.table l.classes) (tabled : table_accepted l
   goal_told g t st = go (first_answer (whole l g.goal t).out) refl
     where
       go : (o : Option Env) → first_answer (whole l g.goal t).out ≡ o → Goal l g t ⊎ (Goal l g t → ⊥)
-      go (some e) h = inl (e.value, ((search_decides l k g.goal t (accepted_of l t st)).found_first e h).satisfies)
-      go none h = inr (λ s. (search_decides l k g.goal t (accepted_of l t st)).failed_none h s.0 s.1)
+      go (Some e) h = inl (e.value, ((search_decides l k g.goal t (accepted_of l t st)).found_first e h).satisfies)
+      go None h = inr (λ s. (search_decides l k g.goal t (accepted_of l t st)).failed_none h s.0 s.1)
 
   -- the goal first: where it holds the ruling is forced; where it doesn't, the rest decides
   pub goal_decided : (allowed : Allowing) (g : Game) (t : Term) → TermAccepted l t → {A : Type 0} (a : A) (P : Type 0) (Q : A → Type 0)
@@ -143,7 +143,7 @@ module _ (l : Language) (r : Rule) (rs : List Rule) (t : Term) where
   pub first_leads : (u : Term) → Move l (r ∷ rs) 0 t u → Leads l r t u
   first_leads u m = subst (λ (x : Rule). Leads l x t u) (let i : r ≡ m.rule = some_rule m.own in sym i) m.leads
     where
-      some_rule : {x y : Rule} → some x ≡ some y → x ≡ y
+      some_rule : {x y : Rule} → Some x ≡ Some y → x ≡ y
       some_rule h = cc
 
   pub move_later : (i : ℕ) (u : Term) → Move l rs i t u → Move l (r ∷ rs) (suc i) t u

@@ -1,9 +1,7 @@
 -- The call: its checks in order, and what it answers, on all inputs.
-use Rattle.std.specs.Prelude.{ℕ, ◌+◌, ◌≤◌, ◌≡◌, List, [], ◌∷◌, map, true, false, cond, length, leb, eqb}
+use Rattle.std.specs.Prelude.{ℕ, ◌+◌, ◌≤◌, ◌≡◌, List, [], ◌∷◌, map, true, false, cond, length, leb, eqb, Result, Ok, Err, Some}
 use Rattle.answers.specs.declared.Played.{Played}
 use Rattle.answers.specs.declared.Refusal.TheVariants.{Directory, Loose, Turns}
-use Rattle.byte_answers.specs.declared.Checked.{Checked}
-use Rattle.byte_answers.specs.declared.Checked.TheVariants.{Accepted}
 use Rattle.term.specs.Language.{Language}
 use Rattle.term.specs.Limits.{TermAccepted, PatternAccepted}
 use Rattle.term.specs.Pattern.{Pattern, pattern_bytes}
@@ -19,13 +17,14 @@ use Rattle.sheet.specs.Check.{longest_sheet, check_among}
 use Rattle.sheet.specs.Contents.{most_rules, check_contents}
 use Rattle.sheet.specs.Entry.{entries}
 use Rattle.sheet.specs.Sheet.{sheet_bytes}
-use Rattle.sheet.specs.declared.Editions.TheVariants.{Only}
 use Rattle.replace.specs.Loose.{loose}
 use Rattle.rules.specs.Call.{rules_bytes, rules_by, rules_of}
 use Rattle.game.specs.Accepted.{EachAccepted}
 use Rattle.game.specs.Handed.{Sheets, Handed}
 use Rattle.game.specs.Move.{Rule, Game}
 use Rattle.game.specs.Search.{Ruling, forced, unforced, stopped, Opening, unneeded, by_rule, by_pass, play, each}
+use Rattle.answers.specs.declared.Fault.{Fault}
+use Rattle.answers.specs.Fault.{fault_at}
 
 -- "For up to 6 turns"
 abbrev pub most_turns : ℕ
@@ -76,16 +75,16 @@ templates_from l i (p ∷ ps) [] = passed []
 templates_from l i (p ∷ ps) (e ∷ es) = with_template i p (read_pattern l e) (templates_from l (i + 1) ps es)
 
 -- 6 of the sheet and 9, also of another edition; "Unlike numbers of rules and templates are 9 of the templates", so that 6 of 64 does not come up
-abbrev pub templates_by : Language → List Pattern → List ℕ → Checked → Verdict (List Rule)
-templates_by l ps sheet (Checked.Refused r i) = fault r i
-templates_by l ps sheet (Accepted n) = cond (eqb n (length ps)) (templates_from l 0 ps (entries sheet)) (fault Directory 0)
+abbrev pub templates_by : Language → List Pattern → List ℕ → Result ℕ Fault → Verdict (List Rule)
+templates_by l ps sheet (Err f) = fault f.refusal f.index
+templates_by l ps sheet (Ok n) = cond (eqb n (length ps)) (templates_from l 0 ps (entries sheet)) (fault Directory 0)
 
 -- "sheets of unlike editions in one call are 9 of the later one" (L6): all are of the edition that the call brings, which its first sheet tells
-abbrev pub check_own : Brought → List ℕ → Checked
-check_own brought sheet = check_contents false (Only brought.edition) brought.table brought.list sheet
+abbrev pub check_own : Brought → List ℕ → Result ℕ Fault
+check_own brought sheet = check_contents false (Some brought.edition) brought.table brought.list sheet
 
-abbrev pub check_templates : Language → List ℕ → Checked
-check_templates l sheet = check_among (Only l.edition) sheet
+abbrev pub check_templates : Language → List ℕ → Result ℕ Fault
+check_templates l sheet = check_among (Some l.edition) sheet
 
 abbrev pub side_by : Language → List ℕ → Verdict (List Pattern) → Verdict (List Rule)
 side_by l template_sheet (fault r i) = fault r i
@@ -118,13 +117,13 @@ checked turns h bytes = check (leb turns most_turns) Turns (checks h.brought ans
 
 -- The answer: "both show count 0"; "spent, with index 0 and the allowance"
 
-abbrev pub told : ℕ → Ruling Opening → Played
-told allowance (forced unneeded) = Played.Unneeded
-told allowance (forced (by_rule i)) = Played.ByRule i
-told allowance (forced by_pass) = Played.ByPass
-told allowance unforced = Played.None
-told allowance stopped = Played.Spent allowance
+abbrev pub told : ℕ → Ruling Opening → Result Played Fault
+told allowance (forced unneeded) = (Ok Played.Unneeded)
+told allowance (forced (by_rule i)) = Ok (Played.ByRule i)
+told allowance (forced by_pass) = (Ok Played.ByPass)
+told allowance unforced = (Ok Played.None)
+told allowance stopped = Ok (Played.Spent allowance)
 
-unfoldable pub play_of : ℕ → Handed → List ℕ → ℕ → Played
+unfoldable pub play_of : ℕ → Handed → List ℕ → ℕ → Result Played Fault
 play_of turns h bytes allowance =
-    answer_by Played.Refused (λ x. told allowance (play (language_of h.brought) (each allowance) (game x) turns x.1.1)) (checked turns h bytes)
+    answer_by (λ r i. Err (fault_at r i)) (λ x. told allowance (play (language_of h.brought) (each allowance) (game x) turns x.1.1)) (checked turns h bytes)

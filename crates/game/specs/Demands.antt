@@ -1,5 +1,5 @@
 -- What is demanded of the game's answer, for the trees of accepted input.
-use Rattle.std.specs.Prelude.{ℕ, ◌<◌, ◌≤◌, ◌≡◌, ◌↔◌, List, true}
+use Rattle.std.specs.Prelude.{ℕ, ◌<◌, ◌≤◌, ◌≡◌, ◌↔◌, List, true, Result}
 use Rattle.answers.specs.Answers.{played_number, played_index, played_count}
 use Rattle.answers.specs.Refusal.{number_of}
 use Rattle.answers.specs.declared.Played.{Played}
@@ -14,6 +14,7 @@ use Rattle.anti_pattern.specs.Language.{Language}
 use Rattle.game.specs.Move.{Game, Goal}
 use Rattle.game.specs.Plan.{Forced, ForcedBy, ForcedByPass}
 use Rattle.game.specs.Search.{Opening, unneeded, by_rule, by_pass}
+use Rattle.answers.specs.declared.Fault.{Fault}
 
 -- "it shows the loader's lowest first rule that still forces it, or that no move is needed, or a pass"
 abbrev pub Shows : Language → Game → ℕ → Term → Opening → Type 0
@@ -28,7 +29,7 @@ shown_as (by_rule i) = i
 shown_as by_pass = 65
 
 -- For the trees of accepted input
-pub record Answered (turns : ℕ) (h : Handed) (bytes : List ℕ) (allowance : ℕ) (g : Game) (t : Term) (a : Played) : Type 0 where
+pub record Answered (turns : ℕ) (h : Handed) (bytes : List ℕ) (allowance : ℕ) (g : Game) (t : Term) (a : Result Played Fault) : Type 0 where
   -- "unless spent, the answer is forced exactly if the loader has moves such that, however the sender moves, some state reached, the starting one
   -- included, satisfies a goal pattern. Otherwise it is none"
   pub forced_exactly : (played_number a ≡ 11 → ⊥) → (played_number a ≡ 0) ↔ Forced (language_of h.brought) g turns t
@@ -41,7 +42,7 @@ pub record Answered (turns : ℕ) (h : Handed) (bytes : List ℕ) (allowance : �
   pub larger_allowance : (more : ℕ) → (played_number a ≡ 11 → ⊥) → allowance ≤ more → play_of turns h bytes more ≡ a
 
 -- All that is demanded
-pub record Demanded (turns : ℕ) (h : Handed) (bytes : List ℕ) (allowance : ℕ) (a : Played) : Type 0 where
+pub record Demanded (turns : ℕ) (h : Handed) (bytes : List ℕ) (allowance : ℕ) (a : Result Played Fault) : Type 0 where
   -- refused exactly when there are more than 6 turns, or the class list or the input is not accepted
   pub refused_exactly : ((r : Refusal) × (played_number a ≡ number_of r))
       ↔ (turns ≤ most_turns → brought_accepted h.brought ≡ true → (g : Game) (t : Term) → Input (language_of h.brought) h.sheets bytes g t → ⊥)

@@ -1,11 +1,10 @@
 -- What a game is played with: what the call brings, in the edition of its first sheet, the sheets of both sides, and the goal.
-use Rattle.std.specs.Prelude.{ℕ, List, Bool}
-use Rattle.std.proofs.Math.Option.{Option, none, some}
+use Rattle.std.specs.Prelude.{ℕ, List, Option, Some, None}
 use denote.Triple.Both.{Both}
 use Rattle.std.specs.Borrow.{Bor}
 use Rattle.term.specs.Language.{Language, language}
 use Rattle.term.specs.Moment.{old}
-use Rattle.reader.specs.Brought.{Brought, list_if}
+use Rattle.reader.specs.Brought.{Brought}
 use Rattle.sheet.specs.Check.{edition_of}
 use Rattle.rules.specs.Call.{in_sheet}
 
@@ -45,17 +44,14 @@ sheets loader loader_templates sender sender_templates goal = sheets_of (old loa
 abbrev pub spoken : {A B C : Type 0} → Bytes A → Bytes B → Bytes C → Language
 spoken loader table classes = language (edition_of (old loader)) (old table) (old classes)
 
--- with no class list, with one, and with one if it is brought
+-- with no class list, and with one
 module _ {A B C D E F : Type 0} where
   abbrev given : Option (List ℕ) → Bytes A → Bytes B → Bytes C → Bytes D → Bytes E → Bytes F → Handed
   given list table loader loader_templates sender sender_templates goal =
       with (in_sheet (old loader) (old table) list) (sheets loader loader_templates sender sender_templates goal)
 
   abbrev pub handed : Bytes A → Bytes B → Bytes C → Bytes D → Bytes E → Bytes F → Handed
-  handed = given none
+  handed = given None
 
   abbrev pub handed_in : {G : Type 0} → Bytes A → Bytes G → Bytes B → Bytes C → Bytes D → Bytes E → Bytes F → Handed
-  handed_in table classes = given (some (old classes)) table
-
-  abbrev pub handed_if : {G : Type 0} → Bytes A → Bool → Bytes G → Bytes B → Bytes C → Bytes D → Bytes E → Bytes F → Handed
-  handed_if table brings classes = given (list_if brings (old classes)) table
+  handed_in table classes = given (Some (old classes)) table

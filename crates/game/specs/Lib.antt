@@ -7,4 +7,5 @@ pub mod Begun
 pub mod Handed
 pub mod Call
 pub mod Demands
+pub mod Lent
 pub mod Turns

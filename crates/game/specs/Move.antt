@@ -1,6 +1,5 @@
 -- The game's rules and moves: "a move applies a rule of one's own that is bound, by its first answer, unless the result is outgrown".
-use Rattle.std.specs.Prelude.{ℕ, zero, suc, ◌≡◌, List, [], ◌∷◌}
-use Rattle.std.proofs.Math.Option.{Option, none, some}
+use Rattle.std.specs.Prelude.{ℕ, zero, suc, ◌≡◌, List, [], ◌∷◌, Option, Some, None}
 use Rattle.term.specs.Limits.{TermAccepted}
 use Rattle.term.specs.Pattern.{Pattern}
 use Rattle.term.specs.Term.{Term}
@@ -20,8 +19,8 @@ pub record Game : Type 0 where
 
 -- the rule of an index
 abbrev pub rule_at : List Rule → ℕ → Option Rule
-rule_at [] i = none
-rule_at (r ∷ rs) zero = some r
+rule_at [] i = None
+rule_at (r ∷ rs) zero = Some r
 rule_at (r ∷ rs) (suc i) = rule_at rs i
 
 module _ (l : Language) where
@@ -33,7 +32,7 @@ module _ (l : Language) where
   -- the move by the rule of an index
   pub record Move (rules : List Rule) (i : ℕ) (t u : Term) : Type 0 where
     pub rule : Rule
-    pub own : rule_at rules i ≡ some rule
+    pub own : rule_at rules i ≡ Some rule
     pub leads : Leads rule t u
 
   -- no rule is a move

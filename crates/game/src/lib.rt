@@ -1,408 +1,249 @@
 // Loader and sender: what the loader can bring about in so many turns.
 #![tactic(auto)]
 
-ghost use Rattle.std.specs.Prelude.{◌≡◌, take};
-ghost use Rattle.parts.specs.Shown.{answer_width};
-ghost use Rattle.matcher.specs.Call.{answer_on_bytes};
-ghost use Rattle.term.specs.Language.{language};
-ghost use Rattle.reader.specs.Brought.{list_if, or_empty, brought_by};
+ghost use Rattle.std.specs.Prelude.{◌≡◌, take, Ok};
+ghost use Rattle.term.specs.Lent.{language_by};
+ghost use Rattle.reader.specs.Lent.{brought_of};
 ghost use Rattle.game.specs.Call.{side, trees, checked, play_of};
 ghost use Rattle.game.specs.Demands.{Demanded};
-ghost use Rattle.game.specs.Handed.{sheets, spoken, handed, handed_in, handed_if};
-ghost use Rattle.game.specs.Turns.{left_by, LoaderTurns, LoaderMoves, LoaderRule, LoaderPass, SenderTurns, SenderMoves, SenderRule, Plays, check_of, ChecksTemplates, Called};
+ghost use Rattle.game.specs.Handed.{sheets, spoken, handed, handed_in, sheets_of, with};
+ghost use Rattle.game.specs.Lent.{sheets_by, own};
+ghost use Rattle.game.specs.Turns.{other, seen, Reaches, Turns, Moves, Follows, Begins, Plays, check_of, ChecksTemplates, CalledOn};
 
-use answers::{Answer, Applied, Played, Refusal};
-use byte_answers::{Checked, Read};
+use answers::{Answer, Applied, Fault, Played, Refusal};
 use matcher::ANSWER_WIDTH;
-use sheet::Editions;
-use term::{Edition, LONGEST_RECORD};
+use reader::Brought;
+use term::{LONGEST_RECORD, Language};
 
 // The most turns of a game.
 const MOST_TURNS: u32 = 6;
 
-// What a turn, or a rule that is followed, leaves: the goal forced, unforced, or a spent search; a rule may be no move.
-#[derive(Clone, Copy)]
-enum Left {
-    Forced,
-    Unforced,
-    Stopped,
-    NoMove,
+// Who moves.
+#[derive(Clone, Copy, Debug, PartialEq, Eq)]
+enum Side {
+    Loader,
+    Sender,
 }
 
-// What the sender's move leaves, by the answer of the loader's turn after it.
-fn left_by(p: Played) -> Left
-    ensures { result ≡ left_by p }
-{
-    match p {
-        Played::Unneeded => Left::Forced,
-        Played::ByRule(_) => Left::Forced,
-        Played::ByPass => Left::Forced,
-        Played::None => Left::Unforced,
-        Played::Spent(_) => Left::Stopped,
-        Played::Refused(_, _) => Left::Unforced,
+impl Side {
+    fn other(self) -> Side
+        ensures { result ≡ other self }
+    {
+        match self {
+            Side::Loader => Side::Sender,
+            Side::Sender => Side::Loader,
+        }
     }
+
+    // A state that is forced is settled for the loader, one that is not for the sender.
+    fn seen(self, forced: bool) -> bool
+        ensures { result ≡ seen self forced }
+    {
+        match self {
+            Side::Loader => forced,
+            Side::Sender => !forced,
+        }
+    }
+}
+
+// The sheet of a side's rules, and the one of their templates.
+#[derive(Clone, Copy)]
+struct Own<'a> {
+    rules: &'a [u8],
+    templates: &'a [u8],
+}
+
+// The sheets of both sides, and the goal.
+#[derive(Clone, Copy)]
+struct Sheets<'a> {
+    loader: Own<'a>,
+    sender: Own<'a>,
+    goal: &'a [u8],
+}
+
+impl<'a> Sheets<'a> {
+    fn of(
+        loader: &'a [u8],
+        loader_templates: &'a [u8],
+        sender: &'a [u8],
+        sender_templates: &'a [u8],
+        goal: &'a [u8],
+    ) -> Sheets<'a>
+        ensures { sheets_by result ≡ sheets_of loader.now loader_templates.now sender.now sender_templates.now goal.now }
+    {
+        Sheets {
+            loader: Own {
+                rules: loader,
+                templates: loader_templates,
+            },
+            sender: Own {
+                rules: sender,
+                templates: sender_templates,
+            },
+            goal,
+        }
+    }
+
+    fn own(&self, side: Side) -> &Own<'a>
+        ensures { result.now ≡ own side self.now }
+    {
+        match side {
+            Side::Loader => &self.loader,
+            Side::Sender => &self.sender,
+        }
+    }
+}
+
+// A game: its language, its sheets, and the allowance of each search.
+#[derive(Clone, Copy)]
+struct Game<'a> {
+    language: Language<'a>,
+    sheets: Sheets<'a>,
+    allowance: u32,
+}
+
+// A search of the game is spent, which makes the whole spent.
+#[derive(Clone, Copy, Debug, PartialEq, Eq)]
+struct Spent;
+
+// A move that settles a state for the side that makes it: by the rule of an index, or a pass.
+#[derive(Clone, Copy, Debug, PartialEq, Eq)]
+enum First {
+    ByRule(usize),
+    ByPass,
 }
 
 // The first n bytes, or all where there are fewer.
 fn front(s: &[u8], n: usize) -> &[u8]
     ensures { result.now ≡ take n s.now }
 {
-    if s.len() < n {
-        return s;
-    }
-    &s[..n]
+    &s[..n.min(s.len())]
 }
 
 // Whether the goal holds of a state.
-fn goal_at(table: &[u8], classes: &[u8], goal: &[u8], state: &[u8], allowance: u32) -> Answer
-    ensures { result ≡ answer_on_bytes table.now classes.now goal.now state.now allowance answer_width }
+fn reaches(game: &Game<'_>, state: &[u8]) -> Result<bool, Spent>
+    ensures { Reaches (language_by game.now.language) (sheets_by game.now.sheets) game.now.allowance state.now result }
 {
+    let Language { table, classes, .. } = game.language;
     let mut answer = [0u16; ANSWER_WIDTH];
-    matcher::match_checked(table, classes, goal, state, allowance, &mut answer)
-}
-
-// The loader's turn at a state, with so many turns left: the goal is tried before the moves.
-#[cycle(loader_moves_loader_pass_loader_rule_loader_turn_sender_moves_sender_rule_sender_turn)]
-fn loader_turn(
-    left: u32,
-    table: &[u8],
-    classes: &[u8],
-    loader: &[u8],
-    loader_templates: &[u8],
-    sender: &[u8],
-    sender_templates: &[u8],
-    goal: &[u8],
-    state: &[u8],
-    allowance: u32,
-) -> Played
-    ensures { LoaderTurns (spoken loader table classes) (sheets loader loader_templates sender sender_templates goal) allowance left state.now result }
-{
-    let reached = goal_at(table, classes, goal, state, allowance);
-    match reached {
-        Answer::Bound(_) => Played::Unneeded,
-        Answer::Spent(_) => Played::Spent(allowance),
-        Answer::Refused(_) => Played::None,
-        Answer::None(_) => loader_moves(
-            left,
-            table,
-            classes,
-            loader,
-            loader_templates,
-            sender,
-            sender_templates,
-            goal,
-            state,
-            allowance,
-        ),
+    match matcher::match_checked(
+        table,
+        classes,
+        game.sheets.goal,
+        state,
+        game.allowance,
+        &mut answer,
+    ) {
+        Ok(Answer::Bound(_)) => Ok(true),
+        Ok(Answer::None(_)) => Ok(false),
+        Ok(Answer::Spent(_)) => Err(Spent),
+        Err(_) => Ok(false),
     }
 }
 
-// The loader's rules, matched and followed one by one; whoever has no move passes.
-#[cycle(loader_moves_loader_pass_loader_rule_loader_turn_sender_moves_sender_rule_sender_turn)]
-fn loader_moves(
-    left: u32,
-    table: &[u8],
-    classes: &[u8],
-    loader: &[u8],
-    loader_templates: &[u8],
-    sender: &[u8],
-    sender_templates: &[u8],
-    goal: &[u8],
-    state: &[u8],
-    allowance: u32,
-) -> Played
-    ensures { LoaderMoves (spoken loader table classes) (sheets loader loader_templates sender sender_templates goal) allowance left state.now result }
+// Whether the goal is forced from a state at a side's turn, with so many turns left: the goal is tried before the moves.
+#[cycle(turns)]
+fn turn(game: &Game<'_>, side: Side, left: u32, state: &[u8]) -> Result<bool, Spent>
+    ensures { Turns (language_by game.now.language) (sheets_by game.now.sheets) game.now.allowance side left state.now result }
 {
+    let reached = reaches(game, state)?;
+    if reached {
+        return Ok(true);
+    }
     if left == 0 {
-        return Played::None;
+        return Ok(false);
     }
-    let rules = sheet::count(loader) as usize;
+    let first = moves(game, side, left - 1, state)?;
+    Ok(side.seen(first.is_some()))
+}
+
+// The first of a side's moves that settles a state for it, with so many turns left after it: one that forces the goal for the loader, one that
+// doesn't for the sender. The rules are matched and followed one by one; whoever has no move passes.
+#[cycle(turns)]
+fn moves(game: &Game<'_>, side: Side, below: u32, state: &[u8]) -> Result<Option<First>, Spent>
+    ensures { Moves (language_by game.now.language) (sheets_by game.now.sheets) game.now.allowance side below state.now result }
+{
+    let rules = usize::from(sheet::count(game.sheets.own(side).rules));
     let mut moved = false;
-    let mut i: usize = 0;
-    while i < rules {
-        let tried = loader_rule(
-            left,
-            table,
-            classes,
-            loader,
-            loader_templates,
-            sender,
-            sender_templates,
-            goal,
-            i,
-            state,
-            allowance,
-        );
-        match tried {
-            Left::Forced => return Played::ByRule(i),
-            Left::Stopped => return Played::Spent(allowance),
-            Left::Unforced => {
-                moved = true;
-                i = i + 1;
-            }
-            Left::NoMove => {
-                i = i + 1;
-            }
+    for i in 0..rules {
+        let Some(forced) = follow(game, side, below, i, state)? else {
+            continue;
+        };
+        if side.seen(forced) {
+            return Ok(Some(First::ByRule(i)));
         }
+        moved = true;
     }
     if moved {
-        return Played::None;
+        return Ok(None);
     }
-    loader_pass(
-        left,
-        table,
-        classes,
-        loader,
-        loader_templates,
-        sender,
-        sender_templates,
-        goal,
-        state,
-        allowance,
-    )
+    let passed = turn(game, side.other(), below, state)?;
+    if side.seen(passed) {
+        return Ok(Some(First::ByPass));
+    }
+    Ok(None)
 }
 
-// The loader's pass.
-#[cycle(loader_moves_loader_pass_loader_rule_loader_turn_sender_moves_sender_rule_sender_turn)]
-fn loader_pass(
-    left: u32,
-    table: &[u8],
-    classes: &[u8],
-    loader: &[u8],
-    loader_templates: &[u8],
-    sender: &[u8],
-    sender_templates: &[u8],
-    goal: &[u8],
-    state: &[u8],
-    allowance: u32,
-) -> Played
-    ensures { LoaderPass (spoken loader table classes) (sheets loader loader_templates sender sender_templates goal) allowance left state.now result }
-{
-    if left == 0 {
-        return Played::None;
-    }
-    let passed = sender_turn(
-        left - 1,
-        table,
-        classes,
-        loader,
-        loader_templates,
-        sender,
-        sender_templates,
-        goal,
-        state,
-        allowance,
-    );
-    match passed {
-        Left::Forced => Played::ByPass,
-        Left::Stopped => Played::Spent(allowance),
-        Left::Unforced => Played::None,
-        Left::NoMove => Played::None,
-    }
-}
-
-// What the loader's rule of an index leaves: its move is followed by the sender's turn.
-#[cycle(loader_moves_loader_pass_loader_rule_loader_turn_sender_moves_sender_rule_sender_turn)]
-fn loader_rule(
-    left: u32,
-    table: &[u8],
-    classes: &[u8],
-    loader: &[u8],
-    loader_templates: &[u8],
-    sender: &[u8],
-    sender_templates: &[u8],
-    goal: &[u8],
+// Whether the goal is forced from the state that a side's rule of an index leads to, if it is a move: the turn of the other side follows.
+#[cycle(turns)]
+fn follow(
+    game: &Game<'_>,
+    side: Side,
+    below: u32,
     i: usize,
     state: &[u8],
-    allowance: u32,
-) -> Left
-    ensures { LoaderRule (spoken loader table classes) (sheets loader loader_templates sender sender_templates goal) allowance left i state.now result }
+) -> Result<Option<bool>, Spent>
+    ensures { Follows (language_by game.now.language) (sheets_by game.now.sheets) game.now.allowance side below i state.now result }
 {
-    if left == 0 {
-        return Left::NoMove;
-    }
-    let rule = sheet::part_at(loader, i);
-    let template = sheet::part_at(loader_templates, i);
+    let own = game.sheets.own(side);
+    let rule = sheet::part_at(own.rules, i);
+    let template = sheet::part_at(own.templates, i);
     let mut next = [0u8; LONGEST_RECORD];
-    let applied = replace::apply_checked(
-        sheet::edition_of(loader),
-        table,
-        classes,
+    match replace::apply_checked(
+        &game.language,
         rule,
         template,
         state,
-        allowance,
+        game.allowance,
         &mut next,
-    );
-    match applied {
-        Applied::Spent(_) => Left::Stopped,
-        Applied::None(_) => Left::NoMove,
-        Applied::Refused(_) => Left::NoMove,
-        Applied::Bound(_, n) => sender_turn(
-            left - 1,
-            table,
-            classes,
-            loader,
-            loader_templates,
-            sender,
-            sender_templates,
-            goal,
-            front(&next, n),
-            allowance,
-        ),
-    }
-}
-
-// The sender's turn at a state, with so many turns left: the goal is tried before the moves.
-#[cycle(loader_moves_loader_pass_loader_rule_loader_turn_sender_moves_sender_rule_sender_turn)]
-fn sender_turn(
-    left: u32,
-    table: &[u8],
-    classes: &[u8],
-    loader: &[u8],
-    loader_templates: &[u8],
-    sender: &[u8],
-    sender_templates: &[u8],
-    goal: &[u8],
-    state: &[u8],
-    allowance: u32,
-) -> Left
-    ensures { SenderTurns (spoken loader table classes) (sheets loader loader_templates sender sender_templates goal) allowance left state.now result }
-{
-    let reached = goal_at(table, classes, goal, state, allowance);
-    match reached {
-        Answer::Bound(_) => Left::Forced,
-        Answer::Spent(_) => Left::Stopped,
-        Answer::Refused(_) => Left::Unforced,
-        Answer::None(_) => sender_moves(
-            left,
-            table,
-            classes,
-            loader,
-            loader_templates,
-            sender,
-            sender_templates,
-            goal,
-            state,
-            allowance,
-        ),
-    }
-}
-
-// The sender's rules, matched and followed one by one; whoever has no move passes.
-#[cycle(loader_moves_loader_pass_loader_rule_loader_turn_sender_moves_sender_rule_sender_turn)]
-fn sender_moves(
-    left: u32,
-    table: &[u8],
-    classes: &[u8],
-    loader: &[u8],
-    loader_templates: &[u8],
-    sender: &[u8],
-    sender_templates: &[u8],
-    goal: &[u8],
-    state: &[u8],
-    allowance: u32,
-) -> Left
-    ensures { SenderMoves (spoken loader table classes) (sheets loader loader_templates sender sender_templates goal) allowance left state.now result }
-{
-    if left == 0 {
-        return Left::Unforced;
-    }
-    let rules = sheet::count(sender) as usize;
-    let mut moved = false;
-    let mut i: usize = 0;
-    while i < rules {
-        let tried = sender_rule(
-            left,
-            table,
-            classes,
-            loader,
-            loader_templates,
-            sender,
-            sender_templates,
-            goal,
-            i,
-            state,
-            allowance,
-        );
-        match tried {
-            Left::Forced => {
-                moved = true;
-                i = i + 1;
-            }
-            Left::Stopped => return Left::Stopped,
-            Left::Unforced => return Left::Unforced,
-            Left::NoMove => {
-                i = i + 1;
-            }
+    ) {
+        Ok(Applied::Bound(_, n)) => {
+            let forced = turn(game, side.other(), below, front(&next, n))?;
+            Ok(Some(forced))
         }
+        Ok(Applied::None(_)) => Ok(None),
+        Ok(Applied::Spent(_)) => Err(Spent),
+        Err(_) => Ok(None),
     }
-    if moved {
-        return Left::Forced;
-    }
-    left_by(loader_turn(
-        left - 1,
-        table,
-        classes,
-        loader,
-        loader_templates,
-        sender,
-        sender_templates,
-        goal,
-        state,
-        allowance,
-    ))
 }
 
-// What the sender's rule of an index leaves: its move is followed by the loader's turn.
-#[cycle(loader_moves_loader_pass_loader_rule_loader_turn_sender_moves_sender_rule_sender_turn)]
-fn sender_rule(
-    left: u32,
-    table: &[u8],
-    classes: &[u8],
-    loader: &[u8],
-    loader_templates: &[u8],
-    sender: &[u8],
-    sender_templates: &[u8],
-    goal: &[u8],
-    i: usize,
-    state: &[u8],
-    allowance: u32,
-) -> Left
-    ensures { SenderRule (spoken loader table classes) (sheets loader loader_templates sender sender_templates goal) allowance left i state.now result }
+// The game from a state at the loader's turn, with so many turns left.
+fn begin(game: &Game<'_>, turns: u32, state: &[u8]) -> Result<Played, Spent>
+    ensures { Begins (language_by game.now.language) (sheets_by game.now.sheets) game.now.allowance turns state.now result }
 {
-    if left == 0 {
-        return Left::NoMove;
+    let reached = reaches(game, state)?;
+    if reached {
+        return Ok(Played::Unneeded);
     }
-    let rule = sheet::part_at(sender, i);
-    let template = sheet::part_at(sender_templates, i);
-    let mut next = [0u8; LONGEST_RECORD];
-    let applied = replace::apply_checked(
-        sheet::edition_of(loader),
-        table,
-        classes,
-        rule,
-        template,
-        state,
-        allowance,
-        &mut next,
-    );
-    match applied {
-        Applied::Spent(_) => Left::Stopped,
-        Applied::None(_) => Left::NoMove,
-        Applied::Refused(_) => Left::NoMove,
-        Applied::Bound(_, n) => left_by(loader_turn(
-            left - 1,
-            table,
-            classes,
-            loader,
-            loader_templates,
-            sender,
-            sender_templates,
-            goal,
-            front(&next, n),
-            allowance,
-        )),
+    if turns == 0 {
+        return Ok(Played::None);
+    }
+    let Some(first) = moves(game, Side::Loader, turns - 1, state)? else {
+        return Ok(Played::None);
+    };
+    match first {
+        First::ByRule(i) => Ok(Played::ByRule(i)),
+        First::ByPass => Ok(Played::ByPass),
+    }
+}
+
+// What the loader can bring about from there.
+fn play_game(game: &Game<'_>, turns: u32, state: &[u8]) -> Played
+    ensures { Plays (language_by game.now.language) (sheets_by game.now.sheets) game.now.allowance turns state.now (Ok result) }
+{
+    match begin(game, turns, state) {
+        Ok(played) => played,
+        Err(Spent) => Played::Spent(game.allowance),
     }
 }
 
@@ -420,205 +261,100 @@ pub fn play_checked(
     state: &[u8],
     allowance: u32,
 ) -> Played
-    ensures { Plays (spoken loader table classes) (sheets loader loader_templates sender sender_templates goal) allowance turns state.now result }
+    ensures { Plays (spoken loader table classes) (sheets loader loader_templates sender sender_templates goal) allowance turns state.now (Ok result) }
 {
-    loader_turn(
-        turns,
-        table,
-        classes,
-        loader,
-        loader_templates,
-        sender,
-        sender_templates,
-        goal,
-        state,
+    let game = Game {
+        language: Language {
+            edition: sheet::edition_of(loader),
+            table,
+            classes,
+        },
+        sheets: Sheets::of(loader, loader_templates, sender, sender_templates, goal),
         allowance,
-    )
-}
-
-// Whether every check is passed, or why not, with the index of the entry.
-#[derive(Clone, Copy)]
-enum Check {
-    Passed,
-    Failed(Refusal, usize),
+    };
+    play_game(&game, turns, state)
 }
 
 // The templates of as many rules, of sheets that are accepted: each as a pattern, then whether it is loose.
-fn check_templates(
-    edition: Edition,
-    table: &[u8],
-    classes: &[u8],
-    rules: &[u8],
-    templates: &[u8],
-) -> Check
-    ensures { ChecksTemplates (language edition table.now classes.now) rules.now templates.now result }
+fn check_templates(language: &Language<'_>, rules: &[u8], templates: &[u8]) -> Result<(), Fault>
+    ensures { ChecksTemplates (language_by language.now) rules.now templates.now result }
 {
-    let n = sheet::count(templates) as usize;
-    let mut i: usize = 0;
-    while i < n {
+    let n = usize::from(sheet::count(templates));
+    for i in 0..n {
         let rule = sheet::part_at(rules, i);
         let template = sheet::part_at(templates, i);
-        let read = reader::read_pattern_in(edition, table, classes, template);
-        if let Read::Refused(r) = read {
-            return Check::Failed(r, i);
+        if let Err(r) = reader::read_pattern_in(language, template) {
+            return Err(Fault::at(r, i));
         }
-        if replace::is_loose(table, rule, template) {
-            return Check::Failed(Refusal::Loose, i);
+        if replace::is_loose(language.table, rule, template) {
+            return Err(Fault::at(Refusal::Loose, i));
         }
-        i = i + 1;
     }
-    Check::Passed
+    Ok(())
 }
 
-// The rules of one side, then their templates, all of this edition; `classes` counts if the call brings a class list.
-fn check_side(
-    edition: Edition,
-    table: &[u8],
-    brings: bool,
-    classes: &[u8],
-    rules: &[u8],
-    templates: &[u8],
-) -> Check
-    ensures { result ≡ check_of (side (brought_by edition table.now brings classes.now) rules.now templates.now) }
+// The rules of one side, then their templates, all of the edition that the call brings.
+fn check_side(brought: &Brought<'_>, own: &Own<'_>) -> Result<(), Fault>
+    ensures { result ≡ check_of (side (brought_of brought.now) own.now.rules.now own.now.templates.now) }
 {
-    let own = sheet::check_contents(
-        false,
-        Editions::Only(edition),
-        table,
-        brings,
-        classes,
-        rules,
-    );
-    if let Checked::Refused(r, i) = own {
-        return Check::Failed(r, i);
+    let rules = sheet::check_contents(false, Some(brought.edition), brought, own.rules)?;
+    let templates = sheet::check_among(Some(brought.edition), own.templates)?;
+    if templates != rules {
+        return Err(Fault::at(Refusal::Directory, 0));
     }
-    let theirs = sheet::check_among(Editions::Only(edition), templates);
-    if let Checked::Refused(r, i) = theirs {
-        return Check::Failed(r, i);
-    }
-    if sheet::count(templates) != sheet::count(rules) {
-        return Check::Failed(Refusal::Directory, 0);
-    }
-    let list = reader::brought_list(brings, classes);
-    check_templates(edition, table, list, rules, templates)
+    check_templates(&brought.language(), own.rules, own.templates)
 }
 
-// The sheets of both sides, the goal and the starting state, in the loader's edition.
-fn check_trees(
-    table: &[u8],
-    brings: bool,
-    classes: &[u8],
-    loader: &[u8],
-    loader_templates: &[u8],
-    sender: &[u8],
-    sender_templates: &[u8],
-    goal: &[u8],
-    state: &[u8],
-) -> Check
-    ensures { result ≡ check_of (trees (handed_if table brings classes loader loader_templates sender sender_templates goal) state.now) }
+// The sheets of both sides, the goal and the starting state.
+fn check_trees(brought: &Brought<'_>, sheets: &Sheets<'_>, state: &[u8]) -> Result<(), Fault>
+    ensures { result ≡ check_of (trees (with (brought_of brought.now) (sheets_by sheets.now)) state.now) }
 {
-    let edition = sheet::edition_of(loader);
-    let first = check_side(edition, table, brings, classes, loader, loader_templates);
-    if let Check::Failed(r, i) = first {
-        return Check::Failed(r, i);
-    }
-    let second = check_side(edition, table, brings, classes, sender, sender_templates);
-    if let Check::Failed(r, i) = second {
-        return Check::Failed(r, i);
-    }
-    let list = reader::brought_list(brings, classes);
-    let q = reader::read_pattern_in(edition, table, list, goal);
-    if let Read::Refused(r) = q {
-        return Check::Failed(r, 0);
-    }
-    let t = reader::read_record_in(edition, table, list, state);
-    if let Read::Refused(r) = t {
-        return Check::Failed(r, 0);
-    }
-    Check::Passed
+    check_side(brought, &sheets.loader)?;
+    check_side(brought, &sheets.sender)?;
+    let language = brought.language();
+    reader::read_pattern_in(&language, sheets.goal)?;
+    reader::read_record_in(&language, state)?;
+    Ok(())
 }
 
-// All checks in order; `classes` counts if the call brings a class list.
+// All checks in order.
 fn check_input(
     turns: u32,
-    table: &[u8],
-    brings: bool,
-    classes: &[u8],
-    loader: &[u8],
-    loader_templates: &[u8],
-    sender: &[u8],
-    sender_templates: &[u8],
-    goal: &[u8],
+    brought: &Brought<'_>,
+    sheets: &Sheets<'_>,
     state: &[u8],
-) -> Check
-    ensures { result ≡ check_of (checked turns (handed_if table brings classes loader loader_templates sender sender_templates goal) state.now) }
+) -> Result<(), Fault>
+    ensures { result ≡ check_of (checked turns (with (brought_of brought.now) (sheets_by sheets.now)) state.now) }
 {
     if MOST_TURNS < turns {
-        return Check::Failed(Refusal::Turns, 0);
+        return Err(Fault::at(Refusal::Turns, 0));
     }
-    if !term::check_table(table) {
-        return Check::Failed(Refusal::Table, 0);
+    if !term::check_table(brought.table) {
+        return Err(Fault::at(Refusal::Table, 0));
     }
-    if !reader::accepts_list(table, brings, classes) {
-        return Check::Failed(Refusal::Class, 0);
+    if !brought.accepts_list() {
+        return Err(Fault::at(Refusal::Class, 0));
     }
-    check_trees(
-        table,
-        brings,
-        classes,
-        loader,
-        loader_templates,
-        sender,
-        sender_templates,
-        goal,
-        state,
-    )
+    check_trees(brought, sheets, state)
 }
 
-// The game with every check, by a class list if the call brings one; else `classes` is empty.
+// The game with every check, of what the call brings in the edition of its sheets.
 fn play_brought(
     turns: u32,
-    table: &[u8],
-    brings: bool,
-    classes: &[u8],
-    loader: &[u8],
-    loader_templates: &[u8],
-    sender: &[u8],
-    sender_templates: &[u8],
-    goal: &[u8],
+    brought: &Brought<'_>,
+    sheets: &Sheets<'_>,
     state: &[u8],
     allowance: u32,
-) -> Played
-    requires { classes.now ≡ or_empty (list_if brings classes.now) }
-    ensures { Called turns (handed_if table brings classes loader loader_templates sender sender_templates goal) state.now allowance result }
+) -> Result<Played, Fault>
+    ensures { CalledOn turns (with (brought_of brought.now) (sheets_by sheets.now)) state.now allowance result }
 {
-    let checks = check_input(
-        turns,
-        table,
-        brings,
-        classes,
-        loader,
-        loader_templates,
-        sender,
-        sender_templates,
-        goal,
-        state,
-    );
-    match checks {
-        Check::Failed(r, i) => Played::Refused(r, i),
-        Check::Passed => play_checked(
-            turns,
-            table,
-            classes,
-            loader,
-            loader_templates,
-            sender,
-            sender_templates,
-            goal,
-            state,
-            allowance,
-        ),
-    }
+    check_input(turns, brought, sheets, state)?;
+    let game = Game {
+        language: brought.language(),
+        sheets: *sheets,
+        allowance,
+    };
+    Ok(play_game(&game, turns, state))
 }
 
 // What the loader can bring about in so many turns, with every check. The loader's sheet tells the edition, for goal and record too.
@@ -632,23 +368,17 @@ pub fn play(
     goal: &[u8],
     state: &[u8],
     allowance: u32,
-) -> Played
+) -> Result<Played, Fault>
     ensures is { result ≡ play_of turns (handed table loader loader_templates sender sender_templates goal) state.now allowance }
     ensures demand { Demanded turns (handed table loader loader_templates sender sender_templates goal) state.now allowance result }
 {
-    play_brought(
-        turns,
+    let brought = Brought {
+        edition: sheet::edition_of(loader),
         table,
-        false,
-        &table[..0],
-        loader,
-        loader_templates,
-        sender,
-        sender_templates,
-        goal,
-        state,
-        allowance,
-    )
+        list: None,
+    };
+    let sheets = Sheets::of(loader, loader_templates, sender, sender_templates, goal);
+    play_brought(turns, &brought, &sheets, state, allowance)
 }
 
 // The same up to class, by a class list.
@@ -663,21 +393,11 @@ pub fn play_in(
     goal: &[u8],
     state: &[u8],
     allowance: u32,
-) -> Played
+) -> Result<Played, Fault>
     ensures is { result ≡ play_of turns (handed_in table classes loader loader_templates sender sender_templates goal) state.now allowance }
     ensures demand { Demanded turns (handed_in table classes loader loader_templates sender sender_templates goal) state.now allowance result }
 {
-    play_brought(
-        turns,
-        table,
-        true,
-        classes,
-        loader,
-        loader_templates,
-        sender,
-        sender_templates,
-        goal,
-        state,
-        allowance,
-    )
+    let brought = Brought::bringing(sheet::edition_of(loader), table, classes);
+    let sheets = Sheets::of(loader, loader_templates, sender, sender_templates, goal);
+    play_brought(turns, &brought, &sheets, state, allowance)
 }

@@ -95,10 +95,8 @@ fn put_each_code(out: &mut [u8])
     ensures { out.new ≡ sets out.old 0 code_list }
 {
     let mut at: usize = 0;
-    let mut code: usize = 0;
-    while code < CODES {
+    for code in 0..CODES {
         at = put_code(out, at, code as u8);
-        code = code + 1;
     }
 }
 

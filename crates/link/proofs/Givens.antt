@@ -4,7 +4,6 @@ use native.Mathlib.Omega.{arith}
 use mathlib.Core.Path.{◌≡◌, refl, sym, ◌∙◌, ap, ap₂, subst}
 use mathlib.Core.List.{List, [], ◌∷◌}
 use mathlib.Core.Bool.{Bool, true, false, cond}
-use mathlib.Core.Option.{none, some}
 use lib.ListN.{length, get_or, drop, replicate}
 use lib.Dec.{eqb}
 use borrow.Author.Tests.{eqb-true, eq-eqb, ne_eqb}
@@ -42,6 +41,7 @@ use Rattle.link.proofs.Represents.{bytes_left, Represents, Shown, Agrees, is_fou
 use Rattle.link.proofs.Levels.{carry, or_then, Searches, run_bound, next_size, lengths_from, complements_agree}
 use Rattle.link.proofs.Linked.{answers, level_searches, table_short, narrow, short, start_here}
 use Rattle.link.proofs.Walks.{frames_runs, Walking, walk_goes}
+use Rattle.std.specs.Prelude.{Some, None}
 
 -- what a pass on bytes says of one on trees
 pub data Fits (table bytes : List ℕ) : Passed → Pass → Type 0 where
@@ -91,7 +91,7 @@ module _ (table : List ℕ) (small : length table ≤ 200) (classes : List ℕ) 
     -- a free run name
     module _ (s : State) (v : ℕ) (qs : Children) (ts : Terms) (fs : List Frame) (e : Env) (ds : List Pending)
         (h : Represents table pattern bytes s (run v qs) ts fs e ds) (above : 32 ≤ v) (low : v < variables) (few : levels pattern (s.place.at + 1) ≤ n)
-        (fresh : e.value v ≡ none) (known : Known (frame (run v qs) ts s.place.node ∷ fs) e ds) where
+        (fresh : e.value v ≡ None) (known : Known (frame (run v qs) ts s.place.node ∷ fs) e ds) where
       abbrev m : ℕ
       m = get_or g v 0
 
@@ -263,13 +263,13 @@ module _ (l : Language) (pattern bytes : List ℕ) (alike : Alike l.table l.clas
 
   -- an answer is the first of the search resumed after the given one, and what it shows stands in the record
   pub next_stands : (ps : List Part) (n : ℕ) → next l q t given allowance ≡ follows (bound ps n)
-      → (e : Env) × (first_answer (resumed_after l q t given).out ≡ some e) × (ps ≡ parts l.table e) × ((shown : List Part) × Shown l.table bytes shown e)
+      → (e : Env) × (first_answer (resumed_after l q t given).out ≡ Some e) × (ps ≡ parts l.table e) × ((shown : List Part) × Shown l.table bytes shown e)
   next_stands ps n h = go _ refl next_fits (sym (next_passing l q t given allowance each) ∙ h)
     where
       go : (p : Passed)
           → passing l.table l.classes (given_to (free_runs q) given) (has_lengths q given) (frame (plain q end) (single t) 0 ∷ []) start [] allowance ≡ p
           → {x : Pass} → Fits l.table bytes p x → followed_by l.table allowance p ≡ follows (bound ps n)
-          → (e : Env) × (first_answer (resumed_after l q t given).out ≡ some e) × (ps ≡ parts l.table e) × ((shown : List Part) × Shown l.table bytes shown e)
+          → (e : Env) × (first_answer (resumed_after l q t given).out ≡ Some e) × (ps ≡ parts l.table e) × ((shown : List Part) × Shown l.table bytes shown e)
       go (ended (met e left)) p (both_end (is_found s)) h =
           let z : ps ≡ parts l.table e = cc in (e, passed_first l q t given allowance e left p, z, (_, s))
       go (ended (missed left)) p f h = let z : ◌≡◌ {A = ℕ} 0 1 = cc in absurd (omega arith)

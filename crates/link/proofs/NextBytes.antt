@@ -2,7 +2,6 @@
 use Prim.Native.Nat.{ℕ}
 use mathlib.Core.Path.{◌≡◌, refl, sym, ◌∙◌, ap}
 use mathlib.Core.List.{List}
-use mathlib.Core.Option.{some}
 use mathlib.Core.Bool.{Bool, true, false, cond}
 use lib.ListN.{length, replicate}
 use lib.Dec.{eqb}
@@ -29,6 +28,7 @@ use Rattle.link.proofs.Givens.{next_linked, next_stands}
 use Rattle.link.proofs.Linked.{table_short, narrow, short}
 use Rattle.link.proofs.Represents.{Shown}
 use Rattle.link.proofs.Spreading.{free_in_holds, spread_free}
+use Rattle.std.specs.Prelude.{Some}
 
 module _ (l : Language) (pattern bytes : List ℕ) (alike : Alike l.table l.classes) (q : Pattern) (t : Term) (i : Input l pattern bytes q t)
     (given : List ℕ) (allowance : ℕ) where
@@ -65,7 +65,7 @@ module _ (l : Language) (pattern bytes : List ℕ) (alike : Alike l.table l.clas
 
   -- a bound answer is the first of the search resumed after the given one, and what it shows stands in the record
   pub bound_stands : OneForEach q given → (ps : List Part) (n : ℕ) → next l q t given allowance ≡ follows (bound ps n)
-      → (e : Env) × (first_answer (resumed_after l q t given).out ≡ some e) × (ps ≡ parts l.table e) × ((shown : List Part) × Shown l.table bytes shown e)
+      → (e : Env) × (first_answer (resumed_after l q t given).out ≡ Some e) × (ps ≡ parts l.table e) × ((shown : List Part) × Shown l.table bytes shown e)
   bound_stands each =
       next_stands l pattern bytes alike q t i (apart l pattern bytes q t i) given (spread_to (free_runs q) given (replicate variables 0)) each
       (spread_free q given each (λ u m. (free_runs_are l pattern bytes q t i u m).1)) allowance

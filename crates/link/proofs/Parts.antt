@@ -4,7 +4,6 @@ use native.Mathlib.Omega.{arith}
 use mathlib.Core.Path.{◌≡◌, refl, sym, ◌∙◌, ap, ap₂, subst}
 use mathlib.Core.List.{List, []}
 use mathlib.Core.Bool.{Bool, true, false, cond, ◌&&◌, not-eq-not}
-use mathlib.Core.Option.{none, some}
 use lib.ListN.{length, get_or, take, set, replicate, length-set, length-replicate, get_or-replicate}
 use lib.Seq.{get_or-set_same, get_or-set_other}
 use lib.Dec.{eqb, leb}
@@ -26,6 +25,7 @@ use Rattle.steps.specs.Turn.{stands_of}
 use Rattle.term.proofs.Joins.{bytes_join, fit_split}
 use Rattle.link.proofs.Represents.{Stands, Shown}
 use Rattle.link.proofs.Places.{within_terms}
+use Rattle.std.specs.Prelude.{Some, None}
 
 module _ (table bytes : List ℕ) where
   part_bytes_holds : (at : ℕ) (w : Terms) → Stands table bytes at w → part_bytes bytes (part at (sizes table w) (count w)) ≡ terms_bytes table w []
@@ -43,7 +43,7 @@ module _ (table bytes : List ℕ) where
     front_bytes : (x us : Terms) → ts ≡ x ⧺ us → terms_bytes table ts after ≡ terms_bytes table x (terms_bytes table us after)
     front_bytes x us z = ap (λ (u : Terms). terms_bytes table u after) z ∙ bytes_join table x us after
 
-    pub assigned_stands : (us : Terms) → behind classes w ts ≡ some us
+    pub assigned_stands : (us : Terms) → behind classes w ts ≡ Some us
         → (leb (count w) (count ts) && stands_of table classes bytes (part at (sizes table w) (count w)) (terms_bytes table ts after)) ≡ true
     unfolding stands_of
     assigned_stands us b =
@@ -60,14 +60,14 @@ module _ (table bytes : List ℕ) where
         ) (same_part_holds table classes k w x s.limited.left left s.limited.in_list in_list s.limited.fit (fit_front x us a.1)
         (terms_bytes table us after) a.2)
 
-    pub assigned_differs : behind classes w ts ≡ none
+    pub assigned_differs : behind classes w ts ≡ None
         → (leb (count w) (count ts) && stands_of table classes bytes (part at (sizes table w) (count w)) (terms_bytes table ts after)) ≡ false
     unfolding stands_of
     assigned_differs b = (not-eq-not {b = false}).0 (λ e. none_some (sym b ∙ (stood e).1))
       where
         stood : (leb (count w) (count ts) && (leb (sizes table w) (length (terms_bytes table ts after))
             && same_part table classes false (part_bytes bytes (part at (sizes table w) (count w))) (take (sizes table w) (terms_bytes table ts after)))) ≡ true
-            → (us : Terms) × (behind classes w ts ≡ some us)
+            → (us : Terms) × (behind classes w ts ≡ Some us)
         stood e =
             let a = and_true (leb (count w) (count ts)) _ e in
             let d = and_true (leb (sizes table w) (length (terms_bytes table ts after))) _ a.1 in
@@ -100,18 +100,18 @@ module _ (table bytes : List ℕ) where
     }
       where
         is : (i : ℕ) → i < variables → (m : Bool) → eqb v i ≡ m
-            → get_or (set ps v (bound_part at (sizes table w) (count w))) i (part 0 0 0) ≡ assigned_part table (cond m (some w) (e.value i))
+            → get_or (set ps v (bound_part at (sizes table w) (count w))) i (part 0 0 0) ≡ assigned_part table (cond m (Some w) (e.value i))
             (cond m at (e.offset i))
         is i k true z =
             ap (λ (j : ℕ). get_or (set ps v (bound_part at (sizes table w) (count w))) j (part 0 0 0)) (sym (eqb-true v i z))
             ∙ get_or-set_same ps v _ (part 0 0 0) (omega (arith, h.room)) ∙ bound_is at w s
         is i k false z = get_or-set_other ps v i _ (part 0 0 0) (λ y. eqb-false v i z (sym y)) ∙ h.shown i k
 
-        stands : (i : ℕ) (x : Terms) (m : Bool) → cond m (some w) (e.value i) ≡ some x → Stands table bytes (cond m at (e.offset i)) x
+        stands : (i : ℕ) (x : Terms) (m : Bool) → cond m (Some w) (e.value i) ≡ Some x → Stands table bytes (cond m at (e.offset i)) x
         stands i x true z = subst (Stands table bytes at) (some_same z) s
         stands i x false z = h.stands i x z
 
-        one : (i : ℕ) (x : Terms) → i < 32 → (m : Bool) → eqb v i ≡ m → cond m (some w) (e.value i) ≡ some x → count x ≡ 1
+        one : (i : ℕ) (x : Terms) → i < 32 → (m : Bool) → eqb v i ≡ m → cond m (Some w) (e.value i) ≡ Some x → count x ≡ 1
         one i x k true y z = ap count (sym (some_same z)) ∙ n (omega (arith, eqb-true v i y))
         one i x k false y z = h.one i x k z
 

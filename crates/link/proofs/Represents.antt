@@ -3,7 +3,6 @@ use Prim.Native.Nat.{ℕ, ◌+◌, ◌-◌, ◌<◌, ◌≤◌}
 use mathlib.Core.Path.{◌≡◌}
 use mathlib.Core.List.{List, [], ◌∷◌}
 use mathlib.Core.Bool.{Bool, true, false}
-use mathlib.Core.Option.{some}
 use lib.ListN.{length, get_or, take, drop}
 use Rattle.answers.specs.Part.{part}
 use Rattle.answers.specs.declared.Part.{Part}
@@ -22,6 +21,7 @@ use Rattle.search.specs.declared.place.Remaining.{Remaining}
 use Rattle.search.specs.Level.{Reply, reply, failed_at, spent_at}
 use Rattle.search.specs.declared.place.Place.{Place}
 use Rattle.search.specs.declared.Finding.TheVariants.{Found}
+use Rattle.std.specs.Prelude.{Some}
 
 -- trees within the limits
 pub record Limited (table : List ℕ) (records : Bool) (ts : Trees) : Type 0 where
@@ -80,8 +80,8 @@ pub record Stands (table bytes : List ℕ) (at : ℕ) (w : Terms) : Type 0 where
 pub record Shown (table bytes : List ℕ) (parts : List Part) (e : Env) : Type 0 where
   pub room : length parts ≡ variables
   pub shown : (v : ℕ) → v < variables → get_or parts v (part 0 0 0) ≡ assigned_part table (e.value v) (e.offset v)
-  pub stands : (v : ℕ) (w : Terms) → e.value v ≡ some w → Stands table bytes (e.offset v) w
-  pub one : (v : ℕ) (w : Terms) → v < 32 → e.value v ≡ some w → count w ≡ 1
+  pub stands : (v : ℕ) (w : Terms) → e.value v ≡ Some w → Stands table bytes (e.offset v) w
+  pub one : (v : ℕ) (w : Terms) → v < 32 → e.value v ≡ Some w → count w ≡ 1
 
 -- The complements put by
 

@@ -4,7 +4,6 @@ use native.Mathlib.Omega.{arith}
 use mathlib.Core.Path.{◌≡◌, refl, sym, ◌∙◌, ap, ap₂, subst}
 use mathlib.Core.List.{List, [], ◌∷◌}
 use mathlib.Core.Bool.{Bool, true, false, cond, ◌&&◌}
-use mathlib.Core.Option.{none, some}
 use lib.ListN.{length, get_or, drop}
 use lib.Dec.{eqb, leb}
 use borrow.Author.Tests.{le-leb, ne_eqb, eq-eqb}
@@ -36,6 +35,7 @@ use Rattle.term.proofs.Joins.{sizes_single, root_of, first_code}
 use Rattle.link.proofs.Represents.{Limited, codes_left, bytes_left, Here, Stands}
 use Rattle.link.proofs.Places.{behind_last}
 use Rattle.link.proofs.Parts.{assigned_stands, assigned_differs}
+use Rattle.std.specs.Prelude.{Some, None}
 
 -- the extent of what stands first
 
@@ -158,12 +158,12 @@ module _ (table classes pattern bytes : List ℕ) (p : Place) (frames : List Rem
     unfolding assigned_step
     assigned_by b e = rw (h.elements, h.stands, e)
 
-    pub assigned_passes : (us : Terms) → behind classes w ts ≡ some us
+    pub assigned_passes : (us : Terms) → behind classes w ts ≡ Some us
         → assigned_step table classes bytes (part at (sizes table w) (count w)) (drop p.node bytes) p.elements ≡ Passes (count w) (sizes table w)
     assigned_passes us b = assigned_by true (assigned_stands table bytes classes k at w ts (bytes_left table fs h.bytes_after) s h.elements_limited.left h.elements_limited.in_list
         h.elements_limited.fit us b)
 
-    pub assigned_fails : behind classes w ts ≡ none → assigned_step table classes bytes (part at (sizes table w) (count w)) (drop p.node bytes) p.elements ≡ Fails
+    pub assigned_fails : behind classes w ts ≡ None → assigned_step table classes bytes (part at (sizes table w) (count w)) (drop p.node bytes) p.elements ≡ Fails
     assigned_fails b =
         assigned_by false
         (assigned_differs table bytes classes k at w ts (bytes_left table fs h.bytes_after) s h.elements_limited.left h.elements_limited.in_list

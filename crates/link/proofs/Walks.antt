@@ -4,7 +4,6 @@ use native.Mathlib.Omega.{arith}
 use mathlib.Core.Path.{◌≡◌, refl, sym, ◌∙◌, ap, ap₂, subst}
 use mathlib.Core.List.{List, [], ◌∷◌, ◌++◌}
 use mathlib.Core.Bool.{Bool, true, false, cond, ◌&&◌}
-use mathlib.Core.Option.{Option, none, some}
 use lib.ListN.{length, get_or, take, drop, set}
 use lib.Seq.{take_at}
 use lib.Dec.{eqb}
@@ -46,6 +45,7 @@ use Rattle.link.proofs.Represents.{Limited, codes_left, Here, Shown, Waits, AllW
 use Rattle.link.proofs.Places.{limited_children, childless, some_width, stacked_alone, stacked_open, here_past, here_stands, here_open, here_close, close_at, past_leaf}
 use Rattle.link.proofs.Parts.{assigned_present, shown_bind}
 use Rattle.link.proofs.Turns.{turn_over, turn_end, child_here, variable_here, does_code, does_short, does_spent, does_pair, assigned_passes, assigned_fails, name_binds, symbol_opens, symbol_passes, symbol_fails, complement_put_by}
+use Rattle.std.specs.Prelude.{Option, Some, None}
 
 -- variables within the limits
 
@@ -114,7 +114,7 @@ pub record Walking (table classes pattern bytes : List ℕ) (n : ℕ) : Type 1 w
   pub end_fits : (s : State) (e : Env) (ds : List Pending) → Shown table bytes s.parts e → AllWait table pattern bytes s.waiting ds
       → 257 * length pattern ≤ n → Known [] e ds → (left : ℕ) → Fit (comes [] e ds left) (ending NoPair s left)
   pub run_fits : (s : State) (v : ℕ) (qs : Children) (ts : Terms) (fs : List Frame) (e : Env) (ds : List Pending)
-      → Represents table pattern bytes s (run v qs) ts fs e ds → 32 ≤ v → v < variables → levels pattern (s.place.at + 1) ≤ n → e.value v ≡ none
+      → Represents table pattern bytes s (run v qs) ts fs e ds → 32 ≤ v → v < variables → levels pattern (s.place.at + 1) ≤ n → e.value v ≡ None
       → Known (frame (run v qs) ts s.place.node ∷ fs) e ds → (left : ℕ)
       → Fit (comes (frame (run v qs) ts s.place.node ∷ fs) e ds left) (ending (RunName v) s left)
   -- how a level ends does not depend on the place
@@ -264,19 +264,19 @@ module _ (table : List ℕ) (small : length table ≤ 200) (classes : List ℕ) 
             ap (part_in_state s) (variable_here table classes pattern bytes s.place s.frames fs cs qs (branch c empty) ts z h.is.here ∙ y)
             ∙ h.is.shown.shown v low ∙ ap (λ (p : Option Terms). assigned_part table p (e.offset v)) x
 
-        on_assigned : (w : Terms) → e.value v ≡ some w
+        on_assigned : (w : Terms) → e.value v ≡ Some w
             → step turns s left
             ≡ assigned_step table classes bytes (part (e.offset v) (sizes table w) (count w)) (drop s.place.node bytes) s.place.elements
             → 0 < left
-            → ((us : Terms) → behind classes w ts ≡ some us → (y : ℕ → Tries) → machine table classes y (frame cs ts s.place.node ∷ fs) e ds
+            → ((us : Terms) → behind classes w ts ≡ Some us → (y : ℕ → Tries) → machine table classes y (frame cs ts s.place.node ∷ fs) e ds
             ≡ counted (machine table classes y (frame qs us (s.place.node + sizes table w) ∷ fs) e ds))
             → ((us : Terms) → Fewer (frame qs us (s.place.node + sizes table w) ∷ fs) (frame cs ts s.place.node ∷ fs))
-            → (behind classes w ts ≡ none → (y : ℕ → Tries) → machine table classes y (frame cs ts s.place.node ∷ fs) e ds ≡ counted fail)
+            → (behind classes w ts ≡ None → (y : ℕ → Tries) → machine table classes y (frame cs ts s.place.node ∷ fs) e ds ≡ counted fail)
             → Agreed cs ts
         on_assigned w x does i holds fewer differs = go (behind classes w ts) refl
           where
             go : (o : Option Terms) → behind classes w ts ≡ o → Agreed cs ts
-            go (some us) b =
+            go (Some us) b =
                 let a = behind_alike classes w ts us b in
                 let m = same_sizes table classes alike w a.0 a.2 in
                 let past : (y : ℕ → Tries) → machine table classes y (frame cs ts s.place.node ∷ fs) e ds
@@ -289,7 +289,7 @@ module _ (table : List ℕ) (small : length table ≤ 200) (classes : List ℕ) 
                 (same_counts classes w a.0 a.2) m)
                 (goes_past a.0 us a.1 s.parts e h.is.shown
                 (k.known_step (frame cs ts s.place.node ∷ fs) (frame qs us (s.place.node + sizes table a.0) ∷ fs) e e ds ds past (fewer us) h.known))
-            go none b =
+            go None b =
                 carry refl
                 (fails turns s left (does ∙ assigned_fails table classes pattern bytes s.place s.frames fs cs ts h.is.here (e.offset v) w
                 (h.is.shown.stands v w x) alike b))
@@ -308,7 +308,7 @@ module _ (table : List ℕ) (small : length table ≤ 200) (classes : List ℕ) 
           ∙ ap (λ (p : Part). name_step table classes bytes (drop s.place.node bytes) v p s.place.elements)
           (part_here (plain (name v) qs) qs (t :: ts) (Name v) refl refl h v refl name_low o x)
 
-      name_assigned : (w : Terms) → e.value v ≡ some w
+      name_assigned : (w : Terms) → e.value v ≡ Some w
           → name_step table classes bytes (drop s.place.node bytes) v (part (e.offset v) (sizes table w) (count w)) s.place.elements
           ≡ assigned_step table classes bytes (part (e.offset v) (sizes table w) (count w)) (drop s.place.node bytes) s.place.elements
       unfolding name_step
@@ -316,7 +316,7 @@ module _ (table : List ℕ) (small : length table ≤ 200) (classes : List ℕ) 
 
       on_name : (o : Option Terms) → e.value v ≡ o → Agreed (plain (name v) qs) (t :: ts)
       unfolding list_code
-      on_name none x =
+      on_name None x =
           let b : (y : ℕ → Tries) → machine table classes y (frame (plain (name v) qs) (t :: ts) s.place.node ∷ fs) e ds
           ≡ counted (machine table classes y (frame qs ts (s.place.node + sizes table (single t)) ∷ fs) (bind e v s.place.node (single t)) ds) =
           λ y. machine_name table classes y s.place.node fs e ds v qs t ts
@@ -327,7 +327,7 @@ module _ (table : List ℕ) (small : length table ≤ 200) (classes : List ℕ) 
           carry
           (k.step (frame (plain (name v) qs) (t :: ts) s.place.node ∷ fs) (frame qs ts (s.place.node + sizes table (single t)) ∷ fs)
           e (bind e v s.place.node (single t)) ds ds b left i)
-          (binds turns s left v _ (name_step_holds none x ∙ name_binds table small classes pattern bytes s.place s.frames fs (plain (name v) qs) t ts v
+          (binds turns s left v _ (name_step_holds None x ∙ name_binds table small classes pattern bytes s.place s.frames fs (plain (name v) qs) t ts v
           h.is.here))
           (goes_past (plain (name v) qs) qs (t :: ts) (Name v) refl refl h (single t) ts refl _
           (bind e v s.place.node (single t))
@@ -335,14 +335,14 @@ module _ (table : List ℕ) (small : length table ≤ 200) (classes : List ℕ) 
           (here_stands table pattern bytes s.place s.frames (plain (name v) qs) (single t) ts fs h.is.here))
           (k.known_step (frame (plain (name v) qs) (t :: ts) s.place.node ∷ fs) (frame qs ts (s.place.node + sizes table (single t)) ∷ fs)
           e (bind e v s.place.node (single t)) ds ds b (λ j m. m) h.known))
-      on_name (some w) x =
-          on_assigned (plain (name v) qs) qs (t :: ts) (Name v) refl refl h v refl name_low w x (name_step_holds (some w) x ∙ name_assigned w x) i
+      on_name (Some w) x =
+          on_assigned (plain (name v) qs) qs (t :: ts) (Name v) refl refl h v refl name_low w x (name_step_holds (Some w) x ∙ name_assigned w x) i
           (λ us b y.
           let o = one_behind classes w t ts us (h.is.shown.one v w (name_below h.is.here.patterns_limited) x) b in
           machine_name table classes y s.place.node fs e ds v qs t ts
           ∙ ap (λ (p : Option Env). counted (if_some p (λ f. machine table classes y (frame qs ts (s.place.node + size table t) ∷ fs) f ds)))
           (ap (λ (p : Option Terms). same_or classes p (single t) e (bind e v s.place.node (single t))) x
-          ∙ ap (λ (m : Bool). cond m (some e) none) o.0)
+          ∙ ap (λ (m : Bool). cond m (Some e) None) o.0)
           ∙ ap₂ (λ (m : ℕ) (r : Terms). counted (machine table classes y (frame qs r (s.place.node + m) ∷ fs) e ds))
           (sym (sizes_single table t) ∙ sym (same_sizes table classes alike w (single t) o.0)) o.1)
           (λ us j m. m)
@@ -350,7 +350,7 @@ module _ (table : List ℕ) (small : length table ≤ 200) (classes : List ℕ) 
           machine_name table classes y s.place.node fs e ds v qs t ts
           ∙ ap (λ (p : Option Env). counted (if_some p (λ f. machine table classes y (frame qs ts (s.place.node + size table t) ∷ fs) f ds)))
           (ap (λ (p : Option Terms). same_or classes p (single t) e (bind e v s.place.node (single t))) x
-          ∙ ap (λ (m : Bool). cond m (some e) none) (none_behind classes w t ts b)))
+          ∙ ap (λ (m : Bool). cond m (Some e) None) (none_behind classes w t ts b)))
 
     -- a run name
     module _ (v : ℕ) (qs : Children) (ts : Terms) (h : Ready (suc turns) s (run v qs) ts fs e ds) where
@@ -366,23 +366,23 @@ module _ (table : List ℕ) (small : length table ≤ 200) (classes : List ℕ) 
       unfolding run_step
       run_fresh = refl
 
-      run_spent : (w : Terms) → e.value v ≡ some w → left ≡ 0
+      run_spent : (w : Terms) → e.value v ≡ Some w → left ≡ 0
           → run_step table classes bytes v (part (e.offset v) (sizes table w) (count w)) (drop s.place.node bytes) s.place.elements left ≡ Stops NoAllowance
       unfolding run_step
       run_spent w x i = rw (assigned_present table bytes short (e.offset v) w (h.is.shown.stands v w x), eq-eqb left 0 i)
 
-      run_assigned : (w : Terms) → e.value v ≡ some w → 0 < left
+      run_assigned : (w : Terms) → e.value v ≡ Some w → 0 < left
           → run_step table classes bytes v (part (e.offset v) (sizes table w) (count w)) (drop s.place.node bytes) s.place.elements left
           ≡ assigned_step table classes bytes (part (e.offset v) (sizes table w) (count w)) (drop s.place.node bytes) s.place.elements
       unfolding run_step
       run_assigned w x i = rw (assigned_present table bytes short (e.offset v) w (h.is.shown.stands v w x), ne_eqb left 0 (λ k. omega arith))
 
-      on_run_assigned : (w : Terms) → e.value v ≡ some w → Split left 0 → Agreed (run v qs) ts
+      on_run_assigned : (w : Terms) → e.value v ≡ Some w → Split left 0 → Agreed (run v qs) ts
       unfolding list_code
       on_run_assigned w x (enough i) =
           let z : left ≡ 0 = omega arith in
           carry refl
-          (stops turns s left NoAllowance (run_step_holds (some w) x ∙ run_spent w x z))
+          (stops turns s left NoAllowance (run_step_holds (Some w) x ∙ run_spent w x z))
           (k.spent_fits (frame (run v qs) ts s.place.node ∷ fs) e ds
           (λ y. (
             if_some (behind classes w ts) (λ us. machine table classes y (frame qs us (s.place.node + sizes table w) ∷ fs) e ds),
@@ -390,7 +390,7 @@ module _ (table : List ℕ) (small : length table ≤ 200) (classes : List ℕ) 
           )) left z s)
       on_run_assigned w x (over i) =
           on_assigned (run v qs) qs ts (Run v) refl refl h v refl (run_within h.is.here.patterns_limited).1 w x
-          (run_step_holds (some w) x ∙ run_assigned w x i) i
+          (run_step_holds (Some w) x ∙ run_assigned w x i) i
           (λ us b y. machine_run_assigned table classes y s.place.node fs e ds v qs ts w x
           ∙ ap (λ (o : Option Terms). counted (if_some o (λ us. machine table classes y (frame qs us (s.place.node + sizes table w) ∷ fs) e ds))) b)
           (λ us j m. later v (among j (runs_all qs (frames_runs fs))) j m)
@@ -399,11 +399,11 @@ module _ (table : List ℕ) (small : length table ≤ 200) (classes : List ℕ) 
 
       on_run : (o : Option Terms) → e.value v ≡ o → Agreed (run v qs) ts
       unfolding list_code
-      on_run (some w) x = on_run_assigned w x (split left 0)
-      on_run none x =
+      on_run (Some w) x = on_run_assigned w x (split left 0)
+      on_run None x =
           let r = run_within h.is.here.patterns_limited in
           carry refl
-          (stops turns s left (RunName v) (run_step_holds none x ∙ run_fresh))
+          (stops turns s left (RunName v) (run_step_holds None x ∙ run_fresh))
           (k.run_fits s v qs ts fs e ds h.is r.0 r.1
           (omega (arith, h.few, here (run v qs) qs ts (Run v) refl refl h)) x h.known left)
 

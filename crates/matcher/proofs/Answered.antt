@@ -4,7 +4,6 @@ use native.Mathlib.Omega.{arith}
 use mathlib.Core.Path.{◌≡◌, refl, sym, ◌∙◌, ap, ap₂, subst}
 use mathlib.Core.List.{List, [], ◌∷◌, ◌++◌}
 use mathlib.Core.Bool.{Bool, true, false, cond}
-use mathlib.Core.Option.{Option, none, some}
 use lib.ListN.{length, get_or, take, drop, get_or-append}
 use lib.Dec.{eqb}
 use borrow.Author.Tests.{eqb-true}
@@ -48,6 +47,7 @@ use Rattle.anti_pattern.proofs.Each.{each_at}
 use Rattle.link.proofs.Linked.{whole_agrees}
 use Rattle.parts.specs.Shown.{entry, numbers, entry_width, answer_width}
 use Rattle.parts.proofs.Shown.{numbers_length, numbers_at}
+use Rattle.std.specs.Prelude.{Option, Some, None}
 
 -- the free variables of an accepted pattern are among the 48
 
@@ -118,7 +118,7 @@ module _ (brought : Brought) (pattern bytes : List ℕ) (k : Alike brought.table
   part_entry : (v : ℕ) → v < variables → Entry v (assigned_part brought.table (e.value v) (e.offset v))
   part_entry v low = entry_is v low (assigned_part brought.table (e.value v) (e.offset v)) (each_is (λ u. assigned_part brought.table (e.value u) (e.offset u)) v low refl)
 
-  value_entry : (v : ℕ) (w : Terms) → v < variables → e.value v ≡ some w → Entry v (part (e.offset v) (sizes brought.table w) (count w))
+  value_entry : (v : ℕ) (w : Terms) → v < variables → e.value v ≡ Some w → Entry v (part (e.offset v) (sizes brought.table w) (count w))
   value_entry v w low z = subst (λ (x : Option Terms). Entry v (assigned_part brought.table x (e.offset v))) z (part_entry v low)
 
   place_entry : (v : ℕ) → v < variables → (p : Part) → variable_part brought.table q t e.value v ≡ p → Entry v p
@@ -128,14 +128,14 @@ module _ (brought : Brought) (pattern bytes : List ℕ) (k : Alike brought.table
   length_shown v low = (part_entry v low).2 ∙ go (e.value v)
     where
       go : (x : Option Terms) → (assigned_part brought.table x (e.offset v)).elements ≡ length_of x
-      go none = refl
-      go (some w) = refl
+      go None = refl
+      go (Some w) = refl
 
   pub env_shown : Shows brought.table bytes q t e.value (numbers (parts brought.table e) ++ rest)
   env_shown = record {
     first_place = λ v m.
         let f = placed.free_placed e.value satisfies v m in
-        f.2 ∙ ap some (sym (place_entry v (below v m) (part f.0 (sizes brought.table f.1) (count f.1))
+        f.2 ∙ ap Some (sym (place_entry v (below v m) (part f.0 (sizes brought.table f.1) (count f.1))
         (ap₂ (λ (x : Option ℕ) (y : Option Terms). or_absent x (assigned_part brought.table y)) f.2 f.3)).0);
     value_length = λ v w m z. (value_entry v w (below v m) z).1 ∙ sym (terms_sizes brought.table w);
     value_bytes = λ v w m z.
@@ -176,7 +176,7 @@ module _ (brought : Brought) (pattern bytes : List ℕ) (k : Alike brought.table
   of : TermOf (language_of brought) t
   of = accepted_of (language_of brought) t i.record_accepted
 
-  found_shown : (e : Env) → count_of (language_of brought) q t ≤ allowance → first_answer (whole (language_of brought) q t).out ≡ some e
+  found_shown : (e : Env) → count_of (language_of brought) q t ≤ allowance → first_answer (whole (language_of brought) q t).out ≡ Some e
       → Shown brought.table bytes (search_of brought.table (classes_of brought) pattern bytes allowance).parts e
   found_shown e within o =
       shown_by_holds (subst (λ (m : Metered). Agrees brought.table bytes m (search_of brought.table (classes_of brought) pattern bytes allowance))
@@ -185,7 +185,7 @@ module _ (brought : Brought) (pattern bytes : List ℕ) (k : Alike brought.table
 
   -- the buffer shows the first answer of the search
   pub first_shown : (before : List ℕ) → answer_number (told (answer (language_of brought) q t allowance)) ≡ 0
-      → (e : Env) × (first_answer (whole (language_of brought) q t).out ≡ some e)
+      → (e : Env) × (first_answer (whole (language_of brought) q t).out ≡ Some e)
       × Shows brought.table bytes q t e.value (written (bound_parts (answer (language_of brought) q t allowance)) before)
       × Shown brought.table bytes (search_of brought.table (classes_of brought) pattern bytes allowance).parts e
   first_shown before h =

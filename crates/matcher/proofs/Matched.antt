@@ -7,7 +7,6 @@ use borrow.Author.Tests.{lt-ltb, le-ltb}
 use Rattle.answers.specs.declared.Part.{Part}
 use Rattle.answers.specs.declared.Refusal.TheVariants.{Narrow}
 use Rattle.answers.specs.declared.Answer.{Answer}
-use Rattle.answers.specs.declared.Answer.TheVariants.{Refused}
 use Rattle.term.specs.declared.Edition.{Edition}
 use Rattle.term.specs.Class.{Alike}
 use Rattle.term.specs.Pattern.{Pattern}
@@ -25,6 +24,8 @@ use Rattle.call.specs.Call.{written}
 use Rattle.link.specs.OnBytes.{replied_by, outcome_on_bytes}
 use Rattle.matcher.specs.Call.{Input, told, bound_parts, answer_on_bytes, buffer_on_bytes}
 use Rattle.link.proofs.Linked.{linked}
+use Rattle.std.specs.Prelude.{Result, Err}
+use Rattle.answers.specs.declared.Refusal.{Refusal}
 
 pub left_within : (table classes pattern bytes : List ℕ) (allowance : ℕ) (e : Ended) → e ≡ end_of (search_of table classes pattern bytes allowance) → e.left ≤ allowance
 left_within table classes pattern bytes allowance e s = rw s (search_left table classes bytes pattern allowance)
@@ -37,11 +38,11 @@ told_parts Spent allowance left ps = refl
 
 module _ (table classes pattern bytes before : List ℕ) (allowance : ℕ) where
   -- answer and final buffer on any bytes
-  abbrev OnBytes : Answer → List ℕ → Type 0
+  abbrev OnBytes : Result Answer Refusal → List ℕ → Type 0
   OnBytes a after =
       (a ≡ answer_on_bytes table classes pattern bytes allowance (length before)) × (after ≡ buffer_on_bytes table classes pattern bytes allowance before)
 
-  pub narrow_matched : length before < answer_width → OnBytes (Refused Narrow) before
+  pub narrow_matched : length before < answer_width → OnBytes (Err Narrow) before
   unfolding answer_on_bytes buffer_on_bytes
   narrow_matched h = rw (lt-ltb (length before) answer_width h) (refl, refl)
 
@@ -56,7 +57,7 @@ module _ (table classes pattern bytes before : List ℕ) (allowance : ℕ) where
     abbrev searched : Reply
     searched = search_of table classes pattern bytes allowance
 
-    pub search_matched : (e : Ended) → e ≡ end_of searched → (a : Answer) → a ≡ told (replied_by e.outcome allowance e.left [])
+    pub search_matched : (e : Ended) → e ≡ end_of searched → (a : Result Answer Refusal) → a ≡ told (replied_by e.outcome allowance e.left [])
         → (after : List ℕ) → after ≡ shown_in searched before → OnBytes a after
     unfolding outcome_on_bytes answer_on_bytes buffer_on_bytes
     search_matched e s a h after f =

@@ -5,7 +5,6 @@ use mathlib.Core.Path.{◌≡◌, refl, sym, ◌∙◌, ap, subst}
 use mathlib.Core.Logic.{◌⊎◌, inl, inr}
 use mathlib.Core.List.{List, []}
 use mathlib.Core.Bool.{true}
-use mathlib.Core.Option.{Option, none}
 use lib.ListN.{length, drop}
 use Rattle.answers.specs.Refusal.{number_of}
 use Rattle.answers.specs.Answers.{answer_number, answer_count}
@@ -13,13 +12,12 @@ use Rattle.answers.specs.declared.Part.{Part}
 use Rattle.answers.specs.declared.Refusal.{Refusal}
 use Rattle.answers.specs.declared.Refusal.TheVariants.{Unknown}
 use Rattle.answers.specs.declared.Answer.{Answer}
-use Rattle.answers.specs.declared.Answer.TheVariants.{Refused}
 use Rattle.term.specs.declared.Edition.{Edition}
 use Rattle.term.specs.Class.{Alike}
 use Rattle.term.specs.Limits.{Octets}
 use Rattle.term.specs.Pattern.{Pattern}
 use Rattle.term.specs.Term.{Term}
-use Rattle.anti_pattern.specs.Language.{language}
+use Rattle.anti_pattern.specs.Language.{language, Language}
 use Rattle.anti_pattern.specs.Next.{Following, follows, unknown, next_count, next}
 use Rattle.anti_pattern.specs.Answer.{bound, parts}
 use Rattle.anti_pattern.specs.Demands.{Given, NextAfter, UnknownLengths, NextExact}
@@ -31,7 +29,6 @@ use Rattle.search.specs.Following.{next_pass, followed_of, shown_pass}
 use Rattle.search.specs.Given.{Pass, ends}
 use Rattle.parts.specs.Shown.{answer_width}
 use Rattle.search.specs.declared.Followed.{Followed}
-use Rattle.search.specs.declared.Known.TheVariants.{Ended as KnownEnds, Unknown as Strange}
 use Rattle.search.specs.declared.Finding.{Finding}
 use Rattle.search.proofs.Lefts.{following_left}
 use Rattle.reader.specs.Brought.{Brought, classes_of, language_of, brought_accepted}
@@ -42,8 +39,6 @@ use Rattle.link.specs.OnBytes.{replied_by, replied_pass, following_on_bytes}
 use Rattle.matcher.specs.Call.{Input, AcceptedTrees, trees, checked, check_of, refusal, told}
 use Rattle.matcher.specs.Next.{told_next, next_of, bound_next, next_buffer_of}
 use Rattle.matcher.specs.Demands.{Shows, NextAnswered, NextDemanded, NextCalled}
-use Rattle.matcher.specs.declared.Check.{Check}
-use Rattle.matcher.specs.declared.Check.TheVariants.{Passed, Failed}
 use Rattle.matcher.proofs.Answered.{env_shown}
 use Rattle.matcher.proofs.Calls.{every_call}
 use Rattle.matcher.proofs.Checks.{reads, checked_exactly, check_failed, check_passed}
@@ -53,6 +48,7 @@ use Rattle.link.proofs.Followed.{next_accepted}
 use Rattle.matcher.proofs.Follows.{is_unknown, is_spent, is_none, is_bound, same_next}
 use Rattle.matcher.proofs.Matched.{told_parts, shown_by_holds}
 use Rattle.link.proofs.NextBytes.{next_on_bytes, bound_stands}
+use Rattle.std.specs.Prelude.{Result, Err, Ok, Option, Some, None}
 
 -- On any bytes
 
@@ -64,27 +60,27 @@ module _ (table classes pattern bytes given before : List ℕ) (allowance : ℕ)
   abbrev pass : Pass
   pass = next_pass table classes pattern bytes given allowance
 
-  abbrev OnBytes : Answer → List ℕ → Type 0
+  abbrev OnBytes : Result Answer Refusal → List ℕ → Type 0
   OnBytes a after = (a ≡ told_next (following_on_bytes table classes pattern bytes given allowance)) × (after ≡ shown_pass pass before)
 
-  ended_told : (p : Pass) (o : Finding) (e : Followed) → e.known ≡ KnownEnds o → e ≡ followed_of allowance p
+  ended_told : (p : Pass) (o : Finding) (e : Followed) → e.known ≡ Some o → e ≡ followed_of allowance p
       → told (replied_by o allowance e.left []) ≡ told_next (replied_pass allowance p)
   ended_told (ends r) o e h s =
       let z : o ≡ r.outcome = cc in
       let y : e.left ≡ r.left = ap (λ (x : Followed). x.left) s in told_parts o allowance e.left r.parts ∙ rw (z, y)
   ended_told Pass.unknown o e h s = let z : ◌≡◌ {A = ℕ} 0 1 = cc in absurd (omega arith)
 
-  unknown_told : (p : Pass) (e : Followed) → e.known ≡ Strange → e ≡ followed_of allowance p → Refused Unknown ≡ told_next (replied_pass allowance p)
+  unknown_told : (p : Pass) (e : Followed) → e.known ≡ None → e ≡ followed_of allowance p → Err Unknown ≡ told_next (replied_pass allowance p)
   unknown_told (ends r) e h s = let z : ◌≡◌ {A = ℕ} 0 1 = cc in absurd (omega arith)
   unknown_told Pass.unknown e h s = refl
 
-  pub next_ended : (o : Finding) (e : Followed) → e.known ≡ KnownEnds o → e ≡ followed_of allowance pass
-      → (a : Answer) → a ≡ told (replied_by o allowance e.left []) → (after : List ℕ) → after ≡ shown_pass pass before → OnBytes a after
+  pub next_ended : (o : Finding) (e : Followed) → e.known ≡ Some o → e ≡ followed_of allowance pass
+      → (a : Result Answer Refusal) → a ≡ told (replied_by o allowance e.left []) → (after : List ℕ) → after ≡ shown_pass pass before → OnBytes a after
   unfolding following_on_bytes
   next_ended o e h s a i after f = (i ∙ ended_told pass o e h s, f)
 
-  pub next_unknown : (e : Followed) → e.known ≡ Strange → e ≡ followed_of allowance pass
-      → (after : List ℕ) → after ≡ shown_pass pass before → OnBytes (Refused Unknown) after
+  pub next_unknown : (e : Followed) → e.known ≡ None → e ≡ followed_of allowance pass
+      → (after : List ℕ) → after ≡ shown_pass pass before → OnBytes (Err Unknown) after
   unfolding following_on_bytes
   next_unknown e h s after f = (unknown_told pass e h s, f)
 
@@ -114,7 +110,7 @@ next_uncounted : (f : Following) (r : Refusal) → answer_number (told_next f) �
 next_uncounted (follows o) r e = absurd (told_refused o r e)
 next_uncounted unknown r e = refl
 
-next_unbound : (f : Following) → (answer_number (told_next f) ≡ 0 → ⊥) → bound_next f ≡ none
+next_unbound : (f : Following) → (answer_number (told_next f) ≡ 0 → ⊥) → bound_next f ≡ None
 next_unbound (follows o) h = told_unbound o h
 next_unbound unknown h = refl
 
@@ -191,7 +187,7 @@ module _ (brought : Brought) (pattern bytes given before : List ℕ) (allowance 
   abbrev work : Pattern × Term → Following
   work x = next (language_of brought) x.0 x.1 given allowance
 
-  abbrev tells : Pattern × Term → Answer
+  abbrev tells : Pattern × Term → Result Answer Refusal
   tells x = told_next (work x)
 
   abbrev binds : Pattern × Term → Option (List Part)
@@ -221,21 +217,21 @@ module _ (brought : Brought) (pattern bytes given before : List ℕ) (allowance 
   }
 
   -- where a check fails
-  pub next_fails : {k : Check} {r : Refusal} → k ≡ check_of (checked brought pattern bytes (length before)) → k ≡ Failed r → NextCalled brought pattern bytes given before allowance (Refused r) before
+  pub next_fails : {k : (Result (Unit {0}) Refusal)} {r : Refusal} → k ≡ check_of (checked brought pattern bytes (length before)) → k ≡ Err r → NextCalled brought pattern bytes given before allowance (Err r) before
   unfolding next_of next_buffer_of
   next_fails {k} {r} e f =
       let c = check_failed (checked brought pattern bytes (length before)) r (sym f ∙ e) in
       fails refusal tells binds before (checked brought pattern bytes (length before)) (NextDemanded brought pattern bytes given before allowance) demanded_of
       r c.0 c.1
 
-  -- where all pass, and the search takes the class list that is brought, or an empty one
-  pub next_passes : {k : Check} → k ≡ check_of (checked brought pattern bytes (length before)) → k ≡ Passed
-      → (classes : List ℕ) → classes ≡ classes_of brought → (a : Answer) (after : List ℕ)
-      → (a ≡ told_next (following_on_bytes brought.table classes pattern bytes given allowance))
-      × (after ≡ shown_pass (next_pass brought.table classes pattern bytes given allowance) before)
+  -- where all pass, and the search is in the language of the call
+  pub next_passes : {k : (Result (Unit {0}) Refusal)} → k ≡ check_of (checked brought pattern bytes (length before)) → k ≡ Ok tt
+      → (l : Language) → l ≡ language_of brought → (a : Result Answer Refusal) (after : List ℕ)
+      → (a ≡ told_next (following_on_bytes l.table l.classes pattern bytes given allowance))
+      × (after ≡ shown_pass (next_pass l.table l.classes pattern bytes given allowance) before)
       → length after ≡ length before → NextCalled brought pattern bytes given before allowance a after
   unfolding next_of next_buffer_of
-  next_passes e f classes same a after m =
+  next_passes e f l same a after m =
       let c = check_passed (checked brought pattern bytes (length before)) (sym f ∙ e) in
       let i = (checked_exactly brought pattern bytes pattern_octets record_octets (length before) c.0.0 c.0.1).0 c.1 in
       let g = bytes_followed brought.table (classes_of brought) pattern bytes given before allowance brought.edition i.0 (brought_alike brought i.1) c.0.0 c.0.1 i.2 in

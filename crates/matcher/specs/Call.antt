@@ -1,11 +1,10 @@
 -- The call: what the match of one pattern against one record answers, and what it leaves in the answer buffer, on all inputs.
-use Rattle.std.specs.Prelude.{ℕ, List, cond, length, ltb}
-use Rattle.std.proofs.Math.Option.{Option, none, some}
+use Rattle.std.specs.Prelude.{ℕ, List, cond, length, ltb, Result, Ok, Err, Option, Some, None}
 use Rattle.answers.specs.declared.Part.{Part}
 use Rattle.answers.specs.declared.Refusal.{Refusal}
 use Rattle.answers.specs.declared.Refusal.TheVariants.{Narrow}
 use Rattle.answers.specs.declared.Answer.{Answer}
-use Rattle.answers.specs.declared.Answer.TheVariants.{Bound, None, Spent, Refused}
+use Rattle.answers.specs.declared.Answer.TheVariants.{Bound, Spent}
 use Rattle.term.specs.Language.{Language}
 use Rattle.term.specs.Term.{Term}
 use Rattle.term.specs.Pattern.{Pattern}
@@ -17,8 +16,6 @@ use Rattle.link.specs.OnBytes.{outcome_on_bytes}
 use Rattle.reader.specs.Brought.{Brought, language_of}
 use Rattle.call.specs.Call.{checks, answer_by, written, buffer_by}
 use Rattle.call.specs.Verdict.{Verdict, passed, fault, reading, both}
-use Rattle.matcher.specs.declared.Check.{Check}
-use Rattle.matcher.specs.declared.Check.TheVariants.{Passed, Failed}
 
 -- accepted input, of the two trees as one
 abbrev pub AcceptedTrees : Language → List ℕ → List ℕ → Pattern × Term → Type 0
@@ -36,31 +33,31 @@ abbrev pub checked : Brought → List ℕ → List ℕ → ℕ → Verdict (Patt
 checked brought pattern bytes width = checks brought width (trees (language_of brought) pattern bytes)
 
 -- passed, or the refusal
-abbrev pub check_of : {X : Type 0} → Verdict X → Check
-check_of (fault r i) = Failed r
-check_of (passed x) = Passed
+abbrev pub check_of : {X : Type 0} → Verdict X → Result (Unit {0}) Refusal
+check_of (fault r i) = Err r
+check_of (passed x) = Ok tt
 
 -- The answer
 
 -- of a refusal no entry is meant
-abbrev pub refusal : Refusal → ℕ → Answer
-refusal r i = Refused r
+abbrev pub refusal : Refusal → ℕ → Result Answer Refusal
+refusal r i = Err r
 
-abbrev pub told : Matching → Answer
-told (bound parts count) = Bound count
-told (nothing count) = None count
-told (spent allowance) = Spent allowance
+abbrev pub told : Matching → Result Answer Refusal
+told (bound parts count) = Ok (Bound count)
+told (nothing count) = Ok (Answer.None count)
+told (spent allowance) = Ok (Spent allowance)
 
-unfoldable pub answer_of : Brought → List ℕ → List ℕ → ℕ → ℕ → Answer
+unfoldable pub answer_of : Brought → List ℕ → List ℕ → ℕ → ℕ → Result Answer Refusal
 answer_of brought pattern bytes allowance width =
     answer_by refusal (λ x. told (answer (language_of brought) x.0 x.1 allowance)) (checked brought pattern bytes width)
 
 -- The answer buffer, by the part of each variable where the answer is bound
 
 abbrev pub bound_parts : Matching → Option (List Part)
-bound_parts (bound parts count) = some parts
-bound_parts (nothing count) = none
-bound_parts (spent allowance) = none
+bound_parts (bound parts count) = Some parts
+bound_parts (nothing count) = None
+bound_parts (spent allowance) = None
 
 unfoldable pub buffer_of : Brought → List ℕ → List ℕ → ℕ → List ℕ → List ℕ
 buffer_of brought pattern bytes allowance before =
@@ -69,9 +66,9 @@ buffer_of brought pattern bytes allowance before =
 -- The match of any bytes, without the checks but for the buffer's: what the search on bytes comes to. On accepted input it is the answer above
 -- (link/proofs/Linked).
 
-unfoldable pub answer_on_bytes : List ℕ → List ℕ → List ℕ → List ℕ → ℕ → ℕ → Answer
+unfoldable pub answer_on_bytes : List ℕ → List ℕ → List ℕ → List ℕ → ℕ → ℕ → Result Answer Refusal
 answer_on_bytes table classes pattern bytes allowance width =
-    cond (ltb width answer_width) (Refused Narrow) (told (outcome_on_bytes table classes pattern bytes allowance))
+    cond (ltb width answer_width) (Err Narrow) (told (outcome_on_bytes table classes pattern bytes allowance))
 
 unfoldable pub buffer_on_bytes : List ℕ → List ℕ → List ℕ → List ℕ → ℕ → List ℕ → List ℕ
 buffer_on_bytes table classes pattern bytes allowance before =

@@ -1,6 +1,5 @@
 -- What is demanded of the call: its answer `a` and the final buffer `after`, where the buffer held `before`.
-use Rattle.std.specs.Prelude.{ℕ, zero, ◌+◌, ◌*◌, ◌<◌, ◌≤◌, ◌≡◌, ◌⊎◌, ◌↔◌, List, [], ◌∷◌, map, true, false, length, get_or, take, drop}
-use Rattle.std.proofs.Math.Option.{none, some}
+use Rattle.std.specs.Prelude.{ℕ, zero, ◌+◌, ◌*◌, ◌<◌, ◌≤◌, ◌≡◌, ◌⊎◌, ◌↔◌, List, [], ◌∷◌, map, true, false, length, get_or, take, drop, Result, Some, None, Ok}
 use Rattle.answers.specs.Refusal.{number_of}
 use Rattle.answers.specs.Answers.{answer_number, answer_count}
 use Rattle.answers.specs.declared.Refusal.TheVariants.{Unknown}
@@ -23,8 +22,8 @@ use Rattle.call.specs.Demands.{Handled}
 use Rattle.matcher.specs.Call.{Input, AcceptedTrees, checked, check_of, answer_of, buffer_of}
 use Rattle.matcher.specs.Cost.{Bounded, NextBounded}
 use Rattle.matcher.specs.Next.{next_of, next_buffer_of}
-use Rattle.matcher.specs.declared.Check.TheVariants.{Passed}
 use Rattle.parts.specs.Shown.{numbers, entry_width, answer_width}
+use Rattle.answers.specs.declared.Refusal.{Refusal}
 
 -- the numbers that a buffer has for a variable
 abbrev pub offset_in : List ℕ → ℕ → ℕ
@@ -37,17 +36,17 @@ abbrev pub terms_in : List ℕ → ℕ → ℕ
 terms_in buffer v = get_or buffer (entry_width * v + 2) 0
 
 -- of input that passed every check, in whatever edition, with that class list or, if it is empty, with none: it is the match with every check
-pub record AsChecked (table classes pattern bytes before : List ℕ) (allowance : ℕ) (a : Answer) (after : List ℕ) : Type 0 where
-  pub as_called : (brought : Brought) → brought.table ≡ table → classes_of brought ≡ classes → check_of (checked brought pattern bytes (length before)) ≡ Passed
+pub record AsChecked (table classes pattern bytes before : List ℕ) (allowance : ℕ) (a : Result Answer Refusal) (after : List ℕ) : Type 0 where
+  pub as_called : (brought : Brought) → brought.table ≡ table → classes_of brought ≡ classes → check_of (checked brought pattern bytes (length before)) ≡ Ok tt
       → (a ≡ answer_of brought pattern bytes allowance (length before)) × (after ≡ buffer_of brought pattern bytes allowance before)
 
 -- a buffer shows an assignment: of each free variable the part of the record that is its value, at its first place outside complements
 pub record Shows (table bytes : List ℕ) (q : Pattern) (t : Term) (x : Assignment) (buffer : List ℕ) : Type 0 where
-  pub first_place : (v : ℕ) → among v (free q) ≡ true → place table q t zero x v none ≡ some (offset_in buffer v)
-  pub value_length : (v : ℕ) (w : Terms) → among v (free q) ≡ true → x v ≡ some w → length_in buffer v ≡ length (terms_bytes table w [])
-  pub value_bytes : (v : ℕ) (w : Terms) → among v (free q) ≡ true → x v ≡ some w
+  pub first_place : (v : ℕ) → among v (free q) ≡ true → place table q t zero x v None ≡ Some (offset_in buffer v)
+  pub value_length : (v : ℕ) (w : Terms) → among v (free q) ≡ true → x v ≡ Some w → length_in buffer v ≡ length (terms_bytes table w [])
+  pub value_bytes : (v : ℕ) (w : Terms) → among v (free q) ≡ true → x v ≡ Some w
       → take (length_in buffer v) (drop (offset_in buffer v) bytes) ≡ terms_bytes table w []
-  pub value_terms : (v : ℕ) (w : Terms) → among v (free q) ≡ true → x v ≡ some w → terms_in buffer v ≡ count w
+  pub value_terms : (v : ℕ) (w : Terms) → among v (free q) ≡ true → x v ≡ Some w → terms_in buffer v ≡ count w
   -- "A name has one term"
   pub name_term : (v : ℕ) → v < names → among v (free q) ≡ true → terms_in buffer v ≡ 1
   -- "an absent name or run name shows 65,535, 0, 0"
@@ -60,7 +59,7 @@ module _ (brought : Brought) where
   l = language_of brought
 
   -- Demand 3, for the trees of accepted input
-  pub record Answered (pattern bytes before : List ℕ) (allowance : ℕ) (q : Pattern) (t : Term) (a : Answer) (after : List ℕ) : Type 0 where
+  pub record Answered (pattern bytes before : List ℕ) (allowance : ℕ) (q : Pattern) (t : Term) (a : Result Answer Refusal) (after : List ℕ) : Type 0 where
     -- spent exactly when the count is over the allowance, which it then shows
     pub spent_exactly : (answer_number a ≡ 11) ↔ (allowance < count_of l q t)
     pub spent_shows : allowance < count_of l q t → answer_count a ≡ allowance
@@ -76,7 +75,7 @@ module _ (brought : Brought) where
         → (answer_of brought pattern bytes more (length before) ≡ a) × (buffer_of brought pattern bytes more before ≡ after)
 
   -- Demand 2, for a pattern without run names, by the published definition
-  pub record Published (bytes : List ℕ) (allowance : ℕ) (q : Pattern) (n : NoRuns q) (t : Term) (a : Answer) (after : List ℕ) : Type 0 where
+  pub record Published (bytes : List ℕ) (allowance : ℕ) (q : Pattern) (n : NoRuns q) (t : Term) (a : Result Answer Refusal) (after : List ℕ) : Type 0 where
     pub none_exactly : (answer_number a ≡ 10) ↔ ((count_of l q t ≤ allowance) × ((σ : Substitution) → Solution l (anti q n) t σ → ⊥))
     pub bound_exactly : (answer_number a ≡ 0) ↔ ((count_of l q t ≤ allowance) × ((σ : Substitution) × Solution l (anti q n) t σ))
     pub bound_shows : answer_number a ≡ 0 → (σ : Substitution) × Solution l (anti q n) t σ × Shows brought.table bytes q t (assignment σ) after
@@ -109,7 +108,7 @@ module _ (brought : Brought) where
     pub callable : AllCalls pattern bytes q (map (λ x. numbers (parts_at brought.table q t x)) (assignments l q t))
 
   -- The next answer (document 02, L3), for the trees of accepted input
-  pub record NextAnswered (pattern bytes given before : List ℕ) (allowance : ℕ) (q : Pattern) (t : Term) (a : Answer) (after : List ℕ) : Type 0 where
+  pub record NextAnswered (pattern bytes given before : List ℕ) (allowance : ℕ) (q : Pattern) (t : Term) (a : Result Answer Refusal) (after : List ℕ) : Type 0 where
     -- 15 exactly for unknown lengths
     pub unknown_exactly : (answer_number a ≡ number_of Unknown) ↔ UnknownLengths l q t given allowance
     -- spent exactly when the count is over the allowance, which it then shows
@@ -130,7 +129,7 @@ module _ (brought : Brought) where
     pub every : EveryCall pattern bytes q t
 
 -- All three, and what a rule can cost at most; accepted input is always answered
-pub record Demanded (brought : Brought) (pattern bytes before : List ℕ) (allowance : ℕ) (a : Answer) (after : List ℕ) : Type 0 where
+pub record Demanded (brought : Brought) (pattern bytes before : List ℕ) (allowance : ℕ) (a : Result Answer Refusal) (after : List ℕ) : Type 0 where
   pub handled : Handled brought (AcceptedTrees (language_of brought) pattern bytes) (λ x. ⊥) before (answer_number a) (answer_count a) after
   pub published : answer_width ≤ length before → brought_accepted brought ≡ true → (q : Pattern) (t : Term) → Input (language_of brought) pattern bytes q t → (n : NoRuns q)
       → Published brought bytes allowance q n t a after
@@ -140,7 +139,7 @@ pub record Demanded (brought : Brought) (pattern bytes before : List ℕ) (allow
       → Bounded allowance q a
 
 -- The next answer (document 02, L3): answer and final buffer after the answer with the given run lengths
-pub record NextDemanded (brought : Brought) (pattern bytes given before : List ℕ) (allowance : ℕ) (a : Answer) (after : List ℕ) : Type 0 where
+pub record NextDemanded (brought : Brought) (pattern bytes given before : List ℕ) (allowance : ℕ) (a : Result Answer Refusal) (after : List ℕ) : Type 0 where
   pub handled : Handled brought (AcceptedTrees (language_of brought) pattern bytes) (λ x. UnknownLengths (language_of brought) x.0 x.1 given allowance) before
       (answer_number a) (answer_count a) after
   pub answered : answer_width ≤ length before → brought_accepted brought ≡ true → (q : Pattern) (t : Term) → Input (language_of brought) pattern bytes q t
@@ -149,7 +148,13 @@ pub record NextDemanded (brought : Brought) (pattern bytes given before : List �
       → NextBounded allowance q a
 
 -- answer, final buffer and demands in one, which only a private function's contract cites
-abbrev pub NextCalled : Brought → List ℕ → List ℕ → List ℕ → List ℕ → ℕ → Answer → List ℕ → Type 0
+abbrev pub Called : Brought → List ℕ → List ℕ → List ℕ → ℕ → Result Answer Refusal → List ℕ → Type 0
+Called brought pattern bytes before allowance a after =
+    (a ≡ answer_of brought pattern bytes allowance (length before))
+    × ((after ≡ buffer_of brought pattern bytes allowance before) × Demanded brought pattern bytes before allowance a after)
+
+-- the same of the next answer
+abbrev pub NextCalled : Brought → List ℕ → List ℕ → List ℕ → List ℕ → ℕ → Result Answer Refusal → List ℕ → Type 0
 NextCalled brought pattern bytes given before allowance a after =
     (a ≡ next_of brought pattern bytes given allowance (length before))
     × ((after ≡ next_buffer_of brought pattern bytes given allowance before) × NextDemanded brought pattern bytes given before allowance a after)

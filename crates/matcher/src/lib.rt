@@ -2,84 +2,57 @@
 #![tactic(auto)]
 
 ghost use Rattle.std.specs.Prelude.{◌≡◌, [], ◌≤◌, length};
-ghost use Rattle.reader.specs.Brought.{simply, bringing, list_if, brought_by, or_empty};
+ghost use Rattle.reader.specs.Brought.{simply, bringing};
+ghost use Rattle.reader.specs.Lent.{brought_of};
 ghost use Rattle.link.specs.OnBytes.{replied_by, following_on_bytes};
 ghost use Rattle.matcher.specs.Call.{rule_checked, checked, check_of, answer_of, buffer_of, answer_on_bytes, buffer_on_bytes, told};
 ghost use Rattle.matcher.specs.Next.{told_next, next_of, next_buffer_of};
 ghost use Rattle.search.specs.Following.{next_pass, shown_pass};
-ghost use Rattle.matcher.specs.Demands.{Demanded, AsChecked, NextDemanded, NextCalled};
+ghost use Rattle.matcher.specs.Demands.{Demanded, Called, AsChecked, NextDemanded, NextCalled};
 
 use answers::{Answer, Refusal};
-use byte_answers::Read;
-use search::{Finding, Known};
+use reader::Brought;
+use search::Finding;
 use term::Edition;
 
 // How many numbers an answer has.
 pub const ANSWER_WIDTH: usize = parts::ANSWER_WIDTH;
 
-// Whether every check is passed, or why not.
-#[derive(Clone, Copy)]
-pub enum Check {
-    Passed,
-    Failed(Refusal),
-}
-
-// The checks up to the pattern's, in order, for a buffer of so many numbers; `classes` counts if the call brings a class list.
-pub fn check_rule(
-    edition: Edition,
-    table: &[u8],
-    brings: bool,
-    classes: &[u8],
-    pattern: &[u8],
-    width: usize,
-) -> Check
-    ensures { result ≡ check_of (rule_checked (brought_by edition table.now brings classes.now) pattern.now width) }
+// The checks up to the pattern's, in order, for a buffer of so many numbers.
+pub fn check_rule(brought: &Brought<'_>, pattern: &[u8], width: usize) -> Result<(), Refusal>
+    ensures { result ≡ check_of (rule_checked (brought_of brought.now) pattern.now width) }
 {
     if width < ANSWER_WIDTH {
-        return Check::Failed(Refusal::Narrow);
+        return Err(Refusal::Narrow);
     }
-    if !term::check_table(table) {
-        return Check::Failed(Refusal::Table);
+    if !term::check_table(brought.table) {
+        return Err(Refusal::Table);
     }
-    if !reader::accepts_list(table, brings, classes) {
-        return Check::Failed(Refusal::Class);
+    if !brought.accepts_list() {
+        return Err(Refusal::Class);
     }
-    let list = reader::brought_list(brings, classes);
-    let p = reader::read_pattern_in(edition, table, list, pattern);
-    if let Read::Refused(r) = p {
-        return Check::Failed(r);
-    }
-    Check::Passed
+    reader::read_pattern_in(&brought.language(), pattern)?;
+    Ok(())
 }
 
 // All checks in order.
 fn check_input(
-    edition: Edition,
-    table: &[u8],
-    brings: bool,
-    classes: &[u8],
+    brought: &Brought<'_>,
     pattern: &[u8],
     record: &[u8],
     width: usize,
-) -> Check
-    ensures { result ≡ check_of (checked (brought_by edition table.now brings classes.now) pattern.now «record».now width) }
+) -> Result<(), Refusal>
+    ensures { result ≡ check_of (checked (brought_of brought.now) pattern.now «record».now width) }
 {
-    let rule = check_rule(edition, table, brings, classes, pattern, width);
-    if let Check::Failed(r) = rule {
-        return Check::Failed(r);
-    }
-    let list = reader::brought_list(brings, classes);
-    let s = reader::read_record_in(edition, table, list, record);
-    if let Read::Refused(r) = s {
-        return Check::Failed(r);
-    }
-    Check::Passed
+    check_rule(brought, pattern, width)?;
+    reader::read_record_in(&brought.language(), record)?;
+    Ok(())
 }
 
 // A search that ends with so much of the allowance left.
 fn ended(outcome: Finding, allowance: u32, left: u32) -> Answer
     requires { left ≤ allowance }
-    ensures { result ≡ told (replied_by outcome allowance left []) }
+    ensures { Ok result ≡ told (replied_by outcome allowance left []) }
 {
     match outcome {
         Finding::Found => Answer::Bound(allowance - left),
@@ -97,18 +70,38 @@ pub fn match_checked(
     record: &[u8],
     allowance: u32,
     answer: &mut [u16],
-) -> Answer
+) -> Result<Answer, Refusal>
     ensures is { result ≡ answer_on_bytes table.now classes.now pattern.now «record».now allowance (length answer.old) }
     ensures buffer { answer.new ≡ buffer_on_bytes table.now classes.now pattern.now «record».now allowance answer.old }
     ensures demand { AsChecked table.now classes.now pattern.now «record».now answer.old allowance result answer.new }
 {
     if answer.len() < ANSWER_WIDTH {
-        return Answer::Refused(Refusal::Narrow);
+        return Err(Refusal::Narrow);
     }
     let end = search::search(table, classes, pattern, record, allowance, answer);
-    let outcome = end.outcome;
-    let left = end.left;
-    ended(outcome, allowance, left)
+    Ok(ended(end.outcome, allowance, end.left))
+}
+
+// The match with every check, in the language that the call brings.
+fn match_brought(
+    brought: &Brought<'_>,
+    pattern: &[u8],
+    record: &[u8],
+    allowance: u32,
+    answer: &mut [u16],
+) -> Result<Answer, Refusal>
+    ensures { Called (brought_of brought.now) pattern.now «record».now answer.old allowance result answer.new }
+{
+    check_input(brought, pattern, record, answer.len())?;
+    let language = brought.language();
+    match_checked(
+        language.table,
+        language.classes,
+        pattern,
+        record,
+        allowance,
+        answer,
+    )
 }
 
 // The match of a pattern against a record, with every check.
@@ -118,25 +111,12 @@ pub fn match_one(
     record: &[u8],
     allowance: u32,
     answer: &mut [u16],
-) -> Answer
+) -> Result<Answer, Refusal>
     ensures is { result ≡ answer_of (simply table.now) pattern.now «record».now allowance (length answer.old) }
     ensures buffer { answer.new ≡ buffer_of (simply table.now) pattern.now «record».now allowance answer.old }
     ensures demand { Demanded (simply table.now) pattern.now «record».now answer.old allowance result answer.new }
 {
-    let classes = &table[..0];
-    let checks = check_input(
-        Edition::One,
-        table,
-        false,
-        classes,
-        pattern,
-        record,
-        answer.len(),
-    );
-    match checks {
-        Check::Failed(r) => Answer::Refused(r),
-        Check::Passed => match_checked(table, classes, pattern, record, allowance, answer),
-    }
+    match_brought(&Brought::simply(table), pattern, record, allowance, answer)
 }
 
 // The same in an edition, up to class by a class list.
@@ -148,16 +128,13 @@ pub fn match_in(
     record: &[u8],
     allowance: u32,
     answer: &mut [u16],
-) -> Answer
+) -> Result<Answer, Refusal>
     ensures is { result ≡ answer_of (bringing edition table.now classes.now) pattern.now «record».now allowance (length answer.old) }
     ensures buffer { answer.new ≡ buffer_of (bringing edition table.now classes.now) pattern.now «record».now allowance answer.old }
     ensures demand { Demanded (bringing edition table.now classes.now) pattern.now «record».now answer.old allowance result answer.new }
 {
-    let checks = check_input(edition, table, true, classes, pattern, record, answer.len());
-    match checks {
-        Check::Failed(r) => Answer::Refused(r),
-        Check::Passed => match_checked(table, classes, pattern, record, allowance, answer),
-    }
+    let brought = Brought::bringing(edition, table, classes);
+    match_brought(&brought, pattern, record, allowance, answer)
 }
 
 // The answer after the one with the given run lengths, of bytes as they are.
@@ -169,47 +146,39 @@ fn next_checked(
     given: &[u16],
     allowance: u32,
     answer: &mut [u16],
-) -> Answer
+) -> Result<Answer, Refusal>
     ensures is { result ≡ told_next (following_on_bytes table.now classes.now pattern.now «record».now given.now allowance) }
     ensures buffer { answer.new ≡ shown_pass (next_pass table.now classes.now pattern.now «record».now given.now allowance) answer.old }
 {
     let end = search::search_next(table, classes, pattern, record, given, allowance, answer);
-    let known = end.known;
-    let left = end.left;
-    match known {
-        Known::Ended(outcome) => ended(outcome, allowance, left),
-        Known::Unknown => Answer::Refused(Refusal::Unknown),
+    match end.known {
+        Some(outcome) => Ok(ended(outcome, allowance, end.left)),
+        None => Err(Refusal::Unknown),
     }
 }
 
-// The same with every check, by a class list if the call brings one; else `classes` is empty.
+// The same with every check, in the language that the call brings.
 fn next_brought(
-    edition: Edition,
-    table: &[u8],
-    brings: bool,
-    classes: &[u8],
+    brought: &Brought<'_>,
     pattern: &[u8],
     record: &[u8],
     given: &[u16],
     allowance: u32,
     answer: &mut [u16],
-) -> Answer
-    requires { classes.now ≡ or_empty (list_if brings classes.now) }
-    ensures { NextCalled (brought_by edition table.now brings classes.now) pattern.now «record».now given.now answer.old allowance result answer.new }
+) -> Result<Answer, Refusal>
+    ensures { NextCalled (brought_of brought.now) pattern.now «record».now given.now answer.old allowance result answer.new }
 {
-    let checks = check_input(
-        edition,
-        table,
-        brings,
-        classes,
+    check_input(brought, pattern, record, answer.len())?;
+    let language = brought.language();
+    next_checked(
+        language.table,
+        language.classes,
         pattern,
         record,
-        answer.len(),
-    );
-    match checks {
-        Check::Failed(r) => Answer::Refused(r),
-        Check::Passed => next_checked(table, classes, pattern, record, given, allowance, answer),
-    }
+        given,
+        allowance,
+        answer,
+    )
 }
 
 // The answer after the one with the given run lengths: one for each free run name, in elements, in order of their first places outside
@@ -221,22 +190,13 @@ pub fn next(
     given: &[u16],
     allowance: u32,
     answer: &mut [u16],
-) -> Answer
+) -> Result<Answer, Refusal>
     ensures is { result ≡ next_of (simply table.now) pattern.now «record».now given.now allowance (length answer.old) }
     ensures buffer { answer.new ≡ next_buffer_of (simply table.now) pattern.now «record».now given.now allowance answer.old }
     ensures demand { NextDemanded (simply table.now) pattern.now «record».now given.now answer.old allowance result answer.new }
 {
-    next_brought(
-        Edition::One,
-        table,
-        false,
-        &table[..0],
-        pattern,
-        record,
-        given,
-        allowance,
-        answer,
-    )
+    let brought = Brought::simply(table);
+    next_brought(&brought, pattern, record, given, allowance, answer)
 }
 
 // The same in an edition, up to class by a class list.
@@ -249,12 +209,11 @@ pub fn next_in(
     given: &[u16],
     allowance: u32,
     answer: &mut [u16],
-) -> Answer
+) -> Result<Answer, Refusal>
     ensures is { result ≡ next_of (bringing edition table.now classes.now) pattern.now «record».now given.now allowance (length answer.old) }
     ensures buffer { answer.new ≡ next_buffer_of (bringing edition table.now classes.now) pattern.now «record».now given.now allowance answer.old }
     ensures demand { NextDemanded (bringing edition table.now classes.now) pattern.now «record».now given.now answer.old allowance result answer.new }
 {
-    next_brought(
-        edition, table, true, classes, pattern, record, given, allowance, answer,
-    )
+    let brought = Brought::bringing(edition, table, classes);
+    next_brought(&brought, pattern, record, given, allowance, answer)
 }

@@ -22,11 +22,7 @@ fn copy(out: &mut [u8], at: usize, bytes: &[u8])
     requires { at + length bytes.now ≤ length out.old }
     ensures { out.new ≡ sets out.old at bytes.now }
 {
-    let mut i: usize = 0;
-    while i < bytes.len() {
-        out[at + i] = bytes[i];
-        i = i + 1;
-    }
+    out[at..at + bytes.len()].copy_from_slice(bytes);
 }
 
 // Puts bytes, and answers where they end.

@@ -91,9 +91,6 @@ pub record Clearing (before b : List ℕ) (i : ℕ) : Type 0 where
   pub long : length b ≡ length before
   pub entries : b ≡ paste before 0 marks (entry_width * i)
 
-pub clear_first : (before : List ℕ) → Clearing before before 0
-clear_first before = record { few = omega arith; long = refl; entries = paste-zero before 0 marks }
-
 module _ (before : List ℕ) (wide : answer_width ≤ length before) where
   mark_written : (i k m : ℕ) → i < variables → k < entry_width → m ≡ get_or (entry absent) k 0
       → set (paste before 0 marks (entry_width * i + k)) (entry_width * i + k) m ≡ paste before 0 marks (entry_width * i + suc k)
@@ -121,9 +118,6 @@ module _ (before : List ℕ) (wide : answer_width ≤ length before) where
 
         last : entry_width * i + entry_width ≡ entry_width * (i + 1)
         last = omega arith
-
-    pub clear_end : variables ≤ i → b ≡ marks ++ drop answer_width before
-    clear_end h = let z : entry_width * i ≡ answer_width = omega (arith, t.few) in t.entries ∙ ap (paste before 0 marks) z
 
 -- what a mask shows
 
@@ -172,9 +166,6 @@ module _ (parts : List ℕ) (a : ℕ) (before : List ℕ) {b : List ℕ} {i : �
         (entry_set (parts_in (a % 2 ^ i) parts 0 variables) (drop answer_width before) i (part_in a parts i) (omega (arith, parts_length (a % 2 ^ i) parts 0 variables))
         ∙ ap (λ (l : List Part). numbers l ++ drop answer_width before) (next_part parts a i h));
   }
-
-  pub show_end : a / 2 ^ i ≡ 0 → b ≡ numbers (parts_in a parts 0 variables) ++ drop answer_width before
-  show_end e = t.entries ∙ ap (λ (m : ℕ). numbers (parts_in m parts 0 variables) ++ drop answer_width before) (whole a i e)
 
 -- a buffer that shows some parts shows the same parts, and the rest of it stays
 module _ (ps : List Part) (all : length ps ≡ variables) (before b : List ℕ) (e : b ≡ numbers ps ++ drop answer_width before) where

@@ -28,12 +28,6 @@ const NAMES_END: u64 = 1 << NAMES;
 // A mask of names and run names is below this.
 const VARIABLES_END: u64 = 1 << VARIABLES;
 
-fn wide(b: u8) -> usize
-    ensures { result ≡ b }
-{
-    b as usize
-}
-
 // Whether the variable v is assigned.
 pub fn is_assigned(assigned: u64, v: u8) -> bool
     ensures { result ≡ bit assigned v }
@@ -44,7 +38,7 @@ pub fn is_assigned(assigned: u64, v: u8) -> bool
     (assigned >> v) % 2 == 1
 }
 
-// A part as one number, and back.
+// A part as one number, and back. (No `From`: neither type is of this crate. A search lengthens a part by adding to its number.)
 pub fn packed(p: Part) -> u64
     ensures { result ≡ packed p }
 {
@@ -65,7 +59,7 @@ pub fn unpacked(x: u64) -> Part
 pub fn part_of(parts: &[u64; PARTS], assigned: u64, v: u8) -> Part
     ensures { result ≡ part_of assigned parts.now v }
 {
-    let i = wide(v);
+    let i = usize::from(v);
     if VARIABLES <= i {
         return Part::ABSENT;
     }
@@ -92,10 +86,8 @@ fn clear(answer: &mut [u16])
     requires { answer_width ≤ length answer.old }
     ensures { answer.new ≡ numbers (replicate variables absent) ++ drop answer_width answer.old }
 {
-    let mut v: usize = 0;
-    while v < VARIABLES {
+    for v in 0..VARIABLES {
         put_entry(Part::ABSENT, v, answer);
-        v = v + 1;
     }
 }
 
@@ -107,10 +99,11 @@ fn show_from(parts: &[u64; PARTS], assigned: u64, first: u8, answer: &mut [u16])
     requires answer_value { answer.old ≡ numbers (parts_in (assigned % 2 ^ first) parts.now 0 variables) ++ drop answer_width answer.old }
     ensures { answer.new ≡ numbers (parts_in assigned parts.now 0 variables) ++ drop answer_width answer.old }
 {
-    let mut i = first;
-    while 0 < assigned >> i {
-        put_entry(part_of(parts, assigned, i), wide(i), answer);
-        i = i + 1;
+    for v in first..BITS {
+        if assigned >> v == 0 {
+            break;
+        }
+        put_entry(part_of(parts, assigned, v), usize::from(v), answer);
     }
 }
 

@@ -3,7 +3,6 @@ use Prim.Native.Nat.{ℕ, zero, suc, ◌+◌, ◌<◌, ◌≤◌}
 use mathlib.Core.Path.{◌≡◌, refl, sym, subst}
 use mathlib.Core.List.{List, [], ◌∷◌}
 use mathlib.Core.Bool.{Bool, true, false, cond, ◌&&◌, false≢true}
-use mathlib.Core.Option.{Option, none, some}
 use native.Mathlib.Omega.{arith}
 use lib.Dec.{eqb, leb}
 use borrow.Author.Tests.{eqb-true, eqb-false, leb-true, leb-false}
@@ -17,11 +16,12 @@ use Rattle.anti_pattern.specs.Variables.{vars, vars_all, free, among}
 use Rattle.plain.specs.Plain.{NoComplement, NoComplements, Once, run_names, plain_children, OneRun, OneRuns, Plain}
 use Rattle.plain.specs.Tier.{Tiered, if_true as tier_true, comes_out, taken, left, run_length, and_then, tier, tiers, whole_tier}
 use Rattle.plain.proofs.Failing.{right_length, unequal_fails, fewer_fails}
+use Rattle.std.specs.Prelude.{Option, Some, None}
 
 -- none of the variables is assigned
 abbrev Unassigned : Env → List ℕ → Type 0
 Unassigned e [] = Unit {0}
-Unassigned e (v ∷ vs) = (e.value v ≡ none) × Unassigned e vs
+Unassigned e (v ∷ vs) = (e.value v ≡ None) × Unassigned e vs
 
 -- the variables still to come: each comes once, and is not assigned
 pub record Fresh (e : Env) (vs : List ℕ) : Type 0 where
@@ -33,7 +33,7 @@ unassigned_bind e v at w [] m h = tt
 unassigned_bind e v at w (u ∷ vs) m h = go (eqb u v) (eqb v u) refl refl m (λ n. unassigned_bind e v at w vs n h.1)
   where
     go : (b c : Bool) → eqb u v ≡ b → eqb v u ≡ c → cond b true (among v vs) ≡ false
-        → (among v vs ≡ false → Unassigned (bind e v at w) vs) → (cond c (some w) (e.value u) ≡ none) × Unassigned (bind e v at w) vs
+        → (among v vs ≡ false → Unassigned (bind e v at w) vs) → (cond c (Some w) (e.value u) ≡ None) × Unassigned (bind e v at w) vs
     go true c i j m r = absurd (false≢true (sym m))
     go false true i j m r = absurd (eqb-false u v i (sym (eqb-true v u j)))
     go false false i j m r = (h.0, r m)
@@ -47,8 +47,8 @@ unassigned_start (v ∷ vs) = (refl, unassigned_start vs)
 
 -- the full search comes to what the rest of it does with what the tier finds, or both fail
 data Agree (k : Continuation) (put : List Deferred) (vs : List ℕ) : Option Env → Option Env → Type 0 where
-  goes_on : {f : Env} → Fresh f vs → Agree k put vs (first_answer (k f put).out) (some f)
-  fails : Agree k put vs none none
+  goes_on : {f : Env} → Fresh f vs → Agree k put vs (first_answer (k f put).out) (Some f)
+  fails : Agree k put vs None None
 
 agree_then : {k l : Continuation} {put : List Deferred} {us vs : List ℕ} {o p : Option Env} (n : ℕ) (g : Env → Tiered) → Agree l put us o p
     → ((f : Env) → Fresh f us → Agree k put vs (first_answer (l f put).out) (g f).out) → Agree k put vs o (and_then p n g).out
@@ -86,7 +86,7 @@ module _ (table classes : List ℕ) where
     tier_agrees : (q : Pattern) (t : Term) (at : ℕ) (e : Env) (put : List Deferred) (k : Continuation) (vs : List ℕ) → NoComplement q → OneRun q
         → Fresh e (vars q vs) → Agree k put vs (first_answer (search table classes freely q t at e put k).out) (tier table classes q t at e).out
     tier_agrees (name v) t at e put k vs c o h =
-        subst (λ (x : Option Terms). Agree k put vs (first_answer (if_some (same_or classes x (single t) e (bind e v at (single t))) (λ f. k f put)).out) (some (bind e v at (single t))))
+        subst (λ (x : Option Terms). Agree k put vs (first_answer (if_some (same_or classes x (single t) e (bind e v at (single t))) (λ f. k f put)).out) (Some (bind e v at (single t))))
         (sym h.unassigned.0) (goes_on (fresh_bind e v at (single t) vs h))
     tier_agrees (symbol s qs) (node r ts) at e put k vs c o h = go (eqb (class_of classes s) (class_of classes r)) (comes_out qs ts) (number_comes qs ts)
         (λ n. tiers_agree qs ts (at + width table r) e put k vs c o.1 o.0 n h)
@@ -96,8 +96,8 @@ module _ (table classes : List ℕ) where
             → Agree k put vs (first_answer (if_true m (λ u. searches table classes freely qs ts (at + width table r) e put k)).out) (tier_true (m && b) (λ u. tiers table classes qs ts (at + width table r) e)).out
         go true true (comes n) next = next n
         go true false (unequal i n) next =
-            subst (λ (x : Answers). Agree k put vs (first_answer x) none) (sym (unequal_fails table classes qs ts (at + width table r) e put k i n)) fails
-        go true false (fewer n) next = subst (λ (x : Answers). Agree k put vs (first_answer x) none) (sym (fewer_fails table classes qs ts (at + width table r) e put k n)) fails
+            subst (λ (x : Answers). Agree k put vs (first_answer x) None) (sym (unequal_fails table classes qs ts (at + width table r) e put k i n)) fails
+        go true false (fewer n) next = subst (λ (x : Answers). Agree k put vs (first_answer x) None) (sym (fewer_fails table classes qs ts (at + width table r) e put k n)) fails
         go false b n next = fails
     tier_agrees (complement q) t at e put k vs c o h = absurd c
 

@@ -16,13 +16,10 @@ use Rattle.term.specs.declared.Code.{Code}
 use Rattle.term.specs.declared.Code.TheVariants.{Symbol, Name, Run, Complement}
 use Rattle.term.proofs.Codes.{decode_below}
 use Rattle.term.proofs.Spans.{span_none, span_fixed}
-use Rattle.plain.specs.Bytes.{sum_of, runs, also_run, runs_among, no_runs, run_code}
+use Rattle.plain.specs.Bytes.{sum_of, also_run, runs_among, no_runs, run_code}
 use Rattle.plain.specs.declared.runs.Runs.{Runs}
 
 -- one code more
-
-pub also_is : (c : Code) (v : ℕ) (found : Runs) → c ≡ Run v → runs (found.number + 1) v ≡ also_run c found
-also_is c v found e = rw e
 
 also_few : (c : Code) (found : Runs) → (also_run c found).number ≤ found.number + 1
 also_few (Symbol b) found = omega arith
@@ -40,15 +37,22 @@ also_below Complement found w h = h
 also_below Code.Refused found w h = h
 
 module _ (table s : List ℕ) (n : ℕ) where
-  -- so many of the n children are left from a place on
-  pub record Among (found : Runs) (at left : ℕ) : Type 0 where
-    pub few : found.number + left ≤ n
+  -- after i of the n children, at a place
+  pub record Among (found : Runs) (at i : ℕ) : Type 0 where
+    pub few : found.number ≤ i
+    pub upto : i ≤ n
     pub below : found.variable < variables
     pub within : at ≤ length s
-    pub same : runs_among table s n no_runs ≡ runs_among table (drop at s) left found
+    pub same : runs_among table s n no_runs ≡ runs_among table (drop at s) (n - i) found
 
-  pub among_first : Among no_runs 0 n
-  among_first = record { few = omega arith; below = omega arith; within = omega arith; same = refl }
+  pub among_first : Among no_runs 0 0
+  among_first = record {
+    few = omega arith;
+    upto = omega arith;
+    below = omega arith;
+    within = omega arith;
+    same = ap (λ (k : ℕ). runs_among table s k no_runs) (omega arith);
+  }
 
   none_left : (left : ℕ) (found : Runs) → runs_among table [] left found ≡ found
   unfolding runs_among
@@ -58,33 +62,34 @@ module _ (table s : List ℕ) (n : ℕ) where
   abbrev Told : Runs → Type 0
   Told r = (r ≡ runs_among table s n no_runs) × ((r.number ≤ n) × (r.variable < variables))
 
-  module _ (found : Runs) (at left : ℕ) (a : Among found at left) where
+  module _ {found : Runs} {at i : ℕ} (a : Among found at i) where
     pub among_short : length s ≤ at → Told found
     among_short h =
-        (sym (a.same ∙ ap (λ (l : List ℕ). runs_among table l left found) (drop_of_length-le s h) ∙ none_left left found), (omega (arith, a.few), a.below))
+        (sym (a.same ∙ ap (λ (l : List ℕ). runs_among table l (n - i) found) (drop_of_length-le s h) ∙ none_left (n - i) found), (omega (arith, a.few, a.upto), a.below))
 
-    pub among_end : left ≤ 0 → Told found
+    pub among_end : n ≤ i → Told found
     unfolding runs_among
     among_end h =
-        let z : left ≡ 0 = omega arith in
-        (sym (a.same ∙ ap (λ (k : ℕ). runs_among table (drop at s) k found) z), (omega (arith, a.few), a.below))
+        let z : n - i ≡ 0 = omega arith in
+        (sym (a.same ∙ ap (λ (k : ℕ). runs_among table (drop at s) k found) z), (omega (arith, a.few, a.upto), a.below))
 
-    pub among_next : 0 < left → at < length s → (k : ℕ) → k ≡ extent_of table (take (length s - at) (drop at s)) → at + k ≤ length s
-        → (x : Runs) → x ≡ also_run (decode_of (get_or s at 0)) found → Among x (at + k) (left - 1)
+    pub among_next : i < n → at < length s → (k : ℕ) → k ≡ extent_of table (take (length s - at) (drop at s)) → at + k ≤ length s
+        → (x : Runs) → x ≡ also_run (decode_of (get_or s at 0)) found → Among x (at + k) (i + 1)
     unfolding runs_among
-    among_next h i k e w x f =
+    among_next h l k e w x f =
         let b = get_or s at 0 in
-        let z : left ≡ suc (left - 1) = omega arith in
-        let d = drop-cons s at 0 i in
+        let z : n - i ≡ suc (n - (i + 1)) = omega arith in
+        let d = drop-cons s at 0 l in
         let j : k ≡ extent_of table (b ∷ drop (suc at) s) = e ∙ ap (extent_of table) (rest_part at s ∙ d) in record {
           few = rw f (omega (arith, also_few (decode_of b) found, a.few));
+          upto = omega arith;
           below = rw f (also_below (decode_of b) found (decode_below b) a.below);
           within = w;
-          same = a.same ∙ ap (λ (m : ℕ). runs_among table (drop at s) m found) z ∙ ap (λ (l : List ℕ). runs_among table l (suc (left - 1)) found) d
-              ∙ ap (λ (m : ℕ). runs_among table (drop m (b ∷ drop (suc at) s)) (left - 1) (also_run (decode_of b) found)) (sym j)
-              ∙ ap (λ (l : List ℕ). runs_among table (drop k l) (left - 1) (also_run (decode_of b) found)) (sym d)
-              ∙ ap (λ (l : List ℕ). runs_among table l (left - 1) (also_run (decode_of b) found)) (drop-drop k at s)
-              ∙ ap (λ (y : Runs). runs_among table (drop (at + k) s) (left - 1) y) (sym f);
+          same = a.same ∙ ap (λ (m : ℕ). runs_among table (drop at s) m found) z ∙ ap (λ (l : List ℕ). runs_among table l (suc (n - (i + 1))) found) d
+              ∙ ap (λ (m : ℕ). runs_among table (drop m (b ∷ drop (suc at) s)) (n - (i + 1)) (also_run (decode_of b) found)) (sym j)
+              ∙ ap (λ (l : List ℕ). runs_among table (drop k l) (n - (i + 1)) (also_run (decode_of b) found)) (sym d)
+              ∙ ap (λ (l : List ℕ). runs_among table l (n - (i + 1)) (also_run (decode_of b) found)) (drop-drop k at s)
+              ∙ ap (λ (y : Runs). runs_among table (drop (at + k) s) (n - (i + 1)) y) (sym f);
         }
 
 -- no list has more run names than there are codes of run names

@@ -8,8 +8,6 @@ use mathlib.Core.Bool.{Bool, true, false, true≢false}
 use lib.ListN.{length}
 use Rattle.answers.specs.declared.Refusal.{Refusal}
 use Rattle.answers.specs.declared.Refusal.TheVariants.{NotPlain}
-use Rattle.byte_answers.specs.declared.Read.{Read}
-use Rattle.byte_answers.specs.declared.Read.TheVariants.{Ends}
 use Rattle.term.specs.Limits.{Octets, PatternAccepted, longest_pattern}
 use Rattle.term.specs.Pattern.{Pattern, pattern_bytes}
 use Rattle.term.specs.Table.{table_accepted}
@@ -24,7 +22,6 @@ use Rattle.reader.specs.Brought.{Brought, language_of, brought_accepted}
 use Rattle.call.specs.Verdict.{Verdict, passed, fault, check, reading, both}
 use Rattle.call.proofs.Checks as every
 use Rattle.matcher.specs.Call.{rule_checked, check_of}
-use Rattle.matcher.specs.declared.Check.TheVariants.{Passed, Failed}
 use Rattle.matcher.proofs.Checks as matched
 use Rattle.plain.specs.Bytes.{plain_from}
 use Rattle.plain.specs.Call.{AcceptedPlain, plainly, plain_trees, plain_checked}
@@ -32,6 +29,7 @@ use Rattle.plain.specs.Check.{is_plain}
 use Rattle.plain.specs.Plain.{Plain}
 use Rattle.plain.proofs.Checking.{check_exact}
 use Rattle.plain.proofs.Looked.{looked}
+use Rattle.std.specs.Prelude.{Ok, Err}
 
 -- a verdict that passes has the pattern that was read
 first_passed : (p : Pattern) (w : Verdict Term) (q : Pattern) (t : Term) → both (passed p) w ≡ passed (q, t) → p ≡ q
@@ -78,11 +76,11 @@ module _ (brought : Brought) (pattern bytes : List ℕ) (width : ℕ) where
       → plain_checked brought pattern bytes width ≡ plain_trees (language_of brought) pattern bytes
   own_checked = every.then_own brought width (plain_trees (language_of brought) pattern bytes)
 
-  pub first_fails : (r : Refusal) → Failed r ≡ check_of (rule_checked brought pattern width) → Failed r ≡ check_of (plain_checked brought pattern bytes width)
+  pub first_fails : (r : Refusal) → Err r ≡ check_of (rule_checked brought pattern width) → Err r ≡ check_of (plain_checked brought pattern bytes width)
   first_fails = matched.rule_fails brought pattern width (λ v. both (plainly v) (reading (read_record (language_of brought) bytes))) (λ r i. refl)
 
   -- each by what is told of the ones before it
-  module _ (octets : Octets pattern) (rule : Passed ≡ check_of (rule_checked brought pattern width)) where
+  module _ (octets : Octets pattern) (rule : Ok tt ≡ check_of (rule_checked brought pattern width)) where
     abbrev tree : Pattern
     tree = (matched.rule_passed brought pattern width rule).3.0
 
@@ -104,12 +102,12 @@ module _ (brought : Brought) (pattern bytes : List ℕ) (width : ℕ) where
         rw (own_checked p.0 p.2 p.1, p.3.2)
         (ap (λ (b : Bool). both (check b NotPlain (passed tree)) (reading (read_record (language_of brought) bytes))) (sym plain_is))
 
-    pub plain_fails : plain_from brought.table pattern false 0 ≡ false → Failed NotPlain ≡ check_of (plain_checked brought pattern bytes width)
+    pub plain_fails : plain_from brought.table pattern false 0 ≡ false → Err NotPlain ≡ check_of (plain_checked brought pattern bytes width)
     plain_fails h = rw (by_plain, h)
 
     module _ (plain_is : plain_from brought.table pattern false 0 ≡ true) where
-      pub record_fails : (r : Refusal) → shown (read_record (language_of brought) bytes) ≡ Read.Refused r → Failed r ≡ check_of (plain_checked brought pattern bytes width)
+      pub record_fails : (r : Refusal) → shown (read_record (language_of brought) bytes) ≡ Err r → Err r ≡ check_of (plain_checked brought pattern bytes width)
       record_fails r e = rw (by_plain, plain_is, refused_shown (read_record (language_of brought) bytes) r e)
 
-      pub all_pass : (m : ℕ) → shown (read_record (language_of brought) bytes) ≡ Ends m → Passed ≡ check_of (plain_checked brought pattern bytes width)
+      pub all_pass : (m : ℕ) → shown (read_record (language_of brought) bytes) ≡ Ok m → Ok tt ≡ check_of (plain_checked brought pattern bytes width)
       all_pass m e = rw (by_plain, plain_is, (ends_shown (read_record (language_of brought) bytes) m e).1)

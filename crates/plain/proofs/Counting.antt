@@ -11,10 +11,10 @@ use Rattle.term.specs.Term.{Term, node, Terms, nil, ◌::◌, size, sizes}
 use Rattle.term.specs.Tree.{branch, more, empty, list_code}
 use Rattle.term.specs.declared.Code.TheVariants.{Symbol, Name, Run, Complement}
 use Rattle.term.proofs.Sizes.{children_bytes, branch_length, more_length}
-use mathlib.Core.Option.{Option, none, some}
 use Rattle.term.specs.Class.{class_of}
 use Rattle.anti_pattern.specs.Search.{Env, bind}
 use Rattle.plain.specs.Tier.{Tiered, if_true, comes_out, taken, left, run_length, and_then, tier, tiers}
+use Rattle.std.specs.Prelude.{Option, Some, None}
 
 one_byte : (l : Bool) → 1 ≤ cond l 2 1
 one_byte true = omega arith
@@ -25,8 +25,8 @@ true_count true f n h = h
 true_count false f n h = omega arith
 
 then_count : (o : Option Env) (n : ℕ) (f : Env → Tiered) (a b : ℕ) → n ≤ a → ((e : Env) → (f e).cost ≤ b) → (and_then o n f).cost ≤ a + b
-then_count (some e) n f a b h k = omega (arith, k e)
-then_count none n f a b h k = omega arith
+then_count (Some e) n f a b h k = omega (arith, k e)
+then_count None n f a b h k = omega arith
 
 module _ (table classes : List ℕ) where
   mutual

@@ -1,10 +1,9 @@
 -- The call's answer and final buffer meet every demand.
 use Prim.Native.Nat.{ℕ, ◌≤◌}
 use native.Mathlib.Omega.{arith}
-use mathlib.Core.Path.{◌≡◌, refl, sym, ◌∙◌, ap, subst}
+use mathlib.Core.Path.{◌≡◌, refl, sym, ◌∙◌, ap, ap₂, subst}
 use mathlib.Core.List.{List}
-use mathlib.Core.Bool.{Bool, true, false}
-use mathlib.Core.Option.{Option, none, some}
+use mathlib.Core.Bool.{Bool, true, false, cond}
 use lib.ListN.{length}
 use lib.Dec.{leb}
 use borrow.Author.Tests.{leb-true, leb-false}
@@ -13,9 +12,7 @@ use Rattle.answers.specs.declared.Part.{Part}
 use Rattle.answers.specs.declared.Refusal.{Refusal}
 use Rattle.answers.specs.declared.Refusal.TheVariants.{NotPlain}
 use Rattle.answers.specs.declared.Answer.{Answer}
-use Rattle.answers.specs.declared.Answer.TheVariants.{Bound, None, Refused}
-use Rattle.byte_answers.specs.declared.Read.{Read}
-use Rattle.byte_answers.specs.declared.Read.TheVariants.{Ends}
+use Rattle.answers.specs.declared.Answer.TheVariants.{Bound}
 use Rattle.term.specs.Code.{variables}
 use Rattle.term.specs.Limits.{Octets}
 use Rattle.term.specs.Pattern.{Pattern}
@@ -23,7 +20,7 @@ use Rattle.term.specs.Term.{Term}
 use Rattle.reader.specs.Reading.{read_record, shown as shown_read}
 use Rattle.reader.proofs.Typed.{pattern_iff}
 use Rattle.anti_pattern.specs.Answer.{answer, count_of, matching_of}
-use Rattle.anti_pattern.specs.Language.{Language, language}
+use Rattle.anti_pattern.specs.Language.{Language}
 use Rattle.anti_pattern.specs.Search.{Env, Answers, found, failed, first_answer, whole, start}
 use Rattle.anti_pattern.proofs.Allowance.{answer_within}
 use Rattle.parts.specs.Packed.{parts_in}
@@ -39,8 +36,6 @@ use Rattle.matcher.specs.Demands.{Answered, Shows}
 use Rattle.matcher.proofs.Answered.{same_call, answered}
 use Rattle.matcher.proofs.Checks.{check_failed, check_passed}
 use Rattle.matcher.proofs.Demanded.{told_refused, told_unbound}
-use Rattle.matcher.specs.declared.Check.{Check}
-use Rattle.matcher.specs.declared.Check.TheVariants.{Passed, Failed}
 use Rattle.plain.specs.Bytes.{plain_from, Ending, tiering_of, tier_on, root_may_hold, no_parts, told_ending, shown_ending}
 use Rattle.plain.specs.Call.{AcceptedPlain, plain_trees, plain_checked, plain_of, plain_buffer_of}
 use Rattle.plain.specs.Check.{is_plain}
@@ -54,6 +49,7 @@ use Rattle.plain.proofs.Checks.{reads, checked_exactly, own_checked, first_fails
 use Rattle.plain.proofs.Counting.{tier_count}
 use Rattle.plain.proofs.Linked.{linked}
 use Rattle.plain.proofs.Turns.{root_fails}
+use Rattle.std.specs.Prelude.{Result, Ok, Err, Option, Some, None}
 
 -- On trees
 
@@ -70,8 +66,8 @@ same_written table (found e k o) n m before = refl
 same_written table failed n m before = refl
 
 own_count : (table : List ℕ) (o : Option Env) (n : ℕ) → answer_count (told (shown_tier table o n)) ≡ n
-own_count table (some e) n = refl
-own_count table none n = refl
+own_count table (Some e) n = refl
+own_count table None n = refl
 
 -- The call
 
@@ -133,7 +129,7 @@ module _ (brought : Brought) (pattern bytes before : List ℕ) (pattern_octets :
     }
 
   -- the work on trees
-  abbrev tells : Pattern × Term → Answer
+  abbrev tells : Pattern × Term → Result Answer Refusal
   tells x = told (plain_answer lang x.0 x.1)
 
   abbrev binds : Pattern × Term → Option (List Part)
@@ -168,35 +164,35 @@ module _ (brought : Brought) (pattern bytes before : List ℕ) (pattern_octets :
     answered = λ wide classed q t i p. rw (accepted_passes wide classed q t i p) (plain_answered wide classed q t i p);
   }
 
-  abbrev Called : Answer → List ℕ → Type 0
+  abbrev Called : Result Answer Refusal → List ℕ → Type 0
   Called = PlainCalled brought pattern bytes before
 
   -- where a check fails
-  fails_called : (r : Refusal) → Failed r ≡ check_of (plain_checked brought pattern bytes (length before)) → Called (Refused r) before
+  fails_called : (r : Refusal) → Err r ≡ check_of (plain_checked brought pattern bytes (length before)) → Called (Err r) before
   unfolding plain_of plain_buffer_of
   fails_called r e =
       let c = check_failed (plain_checked brought pattern bytes (length before)) r e in
       fails refusal tells binds before (plain_checked brought pattern bytes (length before)) (PlainDemanded brought pattern bytes before) demanded_of r c.0 c.1
 
   -- the pattern's own
-  pub first_called : {k : Check} {r : Refusal} → k ≡ check_of (rule_checked brought pattern (length before)) → k ≡ Failed r
-      → Called (Refused r) before
+  pub first_called : {k : (Result (Unit {0}) Refusal)} {r : Refusal} → k ≡ check_of (rule_checked brought pattern (length before)) → k ≡ Err r
+      → Called (Err r) before
   first_called {k} {r} e f = fails_called r (first_fails brought pattern bytes (length before) r (sym f ∙ e))
 
-  module _ (rule : Passed ≡ check_of (rule_checked brought pattern (length before))) where
-    pub plain_called : plain_from brought.table pattern false 0 ≡ false → Called (Refused NotPlain) before
+  module _ (rule : Ok tt ≡ check_of (rule_checked brought pattern (length before))) where
+    pub plain_called : plain_from brought.table pattern false 0 ≡ false → Called (Err NotPlain) before
     plain_called h = fails_called NotPlain (plain_fails brought pattern bytes (length before) pattern_octets rule h)
 
     module _ (plain_is : plain_from brought.table pattern false 0 ≡ true) where
-      pub record_called : (r : Refusal) → shown_read (read_record (language_of brought) bytes) ≡ Read.Refused r → Called (Refused r) before
+      pub record_called : (r : Refusal) → shown_read (read_record (language_of brought) bytes) ≡ Err r → Called (Err r) before
       record_called r h = fails_called r (record_fails brought pattern bytes (length before) pattern_octets rule plain_is r h)
 
-      -- the tier takes the class list that is brought, or an empty one
-      pub passes_called : (m : ℕ) → shown_read (read_record (language_of brought) bytes) ≡ Ends m → (classes : List ℕ) → classes ≡ classes_of brought → (a : Answer) (after : List ℕ)
-          → (a ≡ told_ending (tier_on brought.table classes pattern bytes no_parts)) × (after ≡ shown_ending (tier_on brought.table classes pattern bytes no_parts) before)
+      -- the tier is in the language of the call
+      pub passes_called : (m : ℕ) → shown_read (read_record (language_of brought) bytes) ≡ Ok m → (l : Language) → l ≡ language_of brought → (a : Result Answer Refusal) (after : List ℕ)
+          → (a ≡ told_ending (tier_on l.table l.classes pattern bytes no_parts)) × (after ≡ shown_ending (tier_on l.table l.classes pattern bytes no_parts) before)
           → length after ≡ length before → Called a after
       unfolding plain_of plain_buffer_of
-      passes_called m ends classes same a after h =
+      passes_called m ends l same a after h =
           let e = all_pass brought pattern bytes (length before) pattern_octets rule plain_is m ends in
           let c = check_passed (plain_checked brought pattern bytes (length before)) e in
           let i = (checked_exactly brought pattern bytes pattern_octets record_octets (length before) c.0.0 c.0.1).0 c.1 in
@@ -205,30 +201,35 @@ module _ (brought : Brought) (pattern bytes before : List ℕ) (pattern_octets :
           passes refusal tells binds before (plain_checked brought pattern bytes (length before)) (PlainDemanded brought pattern bytes before) demanded_of
           c.0 c.1 a after (n.0 ∙ z.0) (n.1 ∙ z.1)
 
--- What is read with the class list that is brought, or an empty one
-pub read_with : (brought : Brought) (bytes classes : List ℕ) → classes ≡ classes_of brought → {a b : Read}
-    → a ≡ shown_read (read_record (language brought.edition brought.table classes) bytes) → a ≡ b → shown_read (read_record (language_of brought) bytes) ≡ b
-read_with brought bytes classes same e f = ap (λ cs. shown_read (read_record (language brought.edition brought.table cs) bytes)) (sym same) ∙ sym e ∙ f
-
 -- The match of bytes as they are
 
 module _ (x : Ending) (e : Tiering) (is : e ≡ tiering_of x) (before : List ℕ) where
-  fits_is : e.fits ≡ x.fits
-  fits_is = ap (λ (y : Tiering). y.fits) is
+  count_is : e.count ≡ x.count
+  count_is = ap (λ (y : Tiering). y.count) is
 
-  pub ended_fails : e.fits ≡ false → (None e.count ≡ told_ending x) × (before ≡ shown_ending x before)
-  ended_fails h = rw (sym fits_is ∙ h) (ap (λ (y : Tiering). None y.count) is, refl)
+  assigned_is : e.assigned ≡ cond x.fits (Some x.assigned) None
+  assigned_is = ap (λ (y : Tiering). y.assigned) is
 
-  pub ended_fits : e.fits ≡ true → (ps : List ℕ) → ps ≡ x.parts → (after : List ℕ) → after ≡ shown_parts (parts_in e.assigned ps 0 variables) before
-      → (Bound e.count ≡ told_ending x) × (after ≡ shown_ending x before)
-  ended_fits h ps k after f =
-      rw (sym fits_is ∙ h) (
-        ap (λ (y : Tiering). Bound y.count) is,
-        f ∙ ap (λ (y : Tiering). shown_parts (parts_in y.assigned ps 0 variables) before) is
-            ∙ ap (λ (y : List ℕ). shown_parts (parts_in x.assigned y 0 variables) before) k,
-      )
+  pub ended_fails : e.assigned ≡ None → (Ok (Answer.None e.count) ≡ told_ending x) × (before ≡ shown_ending x before)
+  ended_fails h = go x.fits (sym assigned_is ∙ h)
+    where
+      go : (b : Bool) → cond b (Some x.assigned) None ≡ None
+          → (◌≡◌ {A = Result Answer Refusal} (Ok (Answer.None e.count)) (cond b (Ok (Bound x.count)) (Ok (Answer.None x.count)))) × (before ≡ cond b (shown_parts (parts_in x.assigned x.parts 0 variables) before) before)
+      go true k = let z : ◌≡◌ {A = ℕ} 0 1 = cc in absurd (omega arith)
+      go false k = (ap (λ (n : ℕ). Ok (Answer.None n)) count_is, refl)
+
+  pub ended_fits : {m : ℕ} → e.assigned ≡ Some m → {ps : List ℕ} → ps ≡ x.parts → {after : List ℕ} → after ≡ shown_parts (parts_in m ps 0 variables) before
+      → (Ok (Bound e.count) ≡ told_ending x) × (after ≡ shown_ending x before)
+  ended_fits {m} h {ps} k {after} f = go x.fits (sym assigned_is ∙ h)
+    where
+      go : (b : Bool) → cond b (Some x.assigned) None ≡ Some m
+          → (◌≡◌ {A = Result Answer Refusal} (Ok (Bound e.count)) (cond b (Ok (Bound x.count)) (Ok (Answer.None x.count)))) × (after ≡ cond b (shown_parts (parts_in x.assigned x.parts 0 variables) before) before)
+      go true i =
+          let z : m ≡ x.assigned = cc in
+          (ap (λ (n : ℕ). Ok (Bound n)) count_is, f ∙ ap₂ (λ (n : ℕ) (y : List ℕ). shown_parts (parts_in n y 0 variables) before) z k)
+      go false i = let z : ◌≡◌ {A = ℕ} 0 1 = cc in absurd (omega arith)
 
 -- the first node decides
 pub ended_first : (table classes pattern bytes before : List ℕ) (x : Bool) → x ≡ root_may_hold classes pattern bytes → x ≡ false
-    → (None 1 ≡ told_ending (tier_on table classes pattern bytes no_parts)) × (before ≡ shown_ending (tier_on table classes pattern bytes no_parts) before)
+    → (Ok (Answer.None 1) ≡ told_ending (tier_on table classes pattern bytes no_parts)) × (before ≡ shown_ending (tier_on table classes pattern bytes no_parts) before)
 ended_first table classes pattern bytes before x e h = rw (root_fails table classes bytes pattern no_parts (sym e ∙ h)) (refl, refl)

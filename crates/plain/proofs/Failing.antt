@@ -3,7 +3,6 @@ use Prim.Native.Nat.{ℕ, zero, suc, ◌+◌, ◌<◌, ◌≤◌}
 use mathlib.Core.Path.{◌≡◌, refl, sym, ◌∙◌, ap}
 use mathlib.Core.List.{List, [], ◌∷◌, ◌++◌}
 use mathlib.Core.Bool.{Bool, true, false}
-use mathlib.Core.Option.{Option, none, some}
 use native.Mathlib.Omega.{arith}
 use lib.Dec.{eqb}
 use Rattle.term.specs.Pattern.{Pattern, name, symbol, complement, Children, end, plain, run}
@@ -14,14 +13,15 @@ use Rattle.anti_pattern.specs.Search.{Env, bind, Answers, found, failed, first_a
 use Rattle.anti_pattern.proofs.Facts.{behind_alike, count_join, join_nil, join_one}
 use Rattle.plain.specs.Plain.{run_names, plain_children}
 use Rattle.plain.specs.Tier.{taken, left}
+use Rattle.std.specs.Prelude.{Option, Some, None}
 
 pub true_fails : (m : Bool) (f : Unit {0} → Result) → (f tt).out ≡ failed → (if_true m f).out ≡ failed
 true_fails true f h = h
 true_fails false f h = refl
 
-some_fails : {A : Type 0} (o : Option A) (f : A → Result) → ((x : A) → o ≡ some x → (f x).out ≡ failed) → (if_some o f).out ≡ failed
-some_fails none f h = refl
-some_fails (some x) f h = h x refl
+some_fails : {A : Type 0} (o : Option A) (f : A → Result) → ((x : A) → o ≡ Some x → (f x).out ≡ failed) → (if_some o f).out ≡ failed
+some_fails None f h = refl
+some_fails (Some x) f h = h x refl
 
 -- after a failure the second decides; where the second fails, the first does
 after_failed : (o : Answers) (n : ℕ) (f : Unit {0} → Result) → o ≡ failed → (after o n f).out ≡ (f tt).out
@@ -60,8 +60,8 @@ right_length (suc n) w (t :: ts) f m c h =
 run_fails : (classes : List ℕ) (o : Option Terms) (ts : Terms) (f g : Terms → Terms → Result)
     → ((x us : Terms) → count us ≤ count ts → (f x us).out ≡ failed) → ((x us : Terms) → count us ≤ count ts → (g x us).out ≡ failed)
     → (try_run classes o every ts f g).out ≡ failed
-run_fails classes none ts f g h k = lengths_fail nil ts f h
-run_fails classes (some w) ts f g h k =
+run_fails classes None ts f g h k = lengths_fail nil ts f h
+run_fails classes (Some w) ts f g h k =
     some_fails (behind classes w ts) (g w)
     (λ us b. let a = behind_alike classes w ts us b in k w us (omega (arith, ap count a.1, count_join a.0 us)))
 

@@ -1,7 +1,7 @@
 -- Symbols without children: their bytes, and those that hold at once.
 use Prim.Native.Nat.{ℕ, suc, ◌+◌, ◌-◌, ◌<◌, ◌≤◌}
 use native.Mathlib.Omega.{arith}
-use mathlib.Core.Path.{◌≡◌, refl, sym, ◌∙◌, ap, ap₂}
+use mathlib.Core.Path.{◌≡◌, refl, sym, ◌∙◌, ap, ap₂, subst}
 use mathlib.Core.List.{List, [], ◌∷◌}
 use mathlib.Core.Bool.{Bool, true, false, cond, false≢true}
 use lib.ListN.{length, get_or, drop, drop_of_length-le}
@@ -47,16 +47,13 @@ leaf_is table b h = go (decode_of b) (symbol_is b) h
     go Complement e h = absurd (false≢true h)
     go Code.Refused e h = absurd (false≢true h)
 
-pub leaf_by : (table : List ℕ) (c : Code) (b e : ℕ) → c ≡ Symbol b → e ≡ entry_of table b → eqb e 0 ≡ is_leaf table c
-leaf_by table c b e h i = rw (h, i)
-
 -- a symbol without children is passed in one go
-pub among_leaf : (table s : List ℕ) (n : ℕ) (found : Runs) (at left : ℕ) → Among table s n found at left → 0 < left → at < length s
-    → is_leaf table (decode_of (get_or s at 0)) ≡ true → Among table s n found (at + 1) (left - 1)
-among_leaf table s n found at left a h i e =
+pub among_leaf : {table s : List ℕ} {n : ℕ} {found : Runs} {at i : ℕ} → Among table s n found at i → i < n → at < length s
+    → is_leaf table (decode_of (get_or s at 0)) ≡ true → Among table s n found (at + 1) (i + 1)
+among_leaf {table} {s} {n} {found} {at} {i} a h l e =
     let b = get_or s at 0 in
     let leaf = leaf_is table b e in
-    among_next table s n found at left a h i 1 ((leaf_bytes table (b ∷ drop (suc at) s) (omega arith) leaf.1).0 ∙ ap (extent_of table) (sym (rest_part at s ∙ drop-cons s at 0 i)))
+    among_next table s n a h l 1 ((leaf_bytes table (b ∷ drop (suc at) s) (omega arith) leaf.1).0 ∙ ap (extent_of table) (sym (rest_part at s ∙ drop-cons s at 0 l)))
     (omega arith) found (ap (λ (c : Code). also_run c found) (sym leaf.0))
 
 module _ (table classes q r : List ℕ) where
@@ -81,9 +78,11 @@ module _ (table classes q r : List ℕ) where
     stops : leaves_of table classes (drop n q) (drop n r) ≡ 0 → Told n
     stops e = (omega (arith, h.same), (h.within, h.within_too))
 
-    pub held_end : length q ≤ n → Told n
+    pub held_end : length q ≤ n → Told (length q)
     unfolding leaves_of
-    held_end k = stops (ap (λ (l : List ℕ). leaves_of table classes l (drop n r)) (drop_of_length-le q k))
+    held_end k =
+        let z : n ≡ length q = omega (arith, h.within) in
+        subst Told z (stops (ap (λ (l : List ℕ). leaves_of table classes l (drop n r)) (drop_of_length-le q k)))
 
     pub held_cut : length r ≤ n → Told n
     held_cut k = stops (ap (leaves_of table classes (drop n q)) (drop_of_length-le r k) ∙ no_record (drop n q))

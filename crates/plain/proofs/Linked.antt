@@ -5,13 +5,13 @@ use mathlib.Core.Path.{◌≡◌, refl, sym, ◌∙◌, ap, ap₂, subst}
 use mathlib.Core.Logic.{◌⊎◌, inl, inr}
 use mathlib.Core.List.{List, [], ◌∷◌, ◌++◌}
 use mathlib.Core.Bool.{Bool, true, false, cond, ◌&&◌, false≢true}
-use mathlib.Core.Option.{Option, none, some}
 use lib.ListN.{length, get_or, drop, set, length-set, get_or-replicate}
 use lib.Seq.{get_or-set_same, get_or-set_other}
 use lib.Dec.{eqb, ltb}
 use borrow.Author.Tests.{eqb-true, eqb-false, ne_eqb, le-ltb, ltb-true, ltb-false}
 use Rattle.answers.specs.declared.Part.{Part}
-use Rattle.answers.specs.declared.Answer.TheVariants.{Bound, None}
+use Rattle.answers.specs.declared.Answer.{Answer}
+use Rattle.answers.specs.declared.Answer.TheVariants.{Bound}
 use Rattle.term.proofs.Lists.{past_front}
 use Rattle.term.specs.Class.{class_of, Alike}
 use Rattle.term.specs.Code.{variables, byte_of}
@@ -48,6 +48,7 @@ use Rattle.plain.proofs.Agreeing.{ComesOut, Number, comes, unequal, fewer, numbe
 use Rattle.plain.proofs.Looked.{last_run, no_run, runs_children}
 use Rattle.plain.proofs.Parted.{parts_take, parts_none}
 use Rattle.plain.proofs.Variables.{among_vars, among_here, among_behind, not_among, once_vars, among_front, run_of, some_is, none_is, run_none, run_among}
+use Rattle.std.specs.Prelude.{Ok, Option, Some, None}
 
 -- numbers of children
 
@@ -56,10 +57,10 @@ children_number end = refl
 children_number (plain q qs) = let i = children_number qs in omega arith
 children_number (run v qs) = let i = children_number qs in omega arith
 
-last_run_holds : (qs : Children) (v : ℕ) → run_names qs ≡ 1 → run_of qs ≡ some (last_run qs v)
+last_run_holds : (qs : Children) (v : ℕ) → run_names qs ≡ 1 → run_of qs ≡ Some (last_run qs v)
 last_run_holds end v h = absurd (omega arith)
 last_run_holds (plain q qs) v h = last_run_holds qs v h
-last_run_holds (run u qs) v h = ap some (sym (no_more qs u (omega arith)))
+last_run_holds (run u qs) v h = ap Some (sym (no_more qs u (omega arith)))
   where
     no_more : (qs : Children) (u : ℕ) → run_names qs ≡ 0 → last_run qs u ≡ u
     no_more end u h = refl
@@ -112,8 +113,8 @@ Ones lengths vs = (u : ℕ) → among u vs ≡ true → get_or lengths u 0 ≡ 1
 
 -- the run name of a list's children has what the others leave of n elements; all other variables have 1
 record Known (lengths : List ℕ) (qs : Children) (n : ℕ) : Type 0 where
-  others : (u : ℕ) → among u (vars_all qs []) ≡ true → (get_or lengths u 0 ≡ 1) ⊎ (run_of qs ≡ some u)
-  own_run : (v : ℕ) → run_of qs ≡ some v → get_or lengths v 0 ≡ n - plain_children qs
+  others : (u : ℕ) → among u (vars_all qs []) ≡ true → (get_or lengths u 0 ≡ 1) ⊎ (run_of qs ≡ Some u)
+  own_run : (v : ℕ) → run_of qs ≡ Some v → get_or lengths v 0 ≡ n - plain_children qs
 
 module _ (table classes bytes : List ℕ) (small : length table ≤ largest_table) (alike : Alike table classes) (short : length bytes ≤ longest_record) where
   -- the state shows an assignment
@@ -136,9 +137,9 @@ module _ (table classes bytes : List ℕ) (small : length table ≤ largest_tabl
 
   -- what the tier makes of some bytes with bs behind them: it ends, or goes on behind the term with what was noted for other variables
   data Goes (bs : List ℕ) (s : Standing) (n behind : ℕ) (vs : List ℕ) (x : Ending) : Option Env → ℕ → Type 0 where
-    stops : {k : ℕ} → x.fits ≡ false → x.count ≡ n + k → Goes bs s n behind vs x none k
+    stops : {k : ℕ} → x.fits ≡ false → x.count ≡ n + k → Goes bs s n behind vs x None k
     passes : {e : Env} {k : ℕ} (r : Standing) → r.node ≡ behind → Good r e → ((u : ℕ) → among u vs ≡ false → get_or r.lengths u 0 ≡ get_or s.lengths u 0)
-        → x ≡ from bs r (n + k) → Goes bs s n behind vs x (some e) k
+        → x ≡ from bs r (n + k) → Goes bs s n behind vs x (Some e) k
 
   -- a name or a run name: the bytes of its code
   leaf : (c : Code) (bs : List ℕ) (s : Standing) (n : ℕ) (x : Turn) → Written false c → list_code table c ≡ false
@@ -160,7 +161,7 @@ module _ (table classes bytes : List ℕ) (small : length table ≤ largest_tabl
   data Steps (l m : Bool) (ps : Children) (us : Terms) : Turn → Bool → Type 0 where
     fails : Steps l m ps us Fails false
     enters : l ≡ m → ComesOut ps us → (run_names ps ≡ 0) ⊎ (count us ≡ arity ps) → Steps l m ps us (Enters (cond m 2 1)) true
-    notes : {v : ℕ} → l ≡ true → m ≡ true → ComesOut ps us → run_of ps ≡ some v → Steps l m ps us (Notes v (count us - plain_children ps)) true
+    notes : {v : ℕ} → l ≡ true → m ≡ true → ComesOut ps us → run_of ps ≡ Some v → Steps l m ps us (Notes v (count us - plain_children ps)) true
 
   list_steps : (ps : Children) (us : Terms) → run_names ps ≤ 1
       → Steps true true ps us (list_step (arity ps) (count us) (runs (run_names ps) (last_run ps 0))) (comes_out ps us)
@@ -330,11 +331,11 @@ module _ (table classes bytes : List ℕ) (small : length table ≤ largest_tabl
     own_run = λ v h. ones v (run_among ps v h) ∙ sym (by v h (eqb (run_names ps) 0) refl);
   }
     where
-      by : (v : ℕ) → run_of ps ≡ some v → (b : Bool) → eqb (run_names ps) 0 ≡ b → n - plain_children ps ≡ 1
+      by : (v : ℕ) → run_of ps ≡ Some v → (b : Bool) → eqb (run_names ps) 0 ≡ b → n - plain_children ps ≡ 1
       by v h true f = absurd (none_is (sym (run_none ps (eqb-true (run_names ps) 0 f)) ∙ h))
       by v h false f = let z = eqb-false (run_names ps) 0 f in omega (arith, children_number ps, z)
 
-  known_notes : (lengths : List ℕ) (ps : Children) (v n : ℕ) → length lengths ≡ variables → v < variables → run_of ps ≡ some v → Ones lengths (vars_all ps [])
+  known_notes : (lengths : List ℕ) (ps : Children) (v n : ℕ) → length lengths ≡ variables → v < variables → run_of ps ≡ Some v → Ones lengths (vars_all ps [])
       → Known (set lengths v (n - plain_children ps)) ps n
   known_notes lengths ps v n long low r ones = record {
     others = λ u m. by u m (eqb u v) refl;
@@ -343,11 +344,11 @@ module _ (table classes bytes : List ℕ) (small : length table ≤ largest_tabl
         ∙ get_or-set_same lengths v (n - plain_children ps) 0 (omega (arith, long));
   }
     where
-      by : (u : ℕ) → among u (vars_all ps []) ≡ true → (b : Bool) → eqb u v ≡ b → (get_or (set lengths v (n - plain_children ps)) u 0 ≡ 1) ⊎ (run_of ps ≡ some u)
-      by u m true e = inr (r ∙ ap some (sym (eqb-true u v e)))
+      by : (u : ℕ) → among u (vars_all ps []) ≡ true → (b : Bool) → eqb u v ≡ b → (get_or (set lengths v (n - plain_children ps)) u 0 ≡ 1) ⊎ (run_of ps ≡ Some u)
+      by u m true e = inr (r ∙ ap Some (sym (eqb-true u v e)))
       by u m false e = inl (get_or-set_other lengths v u _ 0 (eqb-false u v e) ∙ ones u m)
 
-  run_low : (qs : Children) (deep : ℕ) (in_list : Bool) (v : ℕ) → FitAll table false (child_trees qs) deep in_list → run_of qs ≡ some v → v < variables
+  run_low : (qs : Children) (deep : ℕ) (in_list : Bool) (v : ℕ) → FitAll table false (child_trees qs) deep in_list → run_of qs ≡ Some v → v < variables
   unfolding Fits Written
   run_low end deep in_list v h r = absurd (none_is r)
   run_low (plain q qs) deep in_list v h r = run_low qs deep in_list v h.1 r
@@ -366,14 +367,14 @@ module _ (table classes bytes : List ℕ) (small : length table ≤ largest_tabl
       apart : (u : ℕ) → among u (vars_all qs []) ≡ true → among u (vars q []) ≡ false
       apart u m = (once_vars q (vars_all qs vs) once).1 u (among_front u qs vs m)
 
-      by : (u : ℕ) → among u (vars_all qs []) ≡ true → (get_or lengths u 0 ≡ 1) ⊎ (run_of qs ≡ some u) → (get_or kept u 0 ≡ 1) ⊎ (run_of qs ≡ some u)
+      by : (u : ℕ) → among u (vars_all qs []) ≡ true → (get_or lengths u 0 ≡ 1) ⊎ (run_of qs ≡ Some u) → (get_or kept u 0 ≡ 1) ⊎ (run_of qs ≡ Some u)
       by u m (inl e) = inl (same u (apart u m) ∙ e)
       by u m (inr e) = inr e
 
   ones_here : (lengths : List ℕ) (q : Pattern) (qs : Children) (n : ℕ) (vs : List ℕ) → Once (vars q (vars_all qs vs)) → Known lengths (plain q qs) n → Ones lengths (vars q [])
   ones_here lengths q qs n vs once k u m = by (k.others u (among_here u q (vars_all qs []) m))
     where
-      by : (get_or lengths u 0 ≡ 1) ⊎ (run_of qs ≡ some u) → get_or lengths u 0 ≡ 1
+      by : (get_or lengths u 0 ≡ 1) ⊎ (run_of qs ≡ Some u) → get_or lengths u 0 ≡ 1
       by (inl e) = e
       by (inr e) = absurd (false≢true (sym ((once_vars q (vars_all qs vs) once).1 u (among_front u qs vs (run_among qs u e))) ∙ m))
 
@@ -388,7 +389,7 @@ module _ (table classes bytes : List ℕ) (small : length table ≤ largest_tabl
       later u i true = refl
       later u i false = i
 
-      by : (u : ℕ) → among u (vars_all qs []) ≡ true → (get_or lengths u 0 ≡ 1) ⊎ (some v ≡ some u) → (get_or lengths u 0 ≡ 1) ⊎ (run_of qs ≡ some u)
+      by : (u : ℕ) → among u (vars_all qs []) ≡ true → (get_or lengths u 0 ≡ 1) ⊎ (Some v ≡ Some u) → (get_or lengths u 0 ≡ 1) ⊎ (run_of qs ≡ Some u)
       by u i (inl e) = inl e
       by u i (inr e) =
           absurd (false≢true (sym once.0 ∙ among_front v qs vs (ap (λ (x : ℕ). among x (vars_all qs [])) (some_is e) ∙ i)))
@@ -553,10 +554,10 @@ module _ (lang : Language) (pattern bytes : List ℕ) (alike : Alike lang.table 
           × (shown_ending (tier_on lang.table lang.classes pattern bytes no_parts) before ≡ written (bound_parts (shown_tier lang.table o k)) before)
       go o k (stops f n) =
           let z : 0 + k ≡ k = omega arith in
-          rw (f, n) (ap None z, refl)
+          rw (f, n) (ap (λ (m : ℕ). Ok (Answer.None m)) z, refl)
       go o k (passes {e} r at good kept x) =
           let z : 0 + k ≡ k = omega arith in (
-            ap told_ending x ∙ ap Bound z,
+            ap told_ending x ∙ ap (λ (m : ℕ). Ok (Bound m)) z,
             ap (λ (y : Ending). shown_ending y before) x
                 ∙ rw (le-ltb (length before) answer_width wide) (ap (λ (ps : List Part). numbers ps ++ drop answer_width before) (sym (shown_parts_holds lang.table bytes _ e good.shown))),
           )

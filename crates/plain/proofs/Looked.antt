@@ -4,7 +4,6 @@ use native.Mathlib.Omega.{arith}
 use mathlib.Core.Path.{◌≡◌, refl, sym, ◌∙◌, ap}
 use mathlib.Core.List.{List, [], ◌∷◌}
 use mathlib.Core.Bool.{Bool, true, false, cond, false≢true}
-use mathlib.Core.Option.{Option, none, some}
 use lib.Bits.{bit_or}
 use lib.ListN.{length, drop}
 use lib.Dec.{eqb, leb, ltb}
@@ -23,13 +22,13 @@ use Rattle.term.proofs.Sizes.{arity, children_bytes, past_tree, symbol_bytes}
 use Rattle.anti_pattern.specs.Variables.{among}
 use Rattle.parts.specs.Packed.{bit}
 use Rattle.parts.proofs.Masks.{bit_new, bit_other}
-use Rattle.plain.specs.Bytes.{runs, also_run, runs_among, no_runs, look_list, look_symbol, look_variable, look_by, look_of, on_pass, plain_from}
+use Rattle.plain.specs.Bytes.{runs, also_run, runs_among, no_runs, look_list, look_symbol, look_variable, look_by, look_of, passing, on_pass, plain_from}
 use Rattle.plain.specs.Check.{seen_or, go_on, only_if, look, looks, is_some, is_plain}
 use Rattle.plain.specs.Plain.{run_names}
 use Rattle.plain.specs.declared.check.Look.{Look}
-use Rattle.plain.specs.declared.check.Look.TheVariants.{NotPlain, Passes}
 use Rattle.plain.specs.declared.runs.Runs.{Runs}
 use Rattle.plain.proofs.Nodes.{none_seen}
+use Rattle.std.specs.Prelude.{Option, Some, None}
 
 -- the run names of a list's children
 
@@ -88,8 +87,8 @@ seen_more mask seen v h = record { bits = λ u. go u (eqb v u) refl }
 module _ (table : List ℕ) (small : length table ≤ largest_table) where
   -- what the check makes of some bytes with bs behind them, by the variables seen after these
   data Goes (bs : List ℕ) (x : Bool) : Option (List ℕ) → Type 0 where
-    stops : x ≡ false → Goes bs x none
-    passes : {last : List ℕ} (mask : ℕ) → Seen mask last → x ≡ plain_from table bs false mask → Goes bs x (some last)
+    stops : x ≡ false → Goes bs x None
+    passes : {last : List ℕ} (mask : ℕ) → Seen mask last → x ≡ plain_from table bs false mask → Goes bs x (Some last)
 
   carried : {bs : List ℕ} {x y : Bool} {o : Option (List ℕ)} → x ≡ y → Goes bs y o → Goes bs x o
   carried e (stops h) = stops (e ∙ h)
@@ -101,7 +100,7 @@ module _ (table : List ℕ) (small : length table ≤ largest_table) where
   goes_then f (passes {last} mask s h) next = carried h (next mask last s)
 
   -- a name or a run name
-  passed : (a : Bool) (m : ℕ) (f : ℕ → ℕ → Bool) → on_pass (cond a NotPlain (Passes m 1)) f ≡ cond a false (f m 1)
+  passed : (a : Bool) (m : ℕ) (f : ℕ → ℕ → Bool) → on_pass (cond a None (passing m 1)) f ≡ cond a false (f m 1)
   passed true m f = refl
   passed false m f = refl
 
@@ -111,7 +110,7 @@ module _ (table : List ℕ) (small : length table ≤ largest_table) where
   leaf c v bs mask w l k =
       ap (λ (b : Bool). plain_from table (byte_of c ∷ cond b (0 ∷ bs) bs) false mask) l
       ∙ ap (λ (d : Code). on_pass (look_by d table (byte_of c ∷ bs) mask) (λ x n. plain_from table bs (eqb n 2) x)) (code_back false c w)
-      ∙ ap (λ (y : Look). on_pass y (λ x n. plain_from table bs (eqb n 2) x)) (k (byte_of c ∷ bs) mask)
+      ∙ ap (λ (y : Option Look). on_pass y (λ x n. plain_from table bs (eqb n 2) x)) (k (byte_of c ∷ bs) mask)
       ∙ passed (bit mask v) (bit_or mask (2 ^ v)) (λ x n. plain_from table bs (eqb n 2) x)
 
   variable : (v : ℕ) (seen : List ℕ) (mask : ℕ) (bs : List ℕ) (x : Bool) → Seen mask seen
@@ -123,16 +122,16 @@ module _ (table : List ℕ) (small : length table ≤ largest_table) where
       go false h = passes (bit_or mask (2 ^ v)) (seen_more mask seen v s) h
 
   -- a symbol
-  listed : (a : Bool) (m : ℕ) (f : ℕ → ℕ → Bool) → on_pass (cond a NotPlain (Passes m 2)) f ≡ cond a false (f m 2)
+  listed : (a : Bool) (m : ℕ) (f : ℕ → ℕ → Bool) → on_pass (cond a None (passing m 2)) f ≡ cond a false (f m 2)
   listed true m f = refl
   listed false m f = refl
 
   list_looked : (s n : ℕ) (cs : List ℕ) (mask k v : ℕ) → Written false (Symbol s) → eqb (entry_of table s) list ≡ true → runs_among table cs n no_runs ≡ runs k v
-      → look_of table (s ∷ n ∷ cs) mask ≡ cond (ltb 1 k) NotPlain (Passes mask 2)
+      → look_of table (s ∷ n ∷ cs) mask ≡ cond (ltb 1 k) None (passing mask 2)
   unfolding look_of look_symbol look_list byte_of
   list_looked s n cs mask k v w e r = rw (code_back false (Symbol s) w, e, le-ltb (length (s ∷ n ∷ cs)) 2 (omega arith), r)
 
-  other_looked : (s : ℕ) (cs : List ℕ) (mask : ℕ) → Written false (Symbol s) → eqb (entry_of table s) list ≡ false → look_of table (s ∷ cs) mask ≡ Passes mask 1
+  other_looked : (s : ℕ) (cs : List ℕ) (mask : ℕ) → Written false (Symbol s) → eqb (entry_of table s) list ≡ false → look_of table (s ∷ cs) mask ≡ passing mask 1
   unfolding look_of look_symbol byte_of
   other_looked s cs mask w e = rw (code_back false (Symbol s) w, e)
 
@@ -157,13 +156,13 @@ module _ (table : List ℕ) (small : length table ≤ largest_table) where
           ≡ cond (leb (run_names qs) 1) (plain_from table (children_bytes table qs bs) false mask) false
       go true e f =
           let z : 0 + run_names qs ≡ run_names qs = omega arith in
-          ap (λ (y : Look). on_pass y (λ x n. plain_from table (arity qs ∷ children_bytes table qs bs) (eqb n 2) x))
+          ap (λ (y : Option Look). on_pass y (λ x n. plain_from table (arity qs ∷ children_bytes table qs bs) (eqb n 2) x))
           (list_looked s (arity qs) (children_bytes table qs bs) mask (run_names qs) (last_run qs 0) h.1 (entry true e)
           (runs_children table small qs _ true 0 0 bs f ∙ ap (λ (k : ℕ). runs k (last_run qs 0)) z))
           ∙ listed (ltb 1 (run_names qs)) mask (λ x n. plain_from table (arity qs ∷ children_bytes table qs bs) (eqb n 2) x)
           ∙ turned (run_names qs) (plain_from table (children_bytes table qs bs) false mask)
       go false e f =
-          ap (λ (y : Look). on_pass y (λ x n. plain_from table (children_bytes table qs bs) (eqb n 2) x))
+          ap (λ (y : Option Look). on_pass y (λ x n. plain_from table (children_bytes table qs bs) (eqb n 2) x))
           (other_looked s (children_bytes table qs bs) mask h.1 (entry false e))
           ∙ ap (λ (k : ℕ). cond (leb k 1) (plain_from table (children_bytes table qs bs) false mask) false) (sym (no_run table qs _ f))
 

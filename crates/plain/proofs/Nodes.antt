@@ -4,8 +4,8 @@ use native.Mathlib.Nat.{zero-div}
 use native.Mathlib.Omega.{arith}
 use mathlib.Core.Path.{◌≡◌, refl, sym, ◌∙◌, ap, subst}
 use mathlib.Core.List.{List, [], ◌∷◌}
-use mathlib.Core.Bool.{Bool, true, false, cond, true≢false}
-use lib.Bits.{bit_or}
+use mathlib.Core.Logic.{◌⊎◌, inl, inr}
+use mathlib.Core.Bool.{Bool, true, false, true≢false}
 use lib.ListN.{length, get_or, take, drop}
 use lib.Dec.{eqb}
 use borrow.Author.Tests.{eq-eqb, ne_eqb, lt-ltb, le-ltb}
@@ -18,13 +18,13 @@ use Rattle.term.specs.declared.Code.{Code}
 use Rattle.term.specs.declared.Code.TheVariants.{Symbol, Name, Run, Complement}
 use Rattle.term.proofs.Codes.{decode_below}
 use Rattle.parts.specs.Packed.{bit}
-use Rattle.plain.specs.Bytes.{runs_among, no_runs, may_hold, root_may_hold, look_list, look_symbol, look_variable, look_by, look_of, LookWithin, list_step, list_of, symbol_of, turn_by, turn_of, TurnWithin}
+use Rattle.plain.specs.Bytes.{runs_among, no_runs, may_hold, root_may_hold, look_list, look_symbol, look_variable, look_by, look_of, passing, list_step, list_of, symbol_of, turn_by, turn_of, TurnWithin}
 use Rattle.plain.specs.declared.runs.Runs.{Runs}
 use Rattle.plain.specs.declared.check.Look.{Look}
-use Rattle.plain.specs.declared.check.Look.TheVariants.{NotPlain, Passes}
 use Rattle.plain.specs.declared.tier.Turn.{Turn}
 use Rattle.plain.specs.declared.tier.Turn.TheVariants.{Fails, Enters, Notes}
 use Rattle.plain.proofs.Among.{run_bytes, bytes_behind, among_bytes}
+use Rattle.std.specs.Prelude.{Option, None}
 
 -- a variable's number is one of those of the answer buffer
 pub name_below : (b : ℕ) (c : Code) (v : ℕ) → c ≡ decode_of b → c ≡ Name v → v < variables
@@ -35,26 +35,24 @@ pub run_below : (b : ℕ) (c : Code) (v : ℕ) → c ≡ decode_of b → c ≡ R
 unfolding VariableBelow
 run_below b c v e f = subst VariableBelow (sym e ∙ f) (decode_below b)
 
+pub variable_below : {c : Code} {v : ℕ} → (c ≡ Name v) ⊎ (c ≡ Run v) → VariableBelow c → v < variables
+unfolding VariableBelow
+variable_below (inl e) h = subst VariableBelow e h
+variable_below (inr e) h = subst VariableBelow e h
+
 -- The check
 
 -- no variable is in the mask 0
 pub none_seen : (v : ℕ) → bit 0 v ≡ false
 none_seen v = ap (λ (x : ℕ). eqb (x % 2) 1) (zero-div (2 ^ v))
 
-pub variable_within : (q : List ℕ) (seen v : ℕ) → 0 < length q → (x : Look) → x ≡ look_variable seen v → LookWithin q x
-variable_within q seen v h x e = subst (LookWithin q) (sym e) (go (bit seen v))
-  where
-    go : (a : Bool) → LookWithin q (cond a NotPlain (Passes (bit_or seen (2 ^ v)) 1))
-    go true = tt
-    go false = (omega arith, omega arith, omega arith)
-
 module _ (table q : List ℕ) (seen : ℕ) where
-  pub look_short : length q < 2 → NotPlain ≡ look_list table q seen
+  pub look_short : length q < 2 → None ≡ look_list table q seen
   unfolding look_list
   look_short h = rw (lt-ltb (length q) 2 h)
 
   -- where the bytes have fewer than two codes of run names
-  pub look_seldom : 2 ≤ length q → run_bytes q < 2 → Passes seen 2 ≡ look_list table q seen
+  pub look_seldom : 2 ≤ length q → run_bytes q < 2 → passing seen 2 ≡ look_list table q seen
   unfolding look_list
   look_seldom wide h =
       let few : (runs_among table (drop 2 q) (get_or q 1 0) no_runs).number ≤ 1 =
@@ -65,27 +63,35 @@ module _ (table q : List ℕ) (seen : ℕ) where
     is_found : found ≡ runs_among table (drop 2 q) (get_or q 1 0) no_runs
     is_found = e ∙ ap (λ (l : List ℕ). runs_among table l (get_or q 1 0) no_runs) (rest_part 2 q)
 
-    pub look_many : 1 < found.number → NotPlain ≡ look_list table q seen
+    pub look_many : 1 < found.number → None ≡ look_list table q seen
     unfolding look_list
     look_many h = rw (le-ltb (length q) 2 wide, ← is_found, lt-ltb 1 found.number h)
 
-    pub look_few : found.number ≤ 1 → Passes seen 2 ≡ look_list table q seen
+    pub look_few : found.number ≤ 1 → passing seen 2 ≡ look_list table q seen
     unfolding look_list
     look_few h = rw (le-ltb (length q) 2 wide, ← is_found, le-ltb 1 found.number h)
 
   module _ (b e : ℕ) (entry : e ≡ entry_of table b) where
-    pub look_list_holds : e ≡ list → (x : Look) → x ≡ look_list table q seen → x ≡ look_symbol table q seen b
+    pub look_list_holds : e ≡ list → (x : Option Look) → x ≡ look_list table q seen → x ≡ look_symbol table q seen b
     unfolding look_symbol
     look_list_holds h x i = rw (eq-eqb (entry_of table b) list (sym entry ∙ h)) i
 
-    pub look_other : (e ≡ list → ⊥) → Passes seen 1 ≡ look_symbol table q seen b
+    pub look_other : (e ≡ list → ⊥) → passing seen 1 ≡ look_symbol table q seen b
     unfolding look_symbol
     look_other h = rw (ne_eqb (entry_of table b) list (λ z. h (entry ∙ z)))
 
   -- by the code of the byte that stands there
-  pub look_by_holds : (c d : Code) → c ≡ decode_of (get_or q 0 0) → c ≡ d → (x : Look) → x ≡ look_by d table q seen → x ≡ look_of table q seen
+  pub look_by_holds : (c d : Code) → c ≡ decode_of (get_or q 0 0) → c ≡ d → (x : Option Look) → x ≡ look_by d table q seen → x ≡ look_of table q seen
   unfolding look_of
   look_by_holds c d e f x h = h ∙ ap (λ (y : Code). look_by y table q seen) (sym f ∙ e)
+
+  pub look_by_variable : (c : Code) (v : ℕ) → c ≡ decode_of (get_or q 0 0) → (c ≡ Name v) ⊎ (c ≡ Run v) → (x : Option Look) → x ≡ look_variable seen v → x ≡ look_of table q seen
+  look_by_variable c v e (inl f) x h = look_by_holds c (Name v) e f x h
+  look_by_variable c v e (inr f) x h = look_by_holds c (Run v) e f x h
+
+  pub look_by_none : (c : Code) → c ≡ decode_of (get_or q 0 0) → (c ≡ Complement) ⊎ (c ≡ Code.Refused) → None ≡ look_of table q seen
+  look_by_none c e (inl f) = look_by_holds c Complement e f None refl
+  look_by_none c e (inr f) = look_by_holds c Code.Refused e f None refl
 
 -- The tier
 
@@ -171,10 +177,12 @@ pub step_by : (table classes q r : List ℕ) (c d : Code) → c ≡ decode_of (g
 unfolding turn_of
 step_by table classes q r c d e f x h w = (h ∙ ap (λ (y : Code). turn_by y table classes q r) (sym f ∙ e), w)
 
--- the first node, by what is told of its bytes
+pub step_by_none : (table classes q r : List ℕ) (c : Code) → c ≡ decode_of (get_or q 0 0) → (c ≡ Complement) ⊎ (c ≡ Code.Refused)
+    → (Fails ≡ turn_of table classes q r) × TurnWithin q r Fails
+step_by_none table classes q r c e (inl f) = step_by table classes q r c Complement e f Fails refl tt
+step_by_none table classes q r c e (inr f) = step_by table classes q r c Code.Refused e f Fails refl tt
 
-pub symbol_may_hold : (classes : List ℕ) (c : Code) (b r : ℕ) → c ≡ Symbol b → (x : Bool) → x ≡ same_byte classes false b r → x ≡ may_hold classes c r
-symbol_may_hold classes c b r e x h = h ∙ ap (λ (y : Code). may_hold classes y r) (sym e)
+-- the first node, by what is told of its bytes
 
 module _ (classes q r : List ℕ) where
   pub root_no_pattern : length q ≡ 0 → true ≡ root_may_hold classes q r

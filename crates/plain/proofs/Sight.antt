@@ -9,7 +9,7 @@ use lib.Bits.{bit_or}
 use lib.ListN.{length, get_or, take, drop, drop_of_length-le}
 use lib.Seq.{drop-cons}
 use lib.Dec.{eqb, ltb}
-use borrow.Author.Tests.{eqb-true, eqb-false, eq-eqb, ne_eqb, ltb-true}
+use borrow.Author.Tests.{eqb-true, eqb-false, ne_eqb, ltb-true}
 use Rattle.term.proofs.Lists.{rest_part}
 use Rattle.term.specs.Code.{decode_of}
 use Rattle.term.specs.Extent.{entry_of}
@@ -18,12 +18,12 @@ use Rattle.term.specs.declared.Code.{Code}
 use Rattle.term.specs.declared.Code.TheVariants.{Symbol, Name, Run, Complement}
 use Rattle.parts.specs.Packed.{bit}
 use Rattle.parts.proofs.Masks.{bit_new, bit_other, bit_still}
-use Rattle.plain.specs.Bytes.{sum_of, runs_among, no_runs, run_code, weight_of, weights_of, root_bytes, look_list, look_symbol, look_variable, look_byte, look_by, look_of, on_pass, plain_from, SurelyPlain}
+use Rattle.plain.specs.Bytes.{sum_of, runs_among, no_runs, run_code, weight_of, weights_of, root_bytes, look_list, look_symbol, look_variable, look_byte, look_by, look_of, passing, on_pass, plain_from, SurelyPlain}
 use Rattle.plain.specs.declared.check.Look.{Look}
-use Rattle.plain.specs.declared.check.Look.TheVariants.{NotPlain, Passes}
 use Rattle.plain.proofs.Among.{run_bytes, among_bytes, here_once}
 use Rattle.plain.proofs.Holding.{SymbolIs, symbol_is}
 use Rattle.plain.proofs.Nodes.{none_seen, look_seldom, look_few}
+use Rattle.std.specs.Prelude.{Option, Some, None}
 
 -- whether no variable comes twice and there is no complement, with every byte taken for a code
 unfoldable pub distinct_from : List ℕ → ℕ → Bool
@@ -54,7 +54,7 @@ below_both m n i h v e = by (eqb i v) refl
 variable_passes : (seen v : ℕ) (f : ℕ → ℕ → Bool) → on_pass (look_variable seen v) f ≡ true → (bit seen v ≡ false) × (f (bit_or seen (2 ^ v)) 1 ≡ true)
 variable_passes seen v f h = by (bit seen v) h
   where
-    by : (x : Bool) → on_pass (cond x NotPlain (Passes (bit_or seen (2 ^ v)) 1)) f ≡ true → (x ≡ false) × (f (bit_or seen (2 ^ v)) 1 ≡ true)
+    by : (x : Bool) → on_pass (cond x None (passing (bit_or seen (2 ^ v)) 1)) f ≡ true → (x ≡ false) × (f (bit_or seen (2 ^ v)) 1 ≡ true)
     by true k = absurd (false≢true k)
     by false k = (refl, k)
 
@@ -69,9 +69,6 @@ passed_over Code.Refused s seen h = absurd (false≢true h)
 -- The root
 
 module _ (table : List ℕ) (b e : ℕ) (entry : e ≡ entry_of table b) where
-  pub list_root : e ≡ list → 2 ≡ root_bytes table (Symbol b)
-  list_root h = rw (eq-eqb (entry_of table b) list (sym entry ∙ h))
-
   pub other_root : (e ≡ list → ⊥) → 0 ≡ root_bytes table (Symbol b)
   other_root h = rw (ne_eqb (entry_of table b) list (λ z. h (entry ∙ z)))
 
@@ -103,12 +100,12 @@ module _ (table : List ℕ) where
   -- a node, by the nodes behind it
   module _ (b : ℕ) (s : List ℕ) (mask seen : ℕ) (ends : Ends (b ∷ s)) (below : Below mask seen) (few : run_bytes (b ∷ s) < 2)
       (next : (counting : Bool) (m n : ℕ) → Below m n → distinct_from s n ≡ true → plain_from table s counting m ≡ true) where
-    abbrev Goes : Look → Type 0
+    abbrev Goes : Option Look → Type 0
     Goes x = on_pass x (λ m w. plain_from table s (eqb w 2) m) ≡ true
 
-    distinct_symbol : distinct_from s seen ≡ true → (x : Bool) → eqb (entry_of table b) list ≡ x → Goes (cond x (look_list table (b ∷ s) mask) (Passes mask 1))
+    distinct_symbol : distinct_from s seen ≡ true → (x : Bool) → eqb (entry_of table b) list ≡ x → Goes (cond x (look_list table (b ∷ s) mask) (passing mask 1))
     distinct_symbol h true e =
-        ap (λ (y : Look). on_pass y (λ m w. plain_from table s (eqb w 2) m))
+        ap (λ (y : Option Look). on_pass y (λ m w. plain_from table s (eqb w 2) m))
         (sym (look_seldom table (b ∷ s) mask (ends_wide b s ends (eqb-true (entry_of table b) list e)) few)) ∙ next true mask seen below h
     distinct_symbol h false e = next false mask seen below h
 
@@ -163,7 +160,7 @@ module _ (table : List ℕ) where
   distinct_list b c s ends few h =
       let part = take (length (b ∷ c ∷ s) - 2) (drop 2 (b ∷ c ∷ s)) in
       let i : run_bytes part ≡ run_bytes s = ap run_bytes (rest_part 2 (b ∷ c ∷ s)) in
-      ap (λ (y : Look). on_pass y (λ m w. plain_from table (c ∷ s) (eqb w 2) m))
+      ap (λ (y : Option Look). on_pass y (λ m w. plain_from table (c ∷ s) (eqb w 2) m))
       (sym (look_few table (b ∷ c ∷ s) 0 (omega arith) (runs_among table part c no_runs) refl (omega (arith, among_bytes table part c no_runs))))
       ∙ distinct_plain s false 0 0 ends (λ v e. e) few h
 
@@ -204,38 +201,43 @@ module _ (table : List ℕ) where
 
 -- The pass over the bytes, from where the own bytes of a list at the root end
 
-module _ (s : List ℕ) (own : ℕ) where
+module _ (s : List ℕ) where
   pub record Sighted (at seen found : ℕ) : Type 0 where
-    pub within : at ≤ length s
     pub few : found ≤ at
-    pub bytes : run_bytes (drop own s) ≡ found + run_bytes (drop at s)
-    pub same : distinct_from (drop own s) 0 ≡ distinct_from (drop at s) seen
+    pub bytes : run_bytes s ≡ found + run_bytes (drop at s)
+    pub same : distinct_from s 0 ≡ distinct_from (drop at s) seen
 
-  pub sighted_first : own ≤ length s → Sighted own 0 0
-  sighted_first h = record { within = h; few = omega arith; bytes = omega arith; same = refl }
+  pub sighted_first : Sighted 0 0 0
+  sighted_first = record { few = omega arith; bytes = omega arith; same = refl }
 
-  module _ (at seen found : ℕ) (t : Sighted at seen found) where
-    pub sighted_next : at < length s → (c : Code) → c ≡ decode_of (get_or s at 0) → (x : Look) → x ≡ look_byte c seen → (next w : ℕ) → x ≡ Passes next w
-        → (k : ℕ) → k ≡ run_code c → Sighted (at + 1) next (found + k)
+  module _ {at seen found : ℕ} (t : Sighted at seen found) where
+    pub sighted_next : at < length s → (c : Code) → c ≡ decode_of (get_or s at 0) → (x : Look) → Some x ≡ look_byte c seen → (k : ℕ) → k ≡ run_code c
+        → Sighted (at + 1) x.seen (found + k)
     unfolding sum_of distinct_from
-    sighted_next inside c is x e next w passes k run =
+    sighted_next inside c is x e k run =
         let z : suc at ≡ at + 1 = omega arith in
         let d : drop at s ≡ get_or s at 0 ∷ drop (at + 1) s = drop-cons s at 0 inside ∙ ap (λ (n : ℕ). get_or s at 0 ∷ drop n s) z in
         let r : run_bytes (drop at s) ≡ run_code (decode_of (get_or s at 0)) + run_bytes (drop (at + 1) s) = ap run_bytes d in
         let i : k ≡ run_code (decode_of (get_or s at 0)) = run ∙ ap run_code is in record {
-          within = omega arith;
           few = omega (arith, t.few, here_once (decode_of (get_or s at 0)));
           bytes = omega (arith, t.bytes);
           same = t.same ∙ ap (λ (l : List ℕ). distinct_from l seen) d
-              ∙ ap (λ (y : Look). on_pass y (λ m n. distinct_from (drop (at + 1) s) m)) (sym (ap (λ (y : Code). look_byte y seen) is) ∙ sym e ∙ passes);
+              ∙ ap (λ (y : Option Look). on_pass y (λ m n. distinct_from (drop (at + 1) s) m)) (sym (ap (λ (y : Code). look_byte y seen) is) ∙ sym e);
         }
 
-    pub sighted_end : (table : List ℕ) → (entry_of table (get_or s (length s - 1) 0) ≡ list → ⊥) → own ≡ root_bytes table (decode_of (get_or s 0 0)) → length s ≤ at → SurelyPlain table s (ltb found 2)
+    sighted_all : length s ≤ at → (found < 2 → run_bytes s < 2) × (distinct_from s 0 ≡ true)
     unfolding sum_of distinct_from
-    sighted_end table ends e h told =
+    sighted_all h =
         let l = drop_of_length-le s h in
         let z : run_bytes (drop at s) ≡ 0 = ap run_bytes l in
-        distinct_pattern table s ends own e (omega (arith, t.bytes, ltb-true found 2 told)) (t.same ∙ ap (λ (y : List ℕ). distinct_from y seen) l)
+        (λ k. omega (arith, t.bytes), t.same ∙ ap (λ (y : List ℕ). distinct_from y seen) l)
+
+pub sighted_end : (table s : List ℕ) → (entry_of table (get_or s (length s - 1) 0) ≡ list → ⊥) → (own : ℕ) → own ≡ root_bytes table (decode_of (get_or s 0 0))
+    → {at seen found : ℕ} → Sighted (take (length s - own) (drop own s)) at seen found → length (take (length s - own) (drop own s)) ≤ at → SurelyPlain table s (ltb found 2)
+sighted_end table s ends own e {found = found} t h told =
+    let a = sighted_all (take (length s - own) (drop own s)) t h in
+    let r = rest_part own s in
+    distinct_pattern table s ends own e (subst (λ (l : List ℕ). run_bytes l < 2) r (a.0 (ltb-true found 2 told))) (ap (λ (l : List ℕ). distinct_from l 0) (sym r) ∙ a.1)
 
 -- Light bytes: one variable at most
 

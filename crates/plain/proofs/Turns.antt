@@ -20,10 +20,10 @@ use Rattle.plain.specs.Bytes.{look_of, on_pass, plain_from, is_leaf, leaves_of, 
 use Rattle.plain.proofs.Nodes.{symbol_other, root_no_pattern, root_step}
 use Rattle.plain.proofs.Holding.{leaf_is}
 use Rattle.plain.specs.declared.check.Look.{Look}
-use Rattle.plain.specs.declared.check.Look.TheVariants.{NotPlain, Passes}
 use Rattle.plain.specs.declared.tier.Turn.{Turn}
 use Rattle.plain.specs.declared.tier.Turn.TheVariants.{Fails, Enters, Notes, TakesNode, TakesRun}
 use Rattle.plain.specs.declared.tier.Tiering.{Tiering}
+use Rattle.std.specs.Prelude.{Option, Some, None}
 
 one_or_two : (w : ℕ) → 1 ≤ w → w ≤ 2 → (w ≡ 1) ⊎ (w ≡ 2)
 one_or_two zero h k = absurd (omega arith)
@@ -58,21 +58,22 @@ module _ (table : List ℕ) where
     unfolding plain_from
     plain_end h = rw (drop_of_length-le s h)
 
-    module _ (within : at < length s) (x : Look) (e : x ≡ look_of table (take (length s - at) (drop at s)) seen) where
+    module _ (within : at < length s) (x : Option Look) (e : x ≡ look_of table (take (length s - at) (drop at s)) seen) where
       by_look : plain_from table (drop at s) false seen ≡ on_pass x (λ n w. plain_from table (drop (suc at) s) (eqb w 2) n)
       unfolding plain_from
       by_look =
           ap (λ (l : List ℕ). plain_from table l false seen) (drop-cons s at 0 within)
-          ∙ ap (λ (y : Look). on_pass y (λ n w. plain_from table (drop (suc at) s) (eqb w 2) n))
+          ∙ ap (λ (y : Option Look). on_pass y (λ n w. plain_from table (drop (suc at) s) (eqb w 2) n))
           (sym (e ∙ ap (λ (l : List ℕ). look_of table l seen) (rest_part at s ∙ drop-cons s at 0 within)))
 
-      pub plain_stops : x ≡ NotPlain → plain_from table (drop at s) false seen ≡ false
-      plain_stops h = by_look ∙ ap (λ (y : Look). on_pass y (λ n w. plain_from table (drop (suc at) s) (eqb w 2) n)) h
+      pub plain_stops : x ≡ None → plain_from table (drop at s) false seen ≡ false
+      plain_stops h = by_look ∙ ap (λ (y : Option Look). on_pass y (λ n w. plain_from table (drop (suc at) s) (eqb w 2) n)) h
 
-      pub plain_passes : (next w : ℕ) → x ≡ Passes next w → 1 ≤ w → w ≤ 2 → plain_from table (drop at s) false seen ≡ plain_from table (drop (at + w) s) false next
-      plain_passes next w h i j =
-          by_look ∙ ap (λ (y : Look). on_pass y (λ n w. plain_from table (drop (suc at) s) (eqb w 2) n)) h
-          ∙ past_own (λ l b. plain_from table l b next) (skip_plain next) s at w i j
+      pub plain_passes : (look : Look) → x ≡ Some look → 1 ≤ look.width → look.width ≤ 2
+          → plain_from table (drop at s) false seen ≡ plain_from table (drop (at + look.width) s) false look.seen
+      plain_passes look h i j =
+          by_look ∙ ap (λ (y : Option Look). on_pass y (λ n w. plain_from table (drop (suc at) s) (eqb w 2) n)) h
+          ∙ past_own (λ l b. plain_from table l b look.seen) (skip_plain look.seen) s at look.width i j
 
 -- The tier
 
@@ -158,7 +159,7 @@ module _ (table classes bytes : List ℕ) where
       abbrev here : Standing
       here = standing node lengths assigned parts
 
-      pub turning_end : length pattern ≤ at → Ends (record { fits = true; count = count; assigned = assigned }) parts
+      pub turning_end : length pattern ≤ at → Ends (record { count = count; assigned = Some assigned }) parts
       unfolding tier_from
       turning_end h =
           ends (ending true count assigned parts) (t.same ∙ ap (λ (l : List ℕ). tier_from table classes bytes l false here count) (drop_of_length-le pattern h))
@@ -188,7 +189,7 @@ module _ (table classes bytes : List ℕ) where
             t.same ∙ ap (λ (l : List ℕ). tier_from table classes bytes l false here count) (drop-cons pattern at 0 within)
             ∙ ap on (sym (e ∙ ap₂ (turn_of table classes) (rest_part at pattern ∙ drop-cons pattern at 0 within) (rest_part node bytes)))
 
-        pub turning_fails : x ≡ Fails → Ends (record { fits = false; count = count + 1; assigned = assigned }) parts
+        pub turning_fails : x ≡ Fails → Ends (record { count = count + 1; assigned = None }) parts
         turning_fails h = ends (ending false (count + 1) assigned parts) (by_step ∙ ap on h)
 
         past : (w : ℕ) (s : Standing) → 1 ≤ w → w ≤ 2 → tier_from table classes bytes (drop (suc at) pattern) (eqb w 2) s (count + 1)

@@ -4,12 +4,12 @@ use native.Mathlib.Omega.{arith}
 use mathlib.Core.Path.{◌≡◌, refl, sym, ◌∙◌, ap}
 use mathlib.Core.List.{List, []}
 use mathlib.Core.Bool.{Bool, true, false, cond, false≢true}
-use mathlib.Core.Option.{Option, none, some}
 use lib.Dec.{eqb}
 use borrow.Author.Tests.{eqb-true, eq-eqb}
 use Rattle.term.specs.Pattern.{Pattern, name, symbol, complement, Children, end, plain, run}
 use Rattle.anti_pattern.specs.Variables.{vars, vars_all, among}
 use Rattle.plain.specs.Plain.{Once, run_names}
+use Rattle.std.specs.Prelude.{Option, Some, None}
 
 -- among the variables of a pattern and those behind it
 mutual
@@ -95,22 +95,22 @@ among_front u qs vs h = among_all u qs vs ∙ or_left (among u (vars_all qs []))
 
 -- the run name of a list's children, the first
 abbrev pub run_of : Children → Option ℕ
-run_of end = none
+run_of end = None
 run_of (plain q qs) = run_of qs
-run_of (run v qs) = some v
+run_of (run v qs) = Some v
 
-pub some_is : {x y : ℕ} → some x ≡ some y → x ≡ y
+pub some_is : {x y : ℕ} → Some x ≡ Some y → x ≡ y
 some_is h = cc
 
-pub none_is : {x : ℕ} → none ≡ some x → ⊥
+pub none_is : {x : ℕ} → None ≡ Some x → ⊥
 none_is h = let z : ◌≡◌ {A = ℕ} 0 1 = cc in omega arith
 
-pub run_none : (qs : Children) → run_names qs ≡ 0 → run_of qs ≡ none
+pub run_none : (qs : Children) → run_names qs ≡ 0 → run_of qs ≡ None
 run_none end h = refl
 run_none (plain q qs) h = run_none qs h
 run_none (run v qs) h = absurd (omega arith)
 
-pub run_among : (qs : Children) (v : ℕ) → run_of qs ≡ some v → among v (vars_all qs []) ≡ true
+pub run_among : (qs : Children) (v : ℕ) → run_of qs ≡ Some v → among v (vars_all qs []) ≡ true
 run_among end v h = absurd (none_is h)
 run_among (plain q qs) v h = among_behind v q (vars_all qs []) (run_among qs v h)
 run_among (run u qs) v h = ap (λ (b : Bool). cond b true (among v (vars_all qs []))) (eq-eqb u v (some_is h))

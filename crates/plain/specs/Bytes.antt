@@ -1,10 +1,10 @@
 -- The check for a plain pattern and the tier on bytes, as the code has them; only the contracts of private functions cite them. Of accepted input they
 -- are the check and the tier on trees (proofs/Looked, proofs/Linked).
-use Rattle.std.specs.Prelude.{ℕ, zero, suc, ◌+◌, ◌-◌, ◌^◌, ◌<◌, ◌≤◌, ◌≡◌, List, [], ◌∷◌, Bool, true, false, cond, length, get_or, drop, set, replicate, eqb, ltb}
+use Rattle.std.specs.Prelude.{ℕ, zero, suc, ◌+◌, ◌-◌, ◌^◌, ◌<◌, ◌≤◌, ◌≡◌, List, [], ◌∷◌, Bool, true, false, cond, length, get_or, drop, set, replicate, eqb, ltb, Result, Ok, Option, Some, None}
 use Rattle.std.specs.Int.Bits.{bit_or}
 use Rattle.answers.specs.Part.{bound_part}
 use Rattle.answers.specs.declared.Answer.{Answer}
-use Rattle.answers.specs.declared.Answer.TheVariants.{Bound, None}
+use Rattle.answers.specs.declared.Answer.TheVariants.{Bound}
 use Rattle.term.specs.Code.{variables, decode_of}
 use Rattle.term.specs.Extent.{entry_of, span_of, extent_of}
 use Rattle.term.specs.Same.{same_byte}
@@ -15,10 +15,10 @@ use Rattle.parts.specs.Packed.{bit, packed, part_places, parts_in}
 use Rattle.parts.specs.Shown.{shown_parts}
 use Rattle.plain.specs.declared.runs.Runs.{Runs}
 use Rattle.plain.specs.declared.check.Look.{Look}
-use Rattle.plain.specs.declared.check.Look.TheVariants.{NotPlain, Passes}
 use Rattle.plain.specs.declared.tier.Turn.{Turn}
 use Rattle.plain.specs.declared.tier.Turn.TheVariants.{Fails, Enters, Notes, TakesNode, TakesRun}
 use Rattle.plain.specs.declared.tier.Tiering.{Tiering}
+use Rattle.answers.specs.declared.Refusal.{Refusal}
 
 -- Run names
 
@@ -63,39 +63,43 @@ is_leaf table Code.Refused = false
 
 -- The check
 
+-- the variables seen after a node, and the bytes of its own
+abbrev pub passing : ℕ → ℕ → Option Look
+passing seen width = Some (record { seen = seen; width = width })
+
 -- a list whose bytes are these has at most one run name
-unfoldable pub look_list : List ℕ → List ℕ → ℕ → Look
+unfoldable pub look_list : List ℕ → List ℕ → ℕ → Option Look
 look_list table q seen =
-    cond (ltb (length q) 2) NotPlain (cond (ltb 1 (runs_among table (drop 2 q) (get_or q 1 0) no_runs).number) NotPlain (Passes seen 2))
+    cond (ltb (length q) 2) None (cond (ltb 1 (runs_among table (drop 2 q) (get_or q 1 0) no_runs).number) None (passing seen 2))
 
-unfoldable pub look_symbol : List ℕ → List ℕ → ℕ → ℕ → Look
-look_symbol table q seen b = cond (eqb (entry_of table b) list) (look_list table q seen) (Passes seen 1)
+unfoldable pub look_symbol : List ℕ → List ℕ → ℕ → ℕ → Option Look
+look_symbol table q seen b = cond (eqb (entry_of table b) list) (look_list table q seen) (passing seen 1)
 
-abbrev pub look_variable : ℕ → ℕ → Look
-look_variable seen v = cond (bit seen v) NotPlain (Passes (bit_or seen (2 ^ v)) 1)
+abbrev pub look_variable : ℕ → ℕ → Option Look
+look_variable seen v = cond (bit seen v) None (passing (bit_or seen (2 ^ v)) 1)
 
 -- a byte taken for a code
-abbrev pub look_byte : Code → ℕ → Look
-look_byte (Symbol b) seen = Passes seen 1
+abbrev pub look_byte : Code → ℕ → Option Look
+look_byte (Symbol b) seen = passing seen 1
 look_byte (Name v) seen = look_variable seen v
 look_byte (Run v) seen = look_variable seen v
-look_byte Complement seen = NotPlain
-look_byte Code.Refused seen = NotPlain
+look_byte Complement seen = None
+look_byte Code.Refused seen = None
 
 -- a pattern node, whose bytes stand at the start of q, after the variables of this mask: those after it, and the bytes of its own
-abbrev pub look_by : Code → List ℕ → List ℕ → ℕ → Look
+abbrev pub look_by : Code → List ℕ → List ℕ → ℕ → Option Look
 look_by (Symbol b) table q seen = look_symbol table q seen b
 look_by (Name v) table q seen = look_variable seen v
 look_by (Run v) table q seen = look_variable seen v
-look_by Complement table q seen = NotPlain
-look_by Code.Refused table q seen = NotPlain
+look_by Complement table q seen = None
+look_by Code.Refused table q seen = None
 
-unfoldable pub look_of : List ℕ → List ℕ → ℕ → Look
+unfoldable pub look_of : List ℕ → List ℕ → ℕ → Option Look
 look_of table q seen = look_by (decode_of (get_or q 0 0)) table q seen
 
-abbrev pub on_pass : Look → (ℕ → ℕ → Bool) → Bool
-on_pass NotPlain f = false
-on_pass (Passes seen width) f = f seen width
+abbrev pub on_pass : Option Look → (ℕ → ℕ → Bool) → Bool
+on_pass None f = false
+on_pass (Some look) f = f look.seen look.width
 
 -- the nodes from here on; `counting` where the next byte is a list's number of children
 unfoldable pub plain_from : List ℕ → List ℕ → Bool → ℕ → Bool
@@ -127,9 +131,9 @@ abbrev pub SurelyPlain : List ℕ → List ℕ → Bool → Type 0
 SurelyPlain table s told = told ≡ true → plain_from table s false 0 ≡ true
 
 -- its own bytes are one or two of q
-abbrev pub LookWithin : List ℕ → Look → Type 0
-LookWithin q NotPlain = Unit {0}
-LookWithin q (Passes seen width) = (1 ≤ width) × (width ≤ 2) × (width ≤ length q)
+abbrev pub LookWithin : List ℕ → Option Look → Type 0
+LookWithin q None = Unit {0}
+LookWithin q (Some look) = (1 ≤ look.width) × (look.width ≤ 2) × (look.width ≤ length q)
 
 -- The tier
 
@@ -178,7 +182,7 @@ abbrev pub ending : Bool → ℕ → ℕ → List ℕ → Ending
 ending fits count assigned parts = record { fits = fits; count = count; assigned = assigned; parts = parts }
 
 abbrev pub tiering_of : Ending → Tiering
-tiering_of e = record { fits = e.fits; count = e.count; assigned = e.assigned }
+tiering_of e = record { count = e.count; assigned = cond e.fits (Some e.assigned) None }
 
 -- where the tier stands in the record, the lengths noted for run names, and what the variables have
 pub record Standing : Type 0 where
@@ -243,8 +247,8 @@ root_may_hold classes q r = cond (eqb (length q) 0) true (cond (eqb (length r) 0
 abbrev pub no_parts : List ℕ
 no_parts = replicate part_places 0
 
-abbrev pub told_ending : Ending → Answer
-told_ending e = cond e.fits (Bound e.count) (None e.count)
+abbrev pub told_ending : Ending → Result Answer Refusal
+told_ending e = cond e.fits (Ok (Bound e.count)) (Ok (Answer.None e.count))
 
 abbrev pub shown_ending : Ending → List ℕ → List ℕ
 shown_ending e before = cond e.fits (shown_parts (parts_in e.assigned e.parts 0 variables) before) before

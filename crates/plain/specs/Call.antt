@@ -1,5 +1,5 @@
 -- The call: what it answers, and what it leaves in the answer buffer, on all inputs.
-use Rattle.std.specs.Prelude.{ℕ, List, length}
+use Rattle.std.specs.Prelude.{ℕ, List, length, Result}
 use Rattle.answers.specs.declared.Refusal.TheVariants.{NotPlain}
 use Rattle.answers.specs.declared.Answer.{Answer}
 use Rattle.term.specs.Language.{Language}
@@ -14,6 +14,7 @@ use Rattle.matcher.specs.Call.{refusal, told, bound_parts}
 use Rattle.plain.specs.Check.{is_plain}
 use Rattle.plain.specs.Plain.{Plain}
 use Rattle.plain.specs.Tier.{plain_answer}
+use Rattle.answers.specs.declared.Refusal.{Refusal}
 
 -- accepted input of the tier has a plain pattern
 abbrev pub AcceptedPlain : Language → List ℕ → List ℕ → Pattern × Term → Type 0
@@ -34,7 +35,7 @@ plain_checked brought pattern bytes width = checks brought width (plain_trees (l
 
 -- The answer, and the answer buffer
 
-unfoldable pub plain_of : Brought → List ℕ → List ℕ → ℕ → Answer
+unfoldable pub plain_of : Brought → List ℕ → List ℕ → ℕ → Result Answer Refusal
 plain_of brought pattern bytes width =
     answer_by refusal (λ x. told (plain_answer (language_of brought) x.0 x.1)) (plain_checked brought pattern bytes width)
 

@@ -1,5 +1,5 @@
 -- What is demanded of the plain tier, document 02's L11.
-use Rattle.std.specs.Prelude.{ℕ, ◌≤◌, ◌≡◌, ◌↔◌, List, [], true, length}
+use Rattle.std.specs.Prelude.{ℕ, ◌≤◌, ◌≡◌, ◌↔◌, List, [], true, length, Result}
 use Rattle.answers.specs.Refusal.{number_of}
 use Rattle.answers.specs.Answers.{answer_number, answer_count}
 use Rattle.answers.specs.declared.Refusal.TheVariants.{NotPlain}
@@ -21,6 +21,7 @@ use Rattle.parts.specs.Shown.{answer_width}
 use Rattle.plain.specs.Call.{AcceptedPlain, plain_of, plain_buffer_of}
 use Rattle.plain.specs.Plain.{Plain}
 use Rattle.plain.specs.Tier.{whole_tier}
+use Rattle.answers.specs.declared.Refusal.{Refusal}
 
 -- For a plain pattern and any term, on trees
 pub record PlainExact (l : Language) (q : Pattern) (t : Term) : Type 0 where
@@ -34,7 +35,7 @@ module _ (brought : Brought) where
   l = language_of brought
 
   -- Of the call's answer `a` and the final buffer `after`, for the trees of accepted input
-  pub record PlainAnswered (pattern bytes before : List ℕ) (q : Pattern) (t : Term) (a : Answer) (after : List ℕ) : Type 0 where
+  pub record PlainAnswered (pattern bytes before : List ℕ) (q : Pattern) (t : Term) (a : Result Answer Refusal) (after : List ℕ) : Type 0 where
     -- "Its words and answer buffers equal those of the full search when the latter isn't spent", for every allowance
     pub same_word : (allowance : ℕ) → (answer_number (answer_of brought pattern bytes allowance (length before)) ≡ 11 → ⊥)
         → answer_number a ≡ answer_number (answer_of brought pattern bytes allowance (length before))
@@ -49,7 +50,7 @@ module _ (brought : Brought) where
     pub count_within : answer_count a ≤ length pattern
 
 -- Accepted input is always answered
-pub record PlainDemanded (brought : Brought) (pattern bytes before : List ℕ) (a : Answer) (after : List ℕ) : Type 0 where
+pub record PlainDemanded (brought : Brought) (pattern bytes before : List ℕ) (a : Result Answer Refusal) (after : List ℕ) : Type 0 where
   pub handled : Handled brought (AcceptedPlain (language_of brought) pattern bytes) (λ x. ⊥) before (answer_number a) (answer_count a) after
   -- 23 for an accepted pattern that is not plain, whatever the record
   pub not_plain : answer_width ≤ length before → table_accepted brought.table ≡ true → brought_accepted brought ≡ true
@@ -58,7 +59,7 @@ pub record PlainDemanded (brought : Brought) (pattern bytes before : List ℕ) (
       → PlainAnswered brought pattern bytes before q t a after
 
 -- Answer, final buffer and demands in one, which only a private function's contract cites
-abbrev pub PlainCalled : Brought → List ℕ → List ℕ → List ℕ → Answer → List ℕ → Type 0
+abbrev pub PlainCalled : Brought → List ℕ → List ℕ → List ℕ → Result Answer Refusal → List ℕ → Type 0
 PlainCalled brought pattern bytes before a after =
     (a ≡ plain_of brought pattern bytes (length before))
     × ((after ≡ plain_buffer_of brought pattern bytes before) × PlainDemanded brought pattern bytes before a after)

@@ -9,11 +9,11 @@ use crate::runs::runs_among;
 use parts::is_assigned;
 use term::{Code, LIST, LONGEST_PATTERN};
 
-// What the check finds at one node: the variables seen after it, by mask, and the bytes of its own.
-#[derive(Clone, Copy)]
-pub enum Look {
-    NotPlain,
-    Passes(u64, usize),
+// What the check finds at one node of a plain pattern: the variables seen after it, by mask, and the bytes of its own.
+#[derive(Clone, Copy, Debug, PartialEq, Eq)]
+pub struct Look {
+    pub seen: u64,
+    pub width: usize,
 }
 
 // The variable v in a mask too.
@@ -27,31 +27,25 @@ pub(crate) fn with(mask: u64, v: u8) -> u64
 fn run_here(code: Code) -> usize
     ensures { result ≡ run_code code }
 {
-    match code {
-        Code::Symbol(_) => 0,
-        Code::Name(_) => 0,
-        Code::Run(_) => 1,
-        Code::Complement => 0,
-        Code::Refused => 0,
-    }
+    usize::from(matches!(code, Code::Run(_)))
 }
 
 // A list whose bytes start q: it has at most one run name.
-fn look_list(table: &[u8], q: &[u8], seen: u64) -> Look
+fn look_list(table: &[u8], q: &[u8], seen: u64) -> Option<Look>
     ensures is { result ≡ look_list table.now q.now seen }
     ensures within { LookWithin q.now result }
 {
     if q.len() < 2 {
-        return Look::NotPlain;
+        return None;
     }
     let runs = runs_among(table, &q[2..], q[1]);
     if 1 < runs.number {
-        return Look::NotPlain;
+        return None;
     }
-    Look::Passes(seen, 2)
+    Some(Look { seen, width: 2 })
 }
 
-fn look_symbol(table: &[u8], q: &[u8], seen: u64, b: u8) -> Look
+fn look_symbol(table: &[u8], q: &[u8], seen: u64, b: u8) -> Option<Look>
     requires { 0 < length q.now }
     ensures is { result ≡ look_symbol table.now q.now seen b }
     ensures within { LookWithin q.now result }
@@ -59,33 +53,45 @@ fn look_symbol(table: &[u8], q: &[u8], seen: u64, b: u8) -> Look
     if term::entry_of(table, b) == LIST {
         return look_list(table, q, seen);
     }
-    Look::Passes(seen, 1)
+    Some(Look { seen, width: 1 })
 }
 
 // No variable comes twice.
-fn look_variable(seen: u64, v: u8) -> Look
+fn look_variable(seen: u64, v: u8) -> Option<Look>
     requires { v < variables }
     ensures { result ≡ look_variable seen v }
 {
     if is_assigned(seen, v) {
-        return Look::NotPlain;
+        return None;
     }
-    Look::Passes(with(seen, v), 1)
+    Some(Look {
+        seen: with(seen, v),
+        width: 1,
+    })
+}
+
+// A byte taken for a code, whether it is one or a number of children.
+fn look_byte(code: Code, seen: u64) -> Option<Look>
+    requires { VariableBelow code }
+    ensures { result ≡ look_byte code seen }
+{
+    match code {
+        Code::Symbol(_) => Some(Look { seen, width: 1 }),
+        Code::Name(v) | Code::Run(v) => look_variable(seen, v),
+        Code::Complement | Code::Refused => None,
+    }
 }
 
 // The pattern node that starts q.
-fn look_at(table: &[u8], q: &[u8], seen: u64) -> Look
+fn look_at(table: &[u8], q: &[u8], seen: u64) -> Option<Look>
     requires { 0 < length q.now }
     ensures is { result ≡ look_of table.now q.now seen }
     ensures within { LookWithin q.now result }
 {
-    let code = term::decode(q[0]);
-    match code {
+    match term::decode(q[0]) {
         Code::Symbol(b) => look_symbol(table, q, seen, b),
-        Code::Name(v) => look_variable(seen, v),
-        Code::Run(v) => look_variable(seen, v),
-        Code::Complement => Look::NotPlain,
-        Code::Refused => Look::NotPlain,
+        Code::Name(v) | Code::Run(v) => look_variable(seen, v),
+        Code::Complement | Code::Refused => None,
     }
 }
 
@@ -94,10 +100,8 @@ fn weight(code: Code) -> u16
 {
     match code {
         Code::Symbol(_) => 0,
-        Code::Name(_) => 1,
-        Code::Run(_) => 1,
-        Code::Complement => 2,
-        Code::Refused => 2,
+        Code::Name(_) | Code::Run(_) => 1,
+        Code::Complement | Code::Refused => 2,
     }
 }
 
@@ -106,33 +110,19 @@ fn weights(s: &[u8]) -> u16
     requires { length s.now ≤ longest_pattern }
     ensures { result ≡ weights_of s.now }
 {
-    let mut found: u16 = 0;
-    let mut at: usize = 0;
-    while at < s.len() {
-        found = found + weight(term::decode(s[at]));
-        at = at + 1;
+    let mut found = 0;
+    for b in s {
+        found += weight(term::decode(*b));
     }
     found
-}
-
-fn list_bytes(table: &[u8], b: u8) -> usize
-    ensures { result ≡ root_bytes table.now (Code.Symbol b) }
-{
-    if term::entry_of(table, b) == LIST {
-        return 2;
-    }
-    0
 }
 
 fn root_bytes(table: &[u8], code: Code) -> usize
     ensures { result ≡ root_bytes table.now code }
 {
     match code {
-        Code::Symbol(b) => list_bytes(table, b),
-        Code::Name(_) => 0,
-        Code::Run(_) => 0,
-        Code::Complement => 0,
-        Code::Refused => 0,
+        Code::Symbol(b) if term::entry_of(table, b) == LIST => 2,
+        _ => 0,
     }
 }
 
@@ -154,20 +144,6 @@ fn is_light(table: &[u8], pattern: &[u8]) -> bool
     weights(&pattern[own..]) < 2
 }
 
-// A byte taken for a code, whether it is one or a number of children.
-fn look_byte(code: Code, seen: u64) -> Look
-    requires { VariableBelow code }
-    ensures { result ≡ look_byte code seen }
-{
-    match code {
-        Code::Symbol(_) => Look::Passes(seen, 1),
-        Code::Name(v) => look_variable(seen, v),
-        Code::Run(v) => look_variable(seen, v),
-        Code::Complement => Look::NotPlain,
-        Code::Refused => Look::NotPlain,
-    }
-}
-
 // A pattern of no complement and one run name at most, with no variable twice, by its bytes alone: no list has two run names.
 fn is_distinct(table: &[u8], pattern: &[u8]) -> bool
     ensures { SurelyPlain table.now pattern.now result }
@@ -179,18 +155,16 @@ fn is_distinct(table: &[u8], pattern: &[u8]) -> bool
     if term::entry_of(table, pattern[n - 1]) == LIST {
         return false;
     }
-    let mut at = root_bytes(table, term::decode(pattern[0]));
-    let mut seen: u64 = 0;
-    let mut runs: usize = 0;
-    while at < n {
-        let code = term::decode(pattern[at]);
-        let found = look_byte(code, seen);
-        let Look::Passes(next, _) = found else {
+    let own = root_bytes(table, term::decode(pattern[0]));
+    let mut seen = 0;
+    let mut runs = 0;
+    for b in &pattern[own..] {
+        let code = term::decode(*b);
+        let Some(look) = look_byte(code, seen) else {
             return false;
         };
-        seen = next;
-        runs = runs + run_here(code);
-        at = at + 1;
+        seen = look.seen;
+        runs += run_here(code);
     }
     runs < 2
 }
@@ -205,15 +179,14 @@ pub(crate) fn is_plain(table: &[u8], pattern: &[u8]) -> bool
     if is_distinct(table, pattern) {
         return true;
     }
-    let mut at: usize = 0;
-    let mut seen: u64 = 0;
+    let mut at = 0;
+    let mut seen = 0;
     while at < pattern.len() {
-        let found = look_at(table, &pattern[at..], seen);
-        let Look::Passes(next, width) = found else {
+        let Some(look) = look_at(table, &pattern[at..], seen) else {
             return false;
         };
-        seen = next;
-        at = at + width;
+        seen = look.seen;
+        at += look.width;
     }
     true
 }

@@ -7,7 +7,7 @@ ghost use Rattle.plain.specs.Bytes.{also_run, runs_among, no_runs, is_leaf};
 use term::Code;
 
 // How many run names there are, and the variable of the last of them.
-#[derive(Clone, Copy)]
+#[derive(Clone, Copy, Debug, PartialEq, Eq)]
 pub struct Runs {
     pub number: u8,
     pub variable: u8,
@@ -19,14 +19,11 @@ fn also_run(code: Code, found: Runs) -> Runs
     ensures { result ≡ also_run code found }
 {
     match code {
-        Code::Symbol(_) => found,
-        Code::Name(_) => found,
-        Code::Run(v) => Runs {
+        Code::Run(variable) => Runs {
             number: found.number + 1,
-            variable: v,
+            variable,
         },
-        Code::Complement => found,
-        Code::Refused => found,
+        _ => found,
     }
 }
 
@@ -48,10 +45,7 @@ pub(crate) fn is_leaf(table: &[u8], code: Code) -> bool
 {
     match code {
         Code::Symbol(b) => term::entry_of(table, b) == 0,
-        Code::Name(_) => false,
-        Code::Run(_) => false,
-        Code::Complement => false,
-        Code::Refused => false,
+        _ => false,
     }
 }
 
@@ -64,20 +58,18 @@ pub(crate) fn runs_among(table: &[u8], s: &[u8], n: u8) -> Runs
         number: 0,
         variable: 0,
     };
-    let mut at: usize = 0;
-    let mut left = n;
-    while 0 < left {
+    let mut at = 0;
+    for i in 0..n {
         if s.len() <= at {
             return found;
         }
-        left = left - 1;
         let code = term::decode(s[at]);
         if is_leaf(table, code) {
-            at = at + 1;
+            at += 1;
             continue;
         }
         found = also_run(code, found);
-        at = at + tree_bytes(table, &s[at..]);
+        at += tree_bytes(table, &s[at..]);
     }
     found
 }

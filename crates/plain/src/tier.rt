@@ -11,11 +11,11 @@ use crate::check::with;
 use crate::runs::{is_leaf, runs_among};
 use answers::Part;
 use parts::PARTS;
-use term::{Code, LIST, VARIABLES, extents};
+use term::{Code, LIST, Language, VARIABLES, extents};
 
 // What one turn of the tier does: a node fails, its children are entered, a list's run name has its length noted, a name takes the node of so many
 // bytes, a run name takes its run.
-#[derive(Clone, Copy)]
+#[derive(Clone, Copy, Debug, PartialEq, Eq)]
 pub enum Turn {
     Fails,
     Enters(usize),
@@ -24,18 +24,11 @@ pub enum Turn {
     TakesRun(u8),
 }
 
-// Whether all nodes of the pattern hold, the count, and which variables are assigned.
-#[derive(Clone, Copy)]
+// The count, and which variables are assigned, where all nodes of the pattern hold.
+#[derive(Clone, Copy, Debug, PartialEq, Eq)]
 pub struct Tiering {
-    pub fits: bool,
     pub count: u32,
-    pub assigned: u64,
-}
-
-fn wide(b: u8) -> usize
-    ensures { result ≡ b }
-{
-    b as usize
+    pub assigned: Option<u64>,
 }
 
 // A list against a list: where the numbers of children differ, a run name takes what its other child patterns leave.
@@ -65,36 +58,34 @@ fn list_step(table: &[u8], q: &[u8], r: &[u8]) -> Turn
 }
 
 // A symbol: its children are entered. Pattern and record start at the pair in q and r.
-fn symbol_step(table: &[u8], classes: &[u8], q: &[u8], r: &[u8], b: u8) -> Turn
+fn symbol_step(language: &Language<'_>, q: &[u8], r: &[u8], b: u8) -> Turn
     requires { 0 < length q.now }
-    ensures is { result ≡ symbol_of table.now classes.now q.now r.now b }
+    ensures is { result ≡ symbol_of language.now.table.now language.now.classes.now q.now r.now b }
     ensures within { TurnWithin q.now r.now result }
 {
-    if r.len() == 0 {
+    if r.is_empty() {
         return Turn::Fails;
     }
-    if !term::same_symbol(classes, b, r[0]) {
+    if !term::same_symbol(language.classes, b, r[0]) {
         return Turn::Fails;
     }
-    if term::entry_of(table, b) == LIST {
-        return list_step(table, q, r);
+    if term::entry_of(language.table, b) == LIST {
+        return list_step(language.table, q, r);
     }
     Turn::Enters(1)
 }
 
 // The pattern node that starts q, set against the record's bytes r.
-fn step_at(table: &[u8], classes: &[u8], q: &[u8], r: &[u8]) -> Turn
+fn step_at(language: &Language<'_>, q: &[u8], r: &[u8]) -> Turn
     requires { 0 < length q.now }
-    ensures is { result ≡ turn_of table.now classes.now q.now r.now }
+    ensures is { result ≡ turn_of language.now.table.now language.now.classes.now q.now r.now }
     ensures within { TurnWithin q.now r.now result }
 {
-    let code = term::decode(q[0]);
-    match code {
-        Code::Symbol(b) => symbol_step(table, classes, q, r, b),
-        Code::Name(v) => Turn::TakesNode(v, term::extent(table, r)),
+    match term::decode(q[0]) {
+        Code::Symbol(b) => symbol_step(language, q, r, b),
+        Code::Name(v) => Turn::TakesNode(v, term::extent(language.table, r)),
         Code::Run(v) => Turn::TakesRun(v),
-        Code::Complement => Turn::Fails,
-        Code::Refused => Turn::Fails,
+        Code::Complement | Code::Refused => Turn::Fails,
     }
 }
 
@@ -103,92 +94,86 @@ fn take(parts: &mut [u64; PARTS], assigned: u64, v: u8, node: usize, size: usize
     requires { v < variables }
     ensures { (result ≡ bit_or assigned (2 ^ v)) × (parts.new ≡ set parts.old v (packed (bound_part node size n))) }
 {
-    let i = wide(v);
-    parts[i] = parts::packed(Part::bound(node, size, n));
+    parts[usize::from(v)] = parts::packed(Part::bound(node, size, n));
     with(assigned, v)
 }
 
 // How many nodes at the start of q are symbols without children that hold, each against the byte of r at its place.
-fn leaves(table: &[u8], classes: &[u8], q: &[u8], r: &[u8]) -> usize
-    ensures is { result ≡ leaves_of table.now classes.now q.now r.now }
+fn leaves(language: &Language<'_>, q: &[u8], r: &[u8]) -> usize
+    ensures is { result ≡ leaves_of language.now.table.now language.now.classes.now q.now r.now }
     ensures within { (result ≤ length q.now) × (result ≤ length r.now) }
 {
-    let mut n: usize = 0;
-    while n < q.len() {
+    for n in 0..q.len() {
         if r.len() <= n {
             return n;
         }
-        if !is_leaf(table, term::decode(q[n])) {
+        if !is_leaf(language.table, term::decode(q[n])) {
             return n;
         }
-        if !term::same_symbol(classes, q[n], r[n]) {
+        if !term::same_symbol(language.classes, q[n], r[n]) {
             return n;
         }
-        n = n + 1;
     }
-    n
+    q.len()
 }
 
 // A plain pattern against a record. A run name's length is known from the moment that its list is entered, so no open node is kept.
 pub(crate) fn tier(
-    table: &[u8],
-    classes: &[u8],
+    language: &Language<'_>,
     pattern: &[u8],
     record: &[u8],
     parts: &mut [u64; PARTS],
 ) -> Tiering
     requires { length pattern.now ≤ longest_pattern }
-    ensures is { result ≡ tiering_of (tier_on table.now classes.now pattern.now «record».now parts.old) }
-    ensures parts { parts.new ≡ (tier_on table.now classes.now pattern.now «record».now parts.old).parts }
+    ensures is { result ≡ tiering_of (tier_on language.now.table.now language.now.classes.now pattern.now «record».now parts.old) }
+    ensures parts { parts.new ≡ (tier_on language.now.table.now language.now.classes.now pattern.now «record».now parts.old).parts }
 {
     let mut lengths = [1u8; VARIABLES];
-    let mut at: usize = 0;
-    let mut node: usize = 0;
-    let mut count: u32 = 0;
-    let mut assigned: u64 = 0;
+    let mut at = 0;
+    let mut node = 0;
+    let mut count = 0;
+    let mut assigned = 0;
     while at < pattern.len() {
-        let turn = step_at(table, classes, &pattern[at..], &record[node..]);
-        count = count + 1;
+        let turn = step_at(language, &pattern[at..], &record[node..]);
+        count += 1;
         match turn {
             Turn::Fails => {
                 return Tiering {
-                    fits: false,
-                    count: count,
-                    assigned: assigned,
+                    count,
+                    assigned: None,
                 };
             }
             Turn::Enters(width) => {
-                at = at + width;
-                node = node + width;
-                let n = leaves(table, classes, &pattern[at..], &record[node..]);
-                at = at + n;
-                node = node + n;
-                count = count + n as u32;
+                at += width;
+                node += width;
+                let n = leaves(language, &pattern[at..], &record[node..]);
+                at += n;
+                node += n;
+                count += n as u32;
             }
             Turn::Notes(v, n) => {
-                let i = wide(v);
+                let i = usize::from(v);
                 lengths[i] = n;
-                at = at + 2;
-                node = node + 2;
+                at += 2;
+                node += 2;
             }
             Turn::TakesNode(v, size) => {
                 assigned = take(parts, assigned, v, node, size, 1);
-                at = at + 1;
-                node = node + size;
+                at += 1;
+                node += size;
             }
             Turn::TakesRun(v) => {
-                let i = wide(v);
+                let i = usize::from(v);
                 let n = lengths[i];
-                let size = extents(table, &record[node..], n);
+                let size = extents(language.table, &record[node..], n);
                 assigned = take(parts, assigned, v, node, size, n);
-                at = at + 1;
-                node = node + size;
+                at += 1;
+                node += size;
             }
         }
     }
     Tiering {
-        fits: true,
-        count: count,
-        assigned: assigned,
+        count,
+        assigned: Some(assigned),
     }
 }

@@ -9,9 +9,7 @@ use lib.ListN.{length}
 use Rattle.answers.specs.Answers.{played_index}
 use Rattle.answers.specs.declared.Played.{Played}
 use Rattle.answers.specs.declared.Refusal.TheVariants.{Table, Class, Directory, Loose, Turns}
-use Rattle.byte_answers.specs.Answers.{checked_index}
-use Rattle.byte_answers.specs.declared.Checked.{Checked}
-use Rattle.byte_answers.specs.declared.Checked.TheVariants.{Accepted}
+use Rattle.answers.specs.Shown.{fault_index}
 use Rattle.term.specs.Language.{Language}
 use Rattle.term.specs.Pattern.{Pattern}
 use Rattle.term.specs.Table.{table_accepted}
@@ -24,7 +22,6 @@ use Rattle.call.specs.Call.{checks, answer_by}
 use Rattle.call.specs.Verdict.{Verdict, passed, fault, check, reading, both}
 use Rattle.sheet.specs.Check.{longest_sheet}
 use Rattle.sheet.specs.Entry.{entries}
-use Rattle.sheet.specs.declared.Editions.TheVariants.{Only}
 use Rattle.sheet.proofs.Contents.{contents_passed}
 use Rattle.rules.specs.Call.{rules_by, rules_of}
 use Rattle.rules.proofs.Rules.{rules_few}
@@ -35,6 +32,9 @@ use Rattle.game.specs.Move.{Rule, Game}
 use Rattle.game.specs.Search.{Ruling, forced, unforced, stopped, Opening, unneeded, by_rule, by_pass, Turn, to, nowhere, spends, Allowing, each, turn, goal_at, goal_first, at_turn, unless_forced, loader_tries, loader_turn, sender_turn, play}
 use Rattle.qonveshir.specs.Shown.{largest}
 use Rattle.qonveshir.proofs.Indices.{among_index, entries_few, contents_index}
+use Rattle.std.specs.Prelude.{Result, Ok, Err, Some}
+use Rattle.answers.specs.declared.Fault.{Fault}
+use Rattle.answers.specs.Fault.{fault_at}
 
 -- the entry at fault and the rules that pass, of one side
 
@@ -77,15 +77,15 @@ side_within brought rules templates = go (check_own brought rules) refl
     alike true k = within_sheet (0 + length ps) (length ps) (templates_from l 0 ps (entries templates)) (omega (arith, k)) k (templates_within l 0 ps (entries templates))
     alike false k = omega arith
 
-    by : (x : Checked) → checked_index x ≡ 0 → length ps ≤ longest_sheet → Within longest_sheet longest_sheet (templates_by l ps templates x)
-    by (Checked.Refused r i) e k = omega (arith, e)
-    by (Accepted n) e k = alike (eqb n (length ps)) k
+    by : (x : Result ℕ Fault) → fault_index x ≡ 0 → length ps ≤ longest_sheet → Within longest_sheet longest_sheet (templates_by l ps templates x)
+    by (Err f) e k = omega (arith, e)
+    by (Ok n) e k = alike (eqb n (length ps)) k
 
-    go : (x : Checked) → check_own brought rules ≡ x → Within longest_sheet longest_sheet (side_by l templates (rules_by x ps))
-    go (Checked.Refused r i) e = omega (arith, rw e at (contents_index false (Only brought.edition) brought.table brought.list rules))
-    go (Accepted n) e =
-        by (check_templates l templates) (among_index (Only brought.edition) templates)
-        (omega (arith, rules_few l (entries rules), entries_few rules n (contents_passed false (Only brought.edition) brought.table brought.list rules n e).sheet))
+    go : (x : Result ℕ Fault) → check_own brought rules ≡ x → Within longest_sheet longest_sheet (side_by l templates (rules_by x ps))
+    go (Err f) e = omega (arith, rw e at (contents_index false (Some brought.edition) brought.table brought.list rules))
+    go (Ok n) e =
+        by (check_templates l templates) (among_index (Some brought.edition) templates)
+        (omega (arith, rules_few l (entries rules), entries_few rules n (contents_passed false (Some brought.edition) brought.table brought.list rules n e).sheet))
 
 -- how the loader begins
 
@@ -152,11 +152,11 @@ played_index_holds turns h bytes allowance =
     l : Language
     l = language_of h.brought
 
-    answers : Trees → Played
+    answers : Trees → Result Played Fault
     answers x = told allowance (play l (each allowance) (game x) turns x.1.1)
 
     go : (a b c : Bool) (v w : Verdict (List Rule)) (q : Parsed Pattern) (t : Parsed Term) → Within longest_sheet longest_sheet v → Within longest_sheet longest_sheet w
-        → played_index (answer_by Played.Refused answers (check a Turns (check b Table (check c Class (both (both v w) (both (reading q) (reading t))))))) ≤ longest_sheet + 65
+        → played_index (answer_by (λ r i. Err (fault_at r i)) answers (check a Turns (check b Table (check c Class (both (both v w) (both (reading q) (reading t))))))) ≤ longest_sheet + 65
     go false b c v w q t i j = omega arith
     go true false c v w q t i j = omega arith
     go true true false v w q t i j = omega arith
@@ -168,5 +168,5 @@ played_index_holds turns h bytes allowance =
         let g : Game = record { loader = rs; sender = ss; goal = p } in
         omega (arith, i, told_index allowance (play l (each allowance) g turns u), play_index l (each allowance) g turns u)
 
-pub played_fits : (turns : ℕ) (h : Handed) (bytes : List ℕ) (allowance : ℕ) (a : Played) → a ≡ play_of turns h bytes allowance → played_index a ≤ largest
+pub played_fits : (turns : ℕ) (h : Handed) (bytes : List ℕ) (allowance : ℕ) (a : Result Played Fault) → a ≡ play_of turns h bytes allowance → played_index a ≤ largest
 played_fits turns h bytes allowance a e = omega (arith, ap played_index e, played_index_holds turns h bytes allowance)

@@ -1,8 +1,7 @@
 -- What the interface shows of the calls on a station, what they leave of it and of the bytes lent for its records, and what is demanded of that.
-use Rattle.std.specs.Prelude.{ℕ, ◌≡◌, List}
+use Rattle.std.specs.Prelude.{ℕ, ◌≡◌, List, Result, Option, Some, None}
 use Rattle.answers.specs.declared.Applied.{Applied}
-use Rattle.byte_answers.specs.Answers.{change_number}
-use Rattle.byte_answers.specs.declared.Change.{Change}
+use Rattle.answers.specs.Shown.{refusal_number}
 use Rattle.term.specs.declared.Edition.{Edition}
 use Rattle.reader.specs.Brought.{Brought, bringing}
 use Rattle.station.specs.Call.{Outcome as Ended, outcome as ended, new_of, keep_of, return_of, apply_of}
@@ -12,21 +11,20 @@ use Rattle.qonveshir.specs.Edition.{told_by, no_edition, none_written, DemandedI
 use Rattle.qonveshir.specs.Shown.{outcome, applied_shown}
 use Rattle.qonveshir.specs.declared.Outcome.{Outcome}
 use Rattle.qonveshir.specs.declared.Written.{Written}
-use Rattle.qonveshir.specs.declared.Told.{Told}
-use Rattle.qonveshir.specs.declared.Told.TheVariants.{In, Nothing}
+use Rattle.answers.specs.declared.Refusal.{Refusal}
 
 -- a change has no index and no count
-abbrev pub change_shown : Change → Outcome
-change_shown c = outcome (change_number c) 0 0
+abbrev pub change_shown : Result (Unit {0}) Refusal → Outcome
+change_shown c = outcome (refusal_number c) 0 0
 
 -- what a call leaves, with its answer as it is shown
 abbrev pub showing : {A B : Type 0} → (A → B) → Ended A → Ended B
 showing f o = ended (f o.answer) o.station o.records
 
 -- the same of a call that is told its edition by a number
-abbrev pub showing_in : {A B : Type 0} → (A → B) → B → Told → (Edition → Ended A) → Station → List ℕ → Ended B
-showing_in f none Nothing o s l = ended none s l
-showing_in f none (In e) o s l = showing f (o e)
+abbrev pub showing_in : {A B : Type 0} → (A → B) → B → Option Edition → (Edition → Ended A) → Station → List ℕ → Ended B
+showing_in f none None o s l = ended none s l
+showing_in f none (Some e) o s l = showing f (o e)
 
 -- Each call: what it shows and leaves, and what is demanded of its answer and of what it leaves
 
@@ -46,7 +44,7 @@ ApplyShown brought rule template allowance s l r s' l' =
     (ended r s' l' ≡ showing applied_shown o) × ApplyDemanded brought rule template allowance s l o.answer s' l'
 
 module _ (edition : ℕ) (table classes : List ℕ) where
-  abbrev new_by : List ℕ → Station → List ℕ → Edition → Ended Change
+  abbrev new_by : List ℕ → Station → List ℕ → Edition → Ended (Result (Unit {0}) Refusal)
   new_by bytes s l e = new_of (bringing e table classes) bytes s l
 
   abbrev pub NewShownIn : List ℕ → Station → List ℕ → Outcome → Station → List ℕ → Type 0
@@ -54,7 +52,7 @@ module _ (edition : ℕ) (table classes : List ℕ) where
       (ended r s' l' ≡ showing_in change_shown no_edition (told_by edition) (new_by bytes s l) s l)
       × DemandedIn (told_by edition) (λ e. NewDemanded (bringing e table classes) bytes s l (new_by bytes s l e).answer s' l')
 
-  abbrev apply_by : List ℕ → List ℕ → ℕ → Station → List ℕ → Edition → Ended Applied
+  abbrev apply_by : List ℕ → List ℕ → ℕ → Station → List ℕ → Edition → Ended (Result Applied Refusal)
   apply_by rule template allowance s l e = apply_of (bringing e table classes) rule template allowance s l
 
   abbrev pub ApplyShownIn : List ℕ → List ℕ → ℕ → Station → List ℕ → Written → Station → List ℕ → Type 0

@@ -6,7 +6,7 @@ ghost use Rattle.example.specs.Demands.{DemandedOf};
 ghost use Rattle.qonveshir.specs.Example.{example_in, example_left, ExampleDemandedIn};
 ghost use Rattle.qonveshir.specs.Shown.{applied_shown};
 
-use crate::{Told, Written, applied_shown, edition_of, none_written};
+use crate::{Written, applied_shown, edition_of, none_written};
 
 // Writes the least record of at most so many bytes that satisfies a pattern.
 #[unsafe(no_mangle)]
@@ -21,8 +21,7 @@ pub extern "C" fn qonveshir_example(
     ensures contents { output.new ≡ output_of (simply table.now) pattern.now size allowance output.old }
     ensures demand { DemandedOf (simply table.now) pattern.now size allowance output.old output.new }
 {
-    let a = example::example(table, pattern, size, allowance, output);
-    applied_shown(a)
+    applied_shown(example::example(table, pattern, size, allowance, output))
 }
 
 // The same in an edition, up to class.
@@ -40,10 +39,8 @@ pub extern "C" fn qonveshir_example_in(
     ensures contents { output.new ≡ example_left edition table.now classes.now pattern.now size allowance output.old }
     ensures demand { ExampleDemandedIn edition table.now classes.now pattern.now size allowance output.old output.new }
 {
-    let t = edition_of(edition);
-    let Told::In(e) = t else {
+    let Some(edition) = edition_of(edition) else {
         return none_written();
     };
-    let a = example::example_in(e, table, classes, pattern, size, allowance, output);
-    applied_shown(a)
+    applied_shown(example::example_in(edition, table, classes, pattern, size, allowance, output))
 }

@@ -5,15 +5,7 @@ ghost use Rattle.game.specs.Handed.{handed, handed_in};
 ghost use Rattle.qonveshir.specs.Shown.{largest};
 ghost use Rattle.qonveshir.specs.Game.{played_shown, play_shown, Demands};
 
-use crate::{Outcome, shown};
-use answers::Played;
-
-fn played_shown(p: Played) -> Outcome
-    requires { played_index p ≤ largest }
-    ensures { result ≡ played_shown p }
-{
-    shown(p.number(), p.index(), p.count() as u64)
-}
+use crate::{Outcome, outcome_of};
 
 // What the loader can bring about in so many turns.
 #[unsafe(no_mangle)]
@@ -31,7 +23,7 @@ pub extern "C" fn qonveshir_play(
     ensures is { result ≡ play_shown turns (handed table loader_rules loader_templates sender_rules sender_templates goal) «record» allowance }
     ensures demand { Demands turns (handed table loader_rules loader_templates sender_rules sender_templates goal) «record» allowance }
 {
-    let p = game::play(
+    outcome_of(game::play(
         turns,
         table,
         loader_rules,
@@ -41,8 +33,7 @@ pub extern "C" fn qonveshir_play(
         goal,
         record,
         allowance,
-    );
-    played_shown(p)
+    ))
 }
 
 // The same up to class.
@@ -62,7 +53,7 @@ pub extern "C" fn qonveshir_play_in(
     ensures is { result ≡ play_shown turns (handed_in table classes loader_rules loader_templates sender_rules sender_templates goal) «record» allowance }
     ensures demand { Demands turns (handed_in table classes loader_rules loader_templates sender_rules sender_templates goal) «record» allowance }
 {
-    let p = game::play_in(
+    outcome_of(game::play_in(
         turns,
         table,
         classes,
@@ -73,6 +64,5 @@ pub extern "C" fn qonveshir_play_in(
         goal,
         record,
         allowance,
-    );
-    played_shown(p)
+    ))
 }

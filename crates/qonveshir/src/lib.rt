@@ -6,9 +6,8 @@ mod game_calls;
 mod stations;
 
 ghost use Rattle.std.specs.Prelude.{◌≡◌, true, false, ◌≤◌, length};
-ghost use Rattle.std.proofs.Math.Option.{none, some};
-ghost use Rattle.answers.specs.Answers.{rule_index, applied_length};
-ghost use Rattle.byte_answers.specs.Answers.{checked_index, writing_index};
+ghost use Rattle.answers.specs.Answers.{applied_length};
+ghost use Rattle.answers.specs.Shown.{fault_index};
 ghost use Rattle.reader.specs.Brought.{simply};
 ghost use Rattle.cost.specs.Call.{cost_of};
 ghost use Rattle.cost.specs.Demands.{Demanded as CostDemanded};
@@ -38,8 +37,8 @@ ghost use Rattle.qonveshir.specs.Told.{apply_in, apply_left, ApplyDemandedIn, lo
 ghost use Rattle.qonveshir.specs.Shown.{largest, outcome, part_shown, answer_shown, rules_shown, writing_shown, check_shown, place_shown, cost_shown, move_shown};
 ghost use Rattle.qonveshir.specs.Shown.{as_written, applied_shown};
 
-use answers::{Answer, Applied, Cost, Refusal, RuleAnswer};
-use byte_answers::{Checked, Move, Writing};
+use answers::{Applied, Fault, Refusal, Shown};
+use byte_answers::Place;
 use term::Edition;
 
 // Document 01's number, 0 where nothing is refused; the index of the rule shown or of the entry at fault, else 0; and the count.
@@ -49,13 +48,6 @@ pub struct Outcome {
     pub number: u32,
     pub index: u32,
     pub count: u64,
-}
-
-// What a number tells of the edition.
-#[derive(Clone, Copy)]
-enum Told {
-    In(Edition),
-    Nothing,
 }
 
 // Where an entry lies in its sheet, or the number of the refusal.
@@ -76,109 +68,79 @@ pub struct Written {
     pub count: u64,
 }
 
-fn shown(number: u8, index: usize, count: u64) -> Outcome
-    requires { index ≤ largest }
-    ensures { result ≡ outcome number index count }
+// An answer as its number, index and count.
+fn outcome_of<A: Shown + Copy>(answer: A) -> Outcome
+    requires { A.shown_index answer ≤ largest }
+    ensures { result ≡ outcome (A.shown_number answer) (A.shown_index answer) (A.shown_count answer) }
 {
     Outcome {
-        number: number as u32,
-        index: index as u32,
-        count: count,
+        number: u32::from(answer.number()),
+        index: answer.index() as u32,
+        count: answer.count(),
     }
 }
 
-fn answer_shown(a: Answer) -> Outcome
-    ensures { result ≡ answer_shown a }
+// A check has no count.
+fn check_shown(checked: Result<usize, Fault>) -> Outcome
+    requires { fault_index checked ≤ largest }
+    ensures { result ≡ check_shown checked }
 {
-    shown(a.number(), 0, a.count() as u64)
+    Outcome {
+        count: 0,
+        ..outcome_of(checked)
+    }
 }
 
-fn rules_shown(a: RuleAnswer) -> Outcome
-    requires { rule_index a ≤ largest }
-    ensures { result ≡ rules_shown a }
+fn place_shown(place: Result<Place, Refusal>) -> Part
+    ensures { result ≡ place_shown place }
 {
-    shown(a.number(), a.index(), a.count())
-}
-
-fn part_shown(number: u8, offset: u16, length: u16) -> Part
-    ensures { result ≡ part_shown number offset length }
-{
+    let (offset, length) = match place {
+        Ok(p) => (p.offset, p.length),
+        Err(_) => (0, 0),
+    };
     Part {
-        number: number as u32,
-        offset: offset as u32,
-        length: length as u32,
+        number: u32::from(place.number()),
+        offset: u32::from(offset),
+        length: u32::from(length),
     }
 }
 
-fn check_shown(c: Checked) -> Outcome
-    requires { checked_index c ≤ largest }
-    ensures { result ≡ check_shown c }
+fn applied_shown(applied: Result<Applied, Refusal>) -> Written
+    requires { applied_length applied ≤ largest }
+    ensures { result ≡ applied_shown applied }
 {
-    shown(c.number(), c.index(), 0)
-}
-
-fn cost_shown(c: Cost) -> Outcome
-    ensures { result ≡ cost_shown c }
-{
-    shown(c.number(), 0, c.count() as u64)
-}
-
-fn move_shown(m: Move) -> Outcome
-    ensures { result ≡ move_shown m }
-{
-    shown(m.number(), 0, m.length() as u64)
-}
-
-fn writing_shown(w: Writing) -> Outcome
-    requires { writing_index w ≤ largest }
-    ensures { result ≡ writing_shown w }
-{
-    shown(w.number(), w.index(), w.length() as u64)
-}
-
-fn as_written(number: u8, length: usize, n: u64) -> Written
-    requires { length ≤ largest }
-    ensures { result ≡ as_written number length n }
-{
+    let length = match applied {
+        Ok(a) => a.length(),
+        Err(_) => 0,
+    };
     Written {
-        number: number as u32,
+        number: u32::from(applied.number()),
         length: length as u32,
-        count: n,
+        count: applied.count(),
     }
 }
 
-fn applied_shown(a: Applied) -> Written
-    requires { applied_length a ≤ largest }
-    ensures { result ≡ applied_shown a }
-{
-    as_written(a.number(), a.length(), a.count() as u64)
-}
-
-fn edition_of(number: u32) -> Told
+fn edition_of(number: u32) -> Option<Edition>
     ensures { result ≡ told_by number }
 {
-    if number == 1 {
-        return Told::In(Edition::One);
+    match number {
+        1 => Some(Edition::One),
+        2 => Some(Edition::Two),
+        _ => None,
     }
-    if number == 2 {
-        return Told::In(Edition::Two);
-    }
-    Told::Nothing
 }
 
 // Any other number is 9, before all other checks.
 fn no_edition() -> Outcome
     ensures { result ≡ no_edition }
 {
-    let r = Refusal::Directory;
-    shown(r.number(), 0, 0)
+    outcome_of(Refusal::Directory)
 }
 
 fn none_written() -> Written
     ensures { result ≡ none_written }
 {
-    let r = Refusal::Directory;
-    as_written(r.number(), 0, 0)
+    applied_shown(Err(Refusal::Directory))
 }
 
 // One pattern against one record.
@@ -194,8 +156,7 @@ pub extern "C" fn qonveshir_match(
     ensures buffer { answer.new ≡ buffer_of (simply table.now) pattern.now «record».now allowance answer.old }
     ensures demand { DemandedOf (simply table.now) pattern.now «record».now answer.old allowance answer.new }
 {
-    let a = matcher::match_one(table, pattern, record, allowance, answer);
-    answer_shown(a)
+    outcome_of(matcher::match_one(table, pattern, record, allowance, answer))
 }
 
 // The same in an edition, up to class.
@@ -213,12 +174,10 @@ pub extern "C" fn qonveshir_match_in(
     ensures buffer { answer.new ≡ match_left edition table.now classes.now pattern.now «record».now allowance answer.old }
     ensures demand { MatchDemandedIn edition table.now classes.now pattern.now «record».now answer.old allowance answer.new }
 {
-    let t = edition_of(edition);
-    let Told::In(e) = t else {
+    let Some(edition) = edition_of(edition) else {
         return no_edition();
     };
-    let a = matcher::match_in(e, table, classes, pattern, record, allowance, answer);
-    answer_shown(a)
+    outcome_of(matcher::match_in(edition, table, classes, pattern, record, allowance, answer))
 }
 
 // The answer after the one with the given run lengths.
@@ -235,8 +194,7 @@ pub extern "C" fn qonveshir_next(
     ensures buffer { answer.new ≡ next_buffer_of (simply table.now) pattern.now «record».now given.now allowance answer.old }
     ensures demand { NextDemandedOf (simply table.now) pattern.now «record».now given.now answer.old allowance answer.new }
 {
-    let a = matcher::next(table, pattern, record, given, allowance, answer);
-    answer_shown(a)
+    outcome_of(matcher::next(table, pattern, record, given, allowance, answer))
 }
 
 // The same in an edition, up to class.
@@ -255,12 +213,12 @@ pub extern "C" fn qonveshir_next_in(
     ensures buffer { answer.new ≡ next_left edition table.now classes.now pattern.now «record».now given.now allowance answer.old }
     ensures demand { NextDemandedIn edition table.now classes.now pattern.now «record».now given.now answer.old allowance answer.new }
 {
-    let t = edition_of(edition);
-    let Told::In(e) = t else {
+    let Some(edition) = edition_of(edition) else {
         return no_edition();
     };
-    let a = matcher::next_in(e, table, classes, pattern, record, given, allowance, answer);
-    answer_shown(a)
+    outcome_of(matcher::next_in(
+        edition, table, classes, pattern, record, given, allowance, answer,
+    ))
 }
 
 // One plain pattern against one record, without an allowance.
@@ -275,8 +233,7 @@ pub extern "C" fn qonveshir_match_plain(
     ensures buffer { answer.new ≡ plain_buffer_of (simply table.now) pattern.now «record».now answer.old }
     ensures demand { PlainDemandedOf (simply table.now) pattern.now «record».now answer.old answer.new }
 {
-    let a = plain::match_plain(table, pattern, record, answer);
-    answer_shown(a)
+    outcome_of(plain::match_plain(table, pattern, record, answer))
 }
 
 // The same in an edition, up to class.
@@ -293,12 +250,10 @@ pub extern "C" fn qonveshir_match_plain_in(
     ensures buffer { answer.new ≡ plain_left edition table.now classes.now pattern.now «record».now answer.old }
     ensures demand { PlainDemandedIn edition table.now classes.now pattern.now «record».now answer.old answer.new }
 {
-    let t = edition_of(edition);
-    let Told::In(e) = t else {
+    let Some(edition) = edition_of(edition) else {
         return no_edition();
     };
-    let a = plain::match_plain_in(e, table, classes, pattern, record, answer);
-    answer_shown(a)
+    outcome_of(plain::match_plain_in(edition, table, classes, pattern, record, answer))
 }
 
 // A rule sheet against one record.
@@ -310,12 +265,11 @@ pub extern "C" fn qonveshir_match_rules(
     allowance: u32,
     answer: &mut [u16],
 ) -> Outcome
-    ensures is { result ≡ rules_shown (rules_answer (in_sheet rules.now table.now none) rules.now «record».now allowance (length answer.old)) }
-    ensures buffer { answer.new ≡ rules_buffer (in_sheet rules.now table.now none) rules.now «record».now allowance answer.old }
-    ensures demand { RulesDemandedOf (in_sheet rules.now table.now none) rules.now «record».now answer.old allowance answer.new }
+    ensures is { result ≡ rules_shown (rules_answer (in_sheet rules.now table.now None) rules.now «record».now allowance (length answer.old)) }
+    ensures buffer { answer.new ≡ rules_buffer (in_sheet rules.now table.now None) rules.now «record».now allowance answer.old }
+    ensures demand { RulesDemandedOf (in_sheet rules.now table.now None) rules.now «record».now answer.old allowance answer.new }
 {
-    let a = rules::match_rules(table, rules, record, allowance, answer);
-    rules_shown(a)
+    outcome_of(rules::match_rules(table, rules, record, allowance, answer))
 }
 
 // The same up to class; the sheet tells the edition.
@@ -328,12 +282,11 @@ pub extern "C" fn qonveshir_match_rules_in(
     allowance: u32,
     answer: &mut [u16],
 ) -> Outcome
-    ensures is { result ≡ rules_shown (rules_answer (in_sheet rules.now table.now (some classes.now)) rules.now «record».now allowance (length answer.old)) }
-    ensures buffer { answer.new ≡ rules_buffer (in_sheet rules.now table.now (some classes.now)) rules.now «record».now allowance answer.old }
-    ensures demand { RulesDemandedOf (in_sheet rules.now table.now (some classes.now)) rules.now «record».now answer.old allowance answer.new }
+    ensures is { result ≡ rules_shown (rules_answer (in_sheet rules.now table.now (Some classes.now)) rules.now «record».now allowance (length answer.old)) }
+    ensures buffer { answer.new ≡ rules_buffer (in_sheet rules.now table.now (Some classes.now)) rules.now «record».now allowance answer.old }
+    ensures demand { RulesDemandedOf (in_sheet rules.now table.now (Some classes.now)) rules.now «record».now answer.old allowance answer.new }
 {
-    let a = rules::match_rules_in(table, classes, rules, record, allowance, answer);
-    rules_shown(a)
+    outcome_of(rules::match_rules_in(table, classes, rules, record, allowance, answer))
 }
 
 // Writes a sheet of joined records.
@@ -348,8 +301,7 @@ pub extern "C" fn qonveshir_write_sheet(
     ensures contents { output.new ≡ output_after (simply table.now) records.now lengths.now output.old }
     ensures demand { SheetDemanded (simply table.now) records.now lengths.now output.old result.number result.count output.new }
 {
-    let w = writing::write_sheet(table, records, lengths, output);
-    writing_shown(w)
+    outcome_of(writing::write_sheet(table, records, lengths, output))
 }
 
 // The same in an edition, with a class list.
@@ -366,12 +318,10 @@ pub extern "C" fn qonveshir_write_sheet_in(
     ensures contents { output.new ≡ write_left edition table.now classes.now records.now lengths.now output.old }
     ensures demand { WriteDemandedIn edition table.now classes.now records.now lengths.now output.old result.number result.count output.new }
 {
-    let t = edition_of(edition);
-    let Told::In(e) = t else {
+    let Some(edition) = edition_of(edition) else {
         return no_edition();
     };
-    let w = writing::write_sheet_in(e, table, classes, records, lengths, output);
-    writing_shown(w)
+    outcome_of(writing::write_sheet_in(edition, table, classes, records, lengths, output))
 }
 
 // Where an entry lies in its sheet.
@@ -379,14 +329,13 @@ pub extern "C" fn qonveshir_write_sheet_in(
 pub extern "C" fn qonveshir_entry(sheet: &[u8], index: u32) -> Part
     ensures { result ≡ place_shown (place_of sheet.now index) }
 {
-    let place = sheet::place_of(sheet, index as usize);
-    part_shown(place.number(), place.offset(), place.length())
+    place_shown(sheet::place_of(sheet, index as usize))
 }
 
 // Checks a sheet of at most 64 patterns.
 #[unsafe(no_mangle)]
 pub extern "C" fn qonveshir_check_rules(table: &[u8], sheet: &[u8]) -> Outcome
-    ensures { result ≡ check_shown (check_rules table.now none sheet.now) }
+    ensures { result ≡ check_shown (check_rules table.now None sheet.now) }
 {
     check_shown(sheet::check_rules(table, sheet))
 }
@@ -394,7 +343,7 @@ pub extern "C" fn qonveshir_check_rules(table: &[u8], sheet: &[u8]) -> Outcome
 // The same with a class list.
 #[unsafe(no_mangle)]
 pub extern "C" fn qonveshir_check_rules_in(table: &[u8], classes: &[u8], sheet: &[u8]) -> Outcome
-    ensures { result ≡ check_shown (check_rules table.now (some classes.now) sheet.now) }
+    ensures { result ≡ check_shown (check_rules table.now (Some classes.now) sheet.now) }
 {
     check_shown(sheet::check_rules_in(table, classes, sheet))
 }
@@ -402,7 +351,7 @@ pub extern "C" fn qonveshir_check_rules_in(table: &[u8], classes: &[u8], sheet: 
 // Checks a sheet of records.
 #[unsafe(no_mangle)]
 pub extern "C" fn qonveshir_check_states(table: &[u8], sheet: &[u8]) -> Outcome
-    ensures { result ≡ check_shown (check_states table.now none sheet.now) }
+    ensures { result ≡ check_shown (check_states table.now None sheet.now) }
 {
     check_shown(sheet::check_states(table, sheet))
 }
@@ -410,7 +359,7 @@ pub extern "C" fn qonveshir_check_states(table: &[u8], sheet: &[u8]) -> Outcome
 // The same with a class list.
 #[unsafe(no_mangle)]
 pub extern "C" fn qonveshir_check_states_in(table: &[u8], classes: &[u8], sheet: &[u8]) -> Outcome
-    ensures { result ≡ check_shown (check_states table.now (some classes.now) sheet.now) }
+    ensures { result ≡ check_shown (check_states table.now (Some classes.now) sheet.now) }
 {
     check_shown(sheet::check_states_in(table, classes, sheet))
 }
@@ -421,8 +370,7 @@ pub extern "C" fn qonveshir_cost(table: &[u8], pattern: &[u8]) -> Outcome
     ensures is { result ≡ cost_shown (cost_of (simply table.now) pattern.now) }
     ensures demand { CostDemanded (simply table.now) pattern.now (cost_of (simply table.now) pattern.now) }
 {
-    let c = cost::cost_of(table, pattern);
-    cost_shown(c)
+    outcome_of(cost::cost_of(table, pattern))
 }
 
 // The same in an edition, with a class list.
@@ -436,12 +384,10 @@ pub extern "C" fn qonveshir_cost_in(
     ensures is { result ≡ cost_in edition table.now classes.now pattern.now }
     ensures demand { CostDemandedIn edition table.now classes.now pattern.now }
 {
-    let t = edition_of(edition);
-    let Told::In(e) = t else {
+    let Some(edition) = edition_of(edition) else {
         return no_edition();
     };
-    let c = cost::cost_in(e, table, classes, pattern);
-    cost_shown(c)
+    outcome_of(cost::cost_in(edition, table, classes, pattern))
 }
 
 // Writes the stored form of a record.
@@ -451,8 +397,7 @@ pub extern "C" fn qonveshir_store(table: &[u8], record: &[u8], output: &mut [u8]
     ensures contents { output.new ≡ output_moved (storing (simply table.now) «record».now) output.old }
     ensures demand { StoreDemanded (simply table.now) «record».now output.old result.number result.count output.new }
 {
-    let m = stored::store(table, record, output);
-    move_shown(m)
+    outcome_of(stored::store(table, record, output))
 }
 
 // The same in an edition, with a class list.
@@ -468,12 +413,10 @@ pub extern "C" fn qonveshir_store_in(
     ensures contents { output.new ≡ store_left edition table.now classes.now «record».now output.old }
     ensures demand { StoreDemandedIn edition table.now classes.now «record».now output.old result.number result.count output.new }
 {
-    let t = edition_of(edition);
-    let Told::In(e) = t else {
+    let Some(edition) = edition_of(edition) else {
         return no_edition();
     };
-    let m = stored::store_in(e, table, classes, record, output);
-    move_shown(m)
+    outcome_of(stored::store_in(edition, table, classes, record, output))
 }
 
 // Writes the old form of a stored record.
@@ -483,8 +426,7 @@ pub extern "C" fn qonveshir_restore(table: &[u8], stored: &[u8], output: &mut [u
     ensures contents { output.new ≡ output_moved (restoring (simply table.now) stored.now) output.old }
     ensures demand { RestoreDemanded (simply table.now) stored.now output.old result.number result.count output.new }
 {
-    let m = stored::restore(table, stored, output);
-    move_shown(m)
+    outcome_of(stored::restore(table, stored, output))
 }
 
 // The same in an edition, with a class list.
@@ -500,23 +442,20 @@ pub extern "C" fn qonveshir_restore_in(
     ensures contents { output.new ≡ restore_left edition table.now classes.now stored.now output.old }
     ensures demand { RestoreDemandedIn edition table.now classes.now stored.now output.old result.number result.count output.new }
 {
-    let t = edition_of(edition);
-    let Told::In(e) = t else {
+    let Some(edition) = edition_of(edition) else {
         return no_edition();
     };
-    let m = stored::restore_in(e, table, classes, stored, output);
-    move_shown(m)
+    outcome_of(stored::restore_in(edition, table, classes, stored, output))
 }
 
 // Splices an edition 1 record.
 #[unsafe(no_mangle)]
 pub extern "C" fn qonveshir_splice_record(table: &[u8], record: &[u8], output: &mut [u8]) -> Outcome
-    ensures shown { result ≡ move_shown (shown_of (call true table.now none (length output.old) «record».now)) }
-    ensures contents { output.new ≡ output_spliced output.old (call true table.now none (length output.old) «record».now) }
-    ensures demand { SpliceDemanded true table.now none «record».now output.old result.number result.count output.new }
+    ensures shown { result ≡ move_shown (shown_of (call true table.now None (length output.old) «record».now)) }
+    ensures contents { output.new ≡ output_spliced output.old (call true table.now None (length output.old) «record».now) }
+    ensures demand { SpliceDemanded true table.now None «record».now output.old result.number result.count output.new }
 {
-    let m = splice::splice_record(table, record, output);
-    move_shown(m)
+    outcome_of(splice::splice_record(table, record, output))
 }
 
 // The same up to class.
@@ -527,12 +466,11 @@ pub extern "C" fn qonveshir_splice_record_in(
     record: &[u8],
     output: &mut [u8],
 ) -> Outcome
-    ensures shown { result ≡ move_shown (shown_of (call true table.now (some classes.now) (length output.old) «record».now)) }
-    ensures contents { output.new ≡ output_spliced output.old (call true table.now (some classes.now) (length output.old) «record».now) }
-    ensures demand { SpliceDemanded true table.now (some classes.now) «record».now output.old result.number result.count output.new }
+    ensures shown { result ≡ move_shown (shown_of (call true table.now (Some classes.now) (length output.old) «record».now)) }
+    ensures contents { output.new ≡ output_spliced output.old (call true table.now (Some classes.now) (length output.old) «record».now) }
+    ensures demand { SpliceDemanded true table.now (Some classes.now) «record».now output.old result.number result.count output.new }
 {
-    let m = splice::splice_record_in(table, classes, record, output);
-    move_shown(m)
+    outcome_of(splice::splice_record_in(table, classes, record, output))
 }
 
 // Splices an edition 1 pattern.
@@ -542,12 +480,11 @@ pub extern "C" fn qonveshir_splice_pattern(
     pattern: &[u8],
     output: &mut [u8],
 ) -> Outcome
-    ensures shown { result ≡ move_shown (shown_of (call false table.now none (length output.old) pattern.now)) }
-    ensures contents { output.new ≡ output_spliced output.old (call false table.now none (length output.old) pattern.now) }
-    ensures demand { SpliceDemanded false table.now none pattern.now output.old result.number result.count output.new }
+    ensures shown { result ≡ move_shown (shown_of (call false table.now None (length output.old) pattern.now)) }
+    ensures contents { output.new ≡ output_spliced output.old (call false table.now None (length output.old) pattern.now) }
+    ensures demand { SpliceDemanded false table.now None pattern.now output.old result.number result.count output.new }
 {
-    let m = splice::splice_pattern(table, pattern, output);
-    move_shown(m)
+    outcome_of(splice::splice_pattern(table, pattern, output))
 }
 
 // The same up to class.
@@ -558,12 +495,11 @@ pub extern "C" fn qonveshir_splice_pattern_in(
     pattern: &[u8],
     output: &mut [u8],
 ) -> Outcome
-    ensures shown { result ≡ move_shown (shown_of (call false table.now (some classes.now) (length output.old) pattern.now)) }
-    ensures contents { output.new ≡ output_spliced output.old (call false table.now (some classes.now) (length output.old) pattern.now) }
-    ensures demand { SpliceDemanded false table.now (some classes.now) pattern.now output.old result.number result.count output.new }
+    ensures shown { result ≡ move_shown (shown_of (call false table.now (Some classes.now) (length output.old) pattern.now)) }
+    ensures contents { output.new ≡ output_spliced output.old (call false table.now (Some classes.now) (length output.old) pattern.now) }
+    ensures demand { SpliceDemanded false table.now (Some classes.now) pattern.now output.old result.number result.count output.new }
 {
-    let m = splice::splice_pattern_in(table, classes, pattern, output);
-    move_shown(m)
+    outcome_of(splice::splice_pattern_in(table, classes, pattern, output))
 }
 
 // Writes a template with the parts of a rule's first answer put in.
@@ -580,8 +516,7 @@ pub extern "C" fn qonveshir_apply(
     ensures contents { output.new ≡ output_of (simply table.now) pattern.now template.now «record».now allowance output.old }
     ensures demand { ApplyDemandedOf (simply table.now) pattern.now template.now «record».now output.old allowance output.new }
 {
-    let a = replace::apply(table, pattern, template, record, allowance, output);
-    applied_shown(a)
+    applied_shown(replace::apply(table, pattern, template, record, allowance, output))
 }
 
 // The same in an edition, up to class.
@@ -600,14 +535,12 @@ pub extern "C" fn qonveshir_apply_in(
     ensures contents { output.new ≡ apply_left edition table.now classes.now pattern.now template.now «record».now allowance output.old }
     ensures demand { ApplyDemandedIn edition table.now classes.now pattern.now template.now «record».now output.old allowance output.new }
 {
-    let t = edition_of(edition);
-    let Told::In(e) = t else {
+    let Some(edition) = edition_of(edition) else {
         return none_written();
     };
-    let a = replace::apply_in(
-        e, table, classes, pattern, template, record, allowance, output,
-    );
-    applied_shown(a)
+    applied_shown(replace::apply_in(
+        edition, table, classes, pattern, template, record, allowance, output,
+    ))
 }
 
 // What applying would show with an output of 4,096 bytes; nothing is written.
@@ -622,8 +555,7 @@ pub extern "C" fn qonveshir_look(
     ensures is { result ≡ applied_shown (look_of (simply table.now) pattern.now template.now «record».now allowance) }
     ensures demand { LookDemandedOf (simply table.now) pattern.now template.now «record».now allowance }
 {
-    let a = replace::look(table, pattern, template, record, allowance);
-    applied_shown(a)
+    applied_shown(replace::look(table, pattern, template, record, allowance))
 }
 
 // The same in an edition, up to class.
@@ -640,10 +572,10 @@ pub extern "C" fn qonveshir_look_in(
     ensures is { result ≡ look_in edition table.now classes.now pattern.now template.now «record».now allowance }
     ensures demand { LookDemandedIn edition table.now classes.now pattern.now template.now «record».now allowance }
 {
-    let t = edition_of(edition);
-    let Told::In(e) = t else {
+    let Some(edition) = edition_of(edition) else {
         return none_written();
     };
-    let a = replace::look_in(e, table, classes, pattern, template, record, allowance);
-    applied_shown(a)
+    applied_shown(replace::look_in(
+        edition, table, classes, pattern, template, record, allowance,
+    ))
 }

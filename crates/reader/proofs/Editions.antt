@@ -16,13 +16,13 @@ use Rattle.term.specs.Tree.{Tree}
 use Rattle.term.specs.declared.Code.{Code}
 use Rattle.term.specs.declared.Code.TheVariants.{Symbol, Name, Run, Complement}
 use Rattle.term.specs.declared.Edition.TheVariants.{One}
-use Rattle.term.specs.declared.Stand.{Stand}
-use Rattle.term.specs.declared.Stand.TheVariants.{Elsewhere}
 use Rattle.reader.specs.Node.{known, unless_deep, open_node, code_node, node_at}
 use Rattle.reader.specs.Reading.{Parsed, refused, enter, read_all, read_by, read_tree, unless_spare, read_whole, map_parsed, read_record, read_pattern}
-use Rattle.reader.specs.declared.Node.{Node}
+use Rattle.std.specs.Prelude.{Option, None, Result, Err}
+use Rattle.answers.specs.declared.Refusal.{Refusal}
+use Rattle.reader.specs.declared.Open.{Open}
 
-module _ (table classes : List ℕ) (stand sight : Stand) (alike : in_list stand ≡ in_list sight) where
+module _ (table classes : List ℕ) (stand sight : (Option ℕ)) (alike : in_list stand ≡ in_list sight) where
   open_one : (low : ℕ) (s : List ℕ) (c : Code) → open_node (language One table classes) stand low s c ≡ open_node (simple table) sight low s c
   unfolding open_node
   open_one low s (Symbol b) = refl
@@ -35,11 +35,11 @@ module _ (table classes : List ℕ) (stand sight : Stand) (alike : in_list stand
   unfolding node_at code_node
   node_one records left s =
       let c = code_in records (get_or s 0 0) in
-      ap (λ (n : Node). cond (eqb (length s) 0) (Node.Refused Short) (cond (known table c) (unless_deep left n) (Node.Refused BadCode)))
+      ap (λ (n : Result Open Refusal). cond (eqb (length s) 0) (Err Short) (cond (known table c) (unless_deep left n) (Err BadCode)))
       (open_one (below_of c left) s c)
 
 module _ (table classes : List ℕ) where
-  by_one : (records : Bool) (n left : ℕ) (stand : Stand) (s : List ℕ) → read_by (language One table classes) records n left stand s ≡ read_by (simple table) records n left stand s
+  by_one : (records : Bool) (n left : ℕ) (stand : (Option ℕ)) (s : List ℕ) → read_by (language One table classes) records n left stand s ≡ read_by (simple table) records n left stand s
   unfolding read_by
   by_one records zero left stand s = refl
   by_one records (suc n) left stand s =
@@ -50,7 +50,7 @@ module _ (table classes : List ℕ) where
   whole_one : (records : Bool) (s : List ℕ) → read_whole records (language One table classes) s ≡ read_whole records (simple table) s
   unfolding read_whole read_tree
   whole_one records s =
-      ap (λ (a : Parsed Tree). cond (leb (length s) (longest records)) (unless_spare s a) (refused Long)) (by_one records (length s) nesting Elsewhere s)
+      ap (λ (a : Parsed Tree). cond (leb (length s) (longest records)) (unless_spare s a) (refused Long)) (by_one records (length s) nesting None s)
 
   pub record_one : (s : List ℕ) → read_record (language One table classes) s ≡ read_record (simple table) s
   unfolding read_record

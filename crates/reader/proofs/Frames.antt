@@ -8,27 +8,24 @@ use mathlib.Core.Bool.{Bool}
 use lib.ListN.{length, get_or, drop, set, take, length-drop, length-set}
 use lib.Seq.{drop-drop, get_or-set_same, get_or-set_other}
 use Rattle.answers.specs.declared.Refusal.{Refusal}
-use Rattle.byte_answers.specs.declared.Read.{Read}
-use Rattle.byte_answers.specs.declared.Read.TheVariants.{Ends}
 use Rattle.term.proofs.Lists.{rest_part}
 use Rattle.term.specs.Language.{Language}
 use Rattle.term.specs.Limits.{nesting}
-use Rattle.term.specs.declared.Stand.{Stand}
-use Rattle.term.specs.declared.Stand.TheVariants.{Elsewhere}
 use Rattle.reader.specs.Frame.{frame}
 use Rattle.reader.specs.Node.{node_at}
-use Rattle.reader.specs.Reading.{shown, read_all, read_tree, HandsOn}
+use Rattle.reader.specs.Reading.{shown, read_all, read_tree}
 use Rattle.reader.specs.declared.Frame.{Frame}
-use Rattle.reader.specs.declared.Node.{Node}
-use Rattle.reader.specs.declared.Node.TheVariants.{Open}
 use Rattle.reader.proofs.Steps.{plus, and_then, all_none, all_more, shown_chain, tree_refused, tree_open, node_within, node_below}
+use Rattle.std.specs.Prelude.{Result, Ok, Err, Option, None}
+use Rattle.reader.specs.Node.{opened}
+use Rattle.reader.specs.declared.Open.{Open}
 
 -- all but the first tree
 abbrev pub rest_of : Frame → Frame
 rest_of f = frame (f.count - 1) f.left f.stand
 
 abbrev pub none : Frame
-none = frame 0 0 Elsewhere
+none = frame 0 0 None
 
 -- Elements in an array, frames or what stands beside them: the first so many, the last of them innermost
 
@@ -54,53 +51,53 @@ module _ {A : Type 0} (no : A) where
 
 -- Reading on
 
-plus_none : (r : Read) → plus 0 r ≡ r
-plus_none (Read.Refused r) = refl
-plus_none (Ends n) = ap Ends (omega arith)
+plus_none : (r : Result ℕ Refusal) → plus 0 r ≡ r
+plus_none (Err r) = refl
+plus_none (Ok n) = ap Ok (omega arith)
 
-plus_plus : (m n : ℕ) (r : Read) → plus m (plus n r) ≡ plus (m + n) r
-plus_plus m n (Read.Refused r) = refl
-plus_plus m n (Ends k) = ap Ends (omega arith)
+plus_plus : (m n : ℕ) (r : Result ℕ Refusal) → plus m (plus n r) ≡ plus (m + n) r
+plus_plus m n (Err r) = refl
+plus_plus m n (Ok k) = ap Ok (omega arith)
 
-and_no_more : (a : Read) → and_then (and_then a (λ n. Ends 0)) (λ n. Ends 0) ≡ a
-and_no_more (Read.Refused r) = refl
-and_no_more (Ends n) = ap Ends (omega arith)
+and_no_more : (a : Result ℕ Refusal) → and_then (and_then a (λ n. Ok 0)) (λ n. Ok 0) ≡ a
+and_no_more (Err r) = refl
+and_no_more (Ok n) = ap Ok (omega arith)
 
 -- a node's children, the trees after the node, and then what follows
-module _ (size : ℕ) (s : List ℕ) (g h : List ℕ → Read) where
-  after_children : (n : ℕ) (l : List ℕ) (b : Read) → drop (size + n) s ≡ l
+module _ (size : ℕ) (s : List ℕ) (g h : List ℕ → Result ℕ Refusal) where
+  after_children : (n : ℕ) (l : List ℕ) (b : Result ℕ Refusal) → drop (size + n) s ≡ l
       → and_then (plus (size + n) b) (λ m. h (drop m s)) ≡ plus size (plus n (and_then b (λ m. h (drop m l))))
-  after_children n l (Read.Refused r) e = refl
-  after_children n l (Ends m) e =
+  after_children n l (Err r) e = refl
+  after_children n l (Ok m) e =
       let d : drop (size + n + m) s ≡ drop m l = sym (drop-drop m (size + n) s) ∙ ap (drop m) e in
       ap (λ (x : List ℕ). plus (size + n + m) (h x)) d
       ∙ sym (plus_plus size n (plus m (h (drop m l))) ∙ plus_plus (size + n) m (h (drop m l)))
 
-  after_node : (a : Read)
+  after_node : (a : Result ℕ Refusal)
       → and_then (and_then (plus size a) (λ n. g (drop n s))) (λ m. h (drop m s))
       ≡ plus size (and_then a (λ n. and_then (g (drop n (drop size s))) (λ m. h (drop m (drop n (drop size s))))))
-  after_node (Read.Refused r) = refl
-  after_node (Ends n) =
+  after_node (Err r) = refl
+  after_node (Ok n) =
       let d : drop (size + n) s ≡ drop n (drop size s) = sym (drop-drop n size s) in
       ap (λ (x : List ℕ). and_then (plus (size + n) (g x)) (λ m. h (drop m s))) d
       ∙ after_children n (drop n (drop size s)) (g (drop n (drop size s))) d
 
 module _ (lang : Language) (records : Bool) where
   -- the trees of all frames, one frame after the other
-  unfoldable pub resume : List Frame → List ℕ → Read
-  resume [] s = Ends 0
+  unfoldable pub resume : List Frame → List ℕ → Result ℕ Refusal
+  resume [] s = Ok 0
   resume (f ∷ fs) s = and_then (shown (read_all (read_tree lang records f.left f.stand) f.count s)) (λ n. resume fs (drop n s))
 
-  resume_one : (left : ℕ) (stand : Stand) (s : List ℕ) → resume (frame 1 left stand ∷ []) s ≡ shown (read_tree lang records left stand s)
+  resume_one : (left : ℕ) (stand : (Option ℕ)) (s : List ℕ) → resume (frame 1 left stand ∷ []) s ≡ shown (read_tree lang records left stand s)
   unfolding resume read_all shown
   resume_one left stand s =
       let t = read_tree lang records left stand in
-      ap (λ (a : Read). and_then a (λ n. Ends 0)) (shown_chain (t s) (λ n. read_all t 0 (drop n s))) ∙ and_no_more (shown (t s))
+      ap (λ (a : Result ℕ Refusal). and_then a (λ n. Ok 0)) (shown_chain (t s) (λ n. read_all t 0 (drop n s))) ∙ and_no_more (shown (t s))
 
   resume_none : (f : Frame) (fs : List Frame) (s : List ℕ) → f.count ≡ 0 → resume (f ∷ fs) s ≡ resume fs s
   unfolding resume
   resume_none f fs s e =
-      ap (λ (a : Read). and_then a (λ n. resume fs (drop n s))) (all_none (read_tree lang records f.left f.stand) f.count s e)
+      ap (λ (a : Result ℕ Refusal). and_then a (λ n. resume fs (drop n s))) (all_none (read_tree lang records f.left f.stand) f.count s e)
       ∙ plus_none (resume fs s)
 
   -- under the innermost frame
@@ -109,22 +106,22 @@ module _ (lang : Language) (records : Bool) where
   resume_under f fs gs s e =
       ap (and_then (shown (read_all (read_tree lang records f.left f.stand) f.count s))) (fun_ext (λ n. e (drop n s)))
 
-  resume_refused : (f : Frame) (fs : List Frame) (s : List ℕ) (r : Refusal) → 0 < f.count → node_at lang records f.stand f.left s ≡ Node.Refused r
-      → resume (f ∷ fs) s ≡ Read.Refused r
+  resume_refused : (f : Frame) (fs : List Frame) (s : List ℕ) (r : Refusal) → 0 < f.count → node_at lang records f.stand f.left s ≡ Err r
+      → resume (f ∷ fs) s ≡ Err r
   unfolding resume
   resume_refused f fs s r h e =
       let t = read_tree lang records f.left f.stand in
       rw (all_more t f.count s (λ z. omega arith), shown_chain (t s) (λ n. read_all t (f.count - 1) (drop n s)), tree_refused lang records f.left f.stand s r e)
 
-  resume_open : (f : Frame) (fs : List Frame) (s : List ℕ) {size k : ℕ} {inside : Stand} {low : ℕ} → 0 < f.count
-      → node_at lang records f.stand f.left s ≡ Open size k inside low
+  resume_open : (f : Frame) (fs : List Frame) (s : List ℕ) {size k : ℕ} {inside : (Option ℕ)} {low : ℕ} → 0 < f.count
+      → node_at lang records f.stand f.left s ≡ Ok (opened size k inside low)
       → resume (f ∷ fs) s ≡ plus size (resume (frame k low inside ∷ rest_of f ∷ fs) (drop size s))
   unfolding resume
   resume_open f fs s {size} {k} {inside} {low} h e =
       let t = read_tree lang records f.left f.stand in
-      ap (λ (a : Read). and_then a (λ n. resume fs (drop n s)))
+      ap (λ (a : Result ℕ Refusal). and_then a (λ n. resume fs (drop n s)))
       (ap shown (all_more t f.count s (λ z. omega arith)) ∙ shown_chain (t s) (λ n. read_all t (f.count - 1) (drop n s))
-      ∙ ap (λ (a : Read). and_then a (λ n. shown (read_all t (f.count - 1) (drop n s)))) (tree_open lang records f.left f.stand s e))
+      ∙ ap (λ (a : Result ℕ Refusal). and_then a (λ n. shown (read_all t (f.count - 1) (drop n s)))) (tree_open lang records f.left f.stand s e))
       ∙ after_node size s (λ l. shown (read_all t (f.count - 1) l)) (resume fs) (shown (read_all (read_tree lang records low inside) k (drop size s)))
 
 -- The loop of `read_tree`
@@ -137,14 +134,14 @@ Kept (f ∷ fs) = (0 < f.count) × (length fs + f.left ≤ nesting) × Kept fs
 module _ (lang : Language) (records : Bool) (s : List ℕ) where
   -- read up to `at`, with these frames still to come
   abbrev pub ToCome : List Frame → ℕ → Type 0
-  ToCome fs at = shown (read_tree lang records nesting Elsewhere s) ≡ plus at (resume lang records fs (drop at s))
+  ToCome fs at = shown (read_tree lang records nesting None s) ≡ plus at (resume lang records fs (drop at s))
 
-  pub whole_to_come : ToCome (frame 1 nesting Elsewhere ∷ []) 0
-  whole_to_come = sym (plus_none (resume lang records (frame 1 nesting Elsewhere ∷ []) s) ∙ resume_one lang records nesting Elsewhere s)
+  pub whole_to_come : ToCome (frame 1 nesting None ∷ []) 0
+  whole_to_come = sym (plus_none (resume lang records (frame 1 nesting None ∷ []) s) ∙ resume_one lang records nesting None s)
 
   -- an open node's children come next, and then what is left of its frame
-  pub children_to_come : (f : Frame) (fs : List Frame) (at : ℕ) {size k : ℕ} {inside : Stand} {low : ℕ} → 0 < f.count
-      → node_at lang records f.stand f.left (drop at s) ≡ Open size k inside low
+  pub children_to_come : (f : Frame) (fs : List Frame) (at : ℕ) {size k : ℕ} {inside : (Option ℕ)} {low : ℕ} → 0 < f.count
+      → node_at lang records f.stand f.left (drop at s) ≡ Ok (opened size k inside low)
       → ToCome (f ∷ fs) at → ToCome (frame k low inside ∷ rest_of f ∷ fs) (at + size)
   children_to_come f fs at {size} {k} {inside} {low} h e l =
       let gs = frame k low inside ∷ rest_of f ∷ fs in
@@ -161,7 +158,7 @@ module _ (lang : Language) (records : Bool) (s : List ℕ) where
     pub kept : Kept (stack none depth around)
     pub to_come : ToCome (top ∷ stack none depth around) at
 
-  pub reading_starts : (around : List Frame) (top : Frame) → length around ≡ nesting → top ≡ frame 1 nesting Elsewhere → Reading around 0 top 0
+  pub reading_starts : (around : List Frame) (top : Frame) → length around ≡ nesting → top ≡ frame 1 nesting None → Reading around 0 top 0
   reading_starts around top l e = record {
     within = omega arith;
     some = rw e (omega arith);
@@ -171,9 +168,9 @@ module _ (lang : Language) (records : Bool) (s : List ℕ) where
     to_come = rw e whole_to_come;
   }
 
-  pub none_to_come : (at : ℕ) → ToCome [] at → shown (read_tree lang records nesting Elsewhere s) ≡ Ends at
+  pub none_to_come : (at : ℕ) → ToCome [] at → shown (read_tree lang records nesting None s) ≡ Ok at
   unfolding resume
-  none_to_come at l = l ∙ ap Ends (omega arith)
+  none_to_come at l = l ∙ ap Ok (omega arith)
 
   pub skip : (f : Frame) (fs : List Frame) (at : ℕ) → f.count ≡ 0 → ToCome (f ∷ fs) at → ToCome fs at
   skip f fs at z l = l ∙ ap (plus at) (resume_none lang records f fs (drop at s) z)
@@ -182,22 +179,22 @@ module _ (lang : Language) (records : Bool) (s : List ℕ) where
   skip_under g f fs at z l = l ∙ ap (plus at) (resume_under lang records g (f ∷ fs) fs (drop at s) (λ d. resume_none lang records f fs d z))
 
 module _ {lang : Language} {records : Bool} {s : List ℕ} {around : List Frame} {depth : ℕ} {top : Frame} {at : ℕ} (i : Reading lang records s around depth top at)
-    {n : Node} (is : n ≡ node_at lang records top.stand top.left (take (length s - at) (drop at s))) where
-  pub refused : {r : Refusal} → n ≡ Node.Refused r → shown (read_tree lang records nesting Elsewhere s) ≡ Read.Refused r
+    {n : (Result Open Refusal)} (is : n ≡ node_at lang records top.stand top.left (take (length s - at) (drop at s))) where
+  pub refused : {r : Refusal} → n ≡ Err r → shown (read_tree lang records nesting None s) ≡ Err r
   refused {r} e =
       i.to_come ∙ ap (plus at) (resume_refused lang records top (stack none depth around) (drop at s) r i.some (rw (rest_part at s) at (sym is ∙ e)))
 
-  pub node_refuses : {r : Refusal} {a : Read} → n ≡ Node.Refused r → HandsOn n a → a ≡ shown (read_tree lang records nesting Elsewhere s)
-  node_refuses e h = (rw (e) at h) ∙ sym (refused e)
+  pub node_refuses : {r : Refusal} → n ≡ Err r → Err r ≡ shown (read_tree lang records nesting None s)
+  node_refuses e = sym (refused e)
 
-  module _ {size k : ℕ} {inside : Stand} {low : ℕ} (e : n ≡ Open size k inside low) where
-    opens : node_at lang records top.stand top.left (drop at s) ≡ Open size k inside low
+  module _ {o : Open} (e : n ≡ Ok o) where
+    opens : node_at lang records top.stand top.left (drop at s) ≡ Ok o
     opens = rw (rest_part at s) at (sym is ∙ e)
 
-    below : (0 < top.left) × (low < top.left + (2 - k))
+    below : (0 < top.left) × (o.low < top.left + (2 - o.kids))
     below = node_below lang records top.stand top.left (drop at s) opens
 
-    pub node_ends : (at + size ≤ length s) × (0 < size)
+    pub node_ends : (at + o.size ≤ length s) × (0 < o.size)
     node_ends =
         let w = node_within lang records top.stand top.left (drop at s) opens in
         (omega (arith, w, length-drop at s, i.within), w.1)
@@ -205,14 +202,14 @@ module _ {lang : Language} {records : Bool} {s : List ℕ} {around : List Frame}
     pub depth_within : depth ≤ nesting
     depth_within = omega (arith, i.room, i.some, below)
 
-    opened : ToCome lang records s (frame k low inside ∷ rest_of top ∷ stack none depth around) (at + size)
-    opened = children_to_come lang records s top (stack none depth around) at i.some opens i.to_come
+    children : ToCome lang records s (frame o.kids o.low o.inside ∷ rest_of top ∷ stack none depth around) (at + o.size)
+    children = children_to_come lang records s top (stack none depth around) at i.some opens i.to_come
 
     -- a node without children: its frame goes on, or after its last tree the one around it
-    next_frames : k ≤ 0 → ToCome lang records s (rest_of top ∷ stack none depth around) (at + size)
-    next_frames z = skip lang records s (frame k low inside) (rest_of top ∷ stack none depth around) (at + size) (omega arith) opened
+    next_frames : o.kids ≤ 0 → ToCome lang records s (rest_of top ∷ stack none depth around) (at + o.size)
+    next_frames z = skip lang records s (frame o.kids o.low o.inside) (rest_of top ∷ stack none depth around) (at + o.size) (omega arith) children
 
-    pub next_tree : k ≤ 0 → (top.count - 1 ≡ 0 → ⊥) → Reading lang records s around depth (rest_of top) (at + size)
+    pub next_tree : o.kids ≤ 0 → (top.count - 1 ≡ 0 → ⊥) → Reading lang records s around depth (rest_of top) (at + o.size)
     next_tree z h = record {
       within = node_ends.0;
       some = omega (arith, h);
@@ -222,41 +219,41 @@ module _ {lang : Language} {records : Bool} {s : List ℕ} {around : List Frame}
       to_come = next_frames z;
     }
 
-    last_tree : k ≤ 0 → top.count - 1 ≡ 0 → ToCome lang records s (stack none depth around) (at + size)
-    last_tree z h = skip lang records s (rest_of top) (stack none depth around) (at + size) h (next_frames z)
+    last_tree : o.kids ≤ 0 → top.count - 1 ≡ 0 → ToCome lang records s (stack none depth around) (at + o.size)
+    last_tree z h = skip lang records s (rest_of top) (stack none depth around) (at + o.size) h (next_frames z)
 
-    pub next_around : k ≤ 0 → top.count - 1 ≡ 0 → (depth ≡ 0 → ⊥) → Reading lang records s around (depth - 1) (get_or around (depth - 1) none) (at + size)
+    pub next_around : o.kids ≤ 0 → top.count - 1 ≡ 0 → (depth ≡ 0 → ⊥) → Reading lang records s around (depth - 1) (get_or around (depth - 1) none) (at + o.size)
     next_around z h d =
         let p = stack_popped none depth around (omega (arith, d)) in
-        let o : Kept (get_or around (depth - 1) none ∷ stack none (depth - 1) around) = rw p at i.kept in
+        let w : Kept (get_or around (depth - 1) none ∷ stack none (depth - 1) around) = rw p at i.kept in
         record {
           within = node_ends.0;
-          some = o.0;
-          room = omega (arith, o.1, stack_length none (depth - 1) around);
+          some = w.0;
+          room = omega (arith, w.1, stack_length none (depth - 1) around);
           places = i.places;
-          kept = o.2;
+          kept = w.2;
           to_come = rw (← p) (last_tree z h);
         }
 
-    pub no_more : k ≤ 0 → top.count - 1 ≡ 0 → depth ≡ 0 → shown (read_tree lang records nesting Elsewhere s) ≡ Ends (at + size)
-    no_more z h d = none_to_come lang records s (at + size) (rw d at (last_tree z h))
+    pub no_more : o.kids ≤ 0 → top.count - 1 ≡ 0 → depth ≡ 0 → shown (read_tree lang records nesting None s) ≡ Ok (at + o.size)
+    no_more z h d = none_to_come lang records s (at + o.size) (rw d at (last_tree z h))
 
     pub place_free : 0 < top.count - 1 → depth < nesting
     place_free h = omega (arith, i.room, below)
 
     -- a node with children: they come next, and then what is left of its frame
-    module _ (g : Frame) (q : g ≡ frame k low inside) where
-      pub child_last : 0 < k → top.count - 1 ≤ 0 → Reading lang records s around depth g (at + size)
+    module _ (g : Frame) (q : g ≡ frame o.kids o.low o.inside) where
+      pub child_last : 0 < o.kids → top.count - 1 ≤ 0 → Reading lang records s around depth g (at + o.size)
       child_last z h = record {
         within = node_ends.0;
         some = rw q z;
         room = rw q (omega (arith, i.room, i.some, below));
         places = i.places;
         kept = i.kept;
-        to_come = rw q (skip_under lang records s (frame k low inside) (rest_of top) (stack none depth around) (at + size) (omega arith) opened);
+        to_come = rw q (skip_under lang records s (frame o.kids o.low o.inside) (rest_of top) (stack none depth around) (at + o.size) (omega arith) children);
       }
 
-      pub child_first : 0 < k → 0 < top.count - 1 → Reading lang records s (set around depth (rest_of top)) (depth + 1) g (at + size)
+      pub child_first : 0 < o.kids → 0 < top.count - 1 → Reading lang records s (set around depth (rest_of top)) (depth + 1) g (at + o.size)
       child_first z h =
           let p : stack none (depth + 1) (set around depth (rest_of top)) ≡ rest_of top ∷ stack none depth around =
           stack_pushed none depth around (rest_of top) (omega (arith, place_free h, i.places)) in
@@ -266,5 +263,5 @@ module _ {lang : Language} {records : Bool} {s : List ℕ} {around : List Frame}
             room = rw q (omega (arith, i.room, below));
             places = length-set around depth (rest_of top) ∙ i.places;
             kept = rw p (h, omega (arith, i.room, stack_length none depth around), i.kept);
-            to_come = rw (p, q) opened;
+            to_come = rw (p, q) children;
           }

@@ -17,8 +17,6 @@ use Rattle.term.specs.Language.{Language}
 use Rattle.term.specs.Limits.{nesting, Written, Shape, below_of, Fits, FitAll, longest, Octets, Accepted}
 use Rattle.term.specs.Splicing.{stand_in, in_list, unspliced, SplicedAt, SplicedAll}
 use Rattle.term.specs.declared.Code.{Code}
-use Rattle.term.specs.declared.Stand.{Stand}
-use Rattle.term.specs.declared.Stand.TheVariants.{Elsewhere}
 use Rattle.term.proofs.Bools.{cond_all}
 use Rattle.term.proofs.Codes.{code_back}
 use Rattle.term.proofs.Splicing.{stand_list}
@@ -27,6 +25,7 @@ use Rattle.reader.specs.Node.{node_at}
 use Rattle.reader.specs.Reading.{Parsed, refused, read, join, chain, read_all, grow, enter, read_by, read_tree, unless_spare, read_whole}
 use Rattle.reader.proofs.Answers.{Got, opened_map, got_map, got_enter, got_chain, enter_same}
 use Rattle.reader.proofs.Nodes.{own_size, own_first, own_past, own_size_holds, node_complete, NodeSound, sound_node}
+use Rattle.std.specs.Prelude.{Option, None}
 
 -- As many nodes as there are bytes are enough
 
@@ -36,13 +35,13 @@ all_same f g n h zero s l = refl
 all_same f g n h (suc k) s l = ap₂ chain (h s l) (fun_ext (λ u. all_same f g n h k (drop u s) (omega (arith, length-drop u s))))
 
 module _ (lang : Language) (records : Bool) where
-  none_short : (left : ℕ) (stand : Stand) (s : List ℕ) (g : ℕ → ℕ → Stand → ℕ → Parsed Trees) → length s ≤ 0
+  none_short : (left : ℕ) (stand : (Option ℕ)) (s : List ℕ) (g : ℕ → ℕ → Option ℕ → ℕ → Parsed Trees) → length s ≤ 0
       → enter (code_in records (get_or s 0 0)) (node_at lang records stand left s) g ≡ refused Short
   unfolding node_at enter
   none_short left stand [] g l = refl
   none_short left stand (x ∷ s) g l = absurd (omega arith)
 
-  enough : (n m left : ℕ) (stand : Stand) (s : List ℕ) → length s ≤ n → length s ≤ m → read_by lang records n left stand s ≡ read_by lang records m left stand s
+  enough : (n m left : ℕ) (stand : (Option ℕ)) (s : List ℕ) → length s ≤ n → length s ≤ m → read_by lang records n left stand s ≡ read_by lang records m left stand s
   unfolding read_by
   enough zero zero left stand s l d = refl
   enough zero (suc m) left stand s l d = sym (none_short left stand s (λ size k inside low. read_all (read_by lang records m low inside) k (drop size s)) l)
@@ -59,7 +58,7 @@ module _ (lang : Language) (records : Bool) where
       (node_at lang records stand left s) (sound_node lang records stand left s))
 
   -- the tree at the start of s, with no bound on the nodes
-  pub tree_unfold : (left : ℕ) (stand : Stand) (s : List ℕ)
+  pub tree_unfold : (left : ℕ) (stand : (Option ℕ)) (s : List ℕ)
       → read_tree lang records left stand s
       ≡ enter (code_in records (get_or s 0 0)) (node_at lang records stand left s) (λ size k inside low. read_all (read_tree lang records low inside) k (drop size s))
   unfolding read_tree read_by
@@ -76,7 +75,7 @@ module _ (lang : Language) (records : Bool) where
 -- Trees within the limits are read back
 
 -- a node's own bytes, and then what its children are read from
-node_step : (lang : Language) (records : Bool) (left : ℕ) (stand : Stand) (c : Code) (k : ℕ) (r : List ℕ) → 0 < left → Written records c
+node_step : (lang : Language) (records : Bool) (left : ℕ) (stand : (Option ℕ)) (c : Code) (k : ℕ) (r : List ℕ) → 0 < left → Written records c
     → Shape lang.table (in_list stand) c k → unspliced lang.edition lang.classes stand (stand_in lang.table c) ≡ false
     → read_tree lang records left stand (own lang.table c k r)
     ≡ grow c (own_size lang.table c) (read_all (read_tree lang records (below_of c left) (stand_in lang.table c)) k r)
@@ -91,7 +90,7 @@ behind_tree table t bs = ap (drop (length (encode table t []))) (encode_append t
 mutual
   unfolding Fits encode grow read_all number chain join
 
-  pub complete : (lang : Language) (records : Bool) (t : Tree) (left : ℕ) (stand : Stand) (bs : List ℕ) → Fits lang.table records t left (in_list stand)
+  pub complete : (lang : Language) (records : Bool) (t : Tree) (left : ℕ) (stand : (Option ℕ)) (bs : List ℕ) → Fits lang.table records t left (in_list stand)
       → SplicedAt lang stand t → read_tree lang records left stand (encode lang.table t bs) ≡ read t (length (encode lang.table t []))
   complete lang records (branch c ts) left stand bs f d =
       let table = lang.table in
@@ -101,7 +100,7 @@ mutual
         branch_length table c ts,
       )
 
-  completes : (lang : Language) (records : Bool) (ts : Trees) (left : ℕ) (stand : Stand) (bs : List ℕ) → FitAll lang.table records ts left (in_list stand)
+  completes : (lang : Language) (records : Bool) (ts : Trees) (left : ℕ) (stand : (Option ℕ)) (bs : List ℕ) → FitAll lang.table records ts left (in_list stand)
       → SplicedAll lang stand ts → read_all (read_tree lang records left stand) (number ts) (encodes lang.table ts bs) ≡ read ts (length (encodes lang.table ts []))
   completes lang records empty left stand bs f d = refl
   completes lang records (more t ts) left stand bs f d =
@@ -118,7 +117,7 @@ mutual
 octets_drop : (n : ℕ) (s : List ℕ) → Octets s → Octets (drop n s)
 octets_drop n s o i = rw (get_or-drop n s i 0) (o (n + i))
 
-module _ (lang : Language) (records : Bool) (left : ℕ) (stand : Stand) where
+module _ (lang : Language) (records : Bool) (left : ℕ) (stand : (Option ℕ)) where
   abbrev table : List ℕ
   table = lang.table
 
@@ -156,7 +155,7 @@ module _ (lang : Language) (records : Bool) (left : ℕ) (stand : Stand) where
       got_chain (TreesSound s (suc k)) (f s) (λ n. read_all f k (drop n s))
       (got_map (λ t n a. got_map (λ ts m b. more_sound s k t n ts m a b) (read_all f k (drop n s)) (sound_all f h k (drop n s))) (f s) (h s))
 
-grow_sound : (lang : Language) (records : Bool) (left : ℕ) (stand : Stand) (s : List ℕ) (c : Code) (size k : ℕ) (inside : Stand) (low : ℕ) (ts : Trees) (n : ℕ)
+grow_sound : (lang : Language) (records : Bool) (left : ℕ) (stand : (Option ℕ)) (s : List ℕ) (c : Code) (size k : ℕ) (inside : (Option ℕ)) (low : ℕ) (ts : Trees) (n : ℕ)
     → NodeSound lang records stand left s c size k inside low → TreesSound lang records low inside (drop size s) k ts n
     → TreeSound lang records left stand s (branch c ts) (size + n)
 unfolding encode Fits
@@ -174,7 +173,7 @@ grow_sound lang records left stand s c size k inside low ts n o b =
       spliced = (o.spliced, rw (← o.is_inside) b.spliced);
     }
 
-sound_by : (lang : Language) (records : Bool) (n left : ℕ) (stand : Stand) (s : List ℕ) → Got (TreeSound lang records left stand s) (read_by lang records n left stand s)
+sound_by : (lang : Language) (records : Bool) (n left : ℕ) (stand : (Option ℕ)) (s : List ℕ) → Got (TreeSound lang records left stand s) (read_by lang records n left stand s)
 unfolding read_by
 sound_by lang records zero left stand s = tt
 sound_by lang records (suc n) left stand s =
@@ -187,7 +186,7 @@ sound_by lang records (suc n) left stand s =
     (sound_all lang records low inside (read_by lang records n low inside) (sound_by lang records n low inside) k (drop size s)))
     (node_at lang records stand left s) (sound_node lang records stand left s))
 
-pub sound : (lang : Language) (records : Bool) (left : ℕ) (stand : Stand) (s : List ℕ) → Got (TreeSound lang records left stand s) (read_tree lang records left stand s)
+pub sound : (lang : Language) (records : Bool) (left : ℕ) (stand : (Option ℕ)) (s : List ℕ) → Got (TreeSound lang records left stand s) (read_tree lang records left stand s)
 unfolding read_tree
 sound lang records left stand s = sound_by lang records (length s) left stand s
 
@@ -197,7 +196,7 @@ unfoldable pub ReadWhole : Language → Bool → List ℕ → Tree → ℕ → T
 ReadWhole lang records s t n = (encode lang.table t [] ≡ s) × (n ≡ length s) × (Octets s → Accepted lang records t)
 
 module _ (lang : Language) (records : Bool) (s : List ℕ) where
-  whole_sound : length s ≤ longest records → (a : Parsed Tree) → Got (TreeSound lang records nesting Elsewhere s) a → Got (ReadWhole lang records s) (unless_spare s a)
+  whole_sound : length s ≤ longest records → (a : Parsed Tree) → Got (TreeSound lang records nesting None s) a → Got (ReadWhole lang records s) (unless_spare s a)
   unfolding unless_spare ReadWhole
   whole_sound l (refused r) h = tt
   whole_sound l (read t n) h =
@@ -212,7 +211,7 @@ module _ (lang : Language) (records : Bool) (s : List ℕ) where
   unfolding read_whole
   whole_read =
       cond_all (Got (ReadWhole lang records s)) (leb (length s) (longest records))
-      (λ l. whole_sound (leb-true (length s) (longest records) l) (read_tree lang records nesting Elsewhere s) (sound lang records nesting Elsewhere s))
+      (λ l. whole_sound (leb-true (length s) (longest records) l) (read_tree lang records nesting None s) (sound lang records nesting None s))
       (λ l. tt)
 
   -- bytes are read as a tree exactly if they are the tree's own and the tree is within the limits
@@ -227,6 +226,6 @@ module _ (lang : Language) (records : Bool) (s : List ℕ) where
       from h =
           let n : length (encode lang.table t []) ≡ length s = ap length h.0 in
           let l : length s ≤ longest records = rw h.0 at h.1.short in
-          let d : read_tree lang records nesting Elsewhere s ≡ read t (length s) =
-          ap (read_tree lang records nesting Elsewhere) (sym h.0) ∙ complete lang records t nesting Elsewhere [] h.1.fits h.1.spliced ∙ ap (read t) n in
+          let d : read_tree lang records nesting None s ≡ read t (length s) =
+          ap (read_tree lang records nesting None) (sym h.0) ∙ complete lang records t nesting None [] h.1.fits h.1.spliced ∙ ap (read t) n in
           rw (le-leb (length s) (longest records) l, d, eq-eqb (length s) (length s) refl)

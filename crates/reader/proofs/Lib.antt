@@ -6,5 +6,4 @@ pub mod Typed
 pub mod Editions
 pub mod Steps
 pub mod Frames
-pub mod Simple
 pub mod Shallow

@@ -16,16 +16,14 @@ use Rattle.term.specs.Limits.{Written, Counted, Shape, below_of, Octets}
 use Rattle.term.specs.Splicing.{stand_in, in_list, unspliced}
 use Rattle.term.specs.declared.Code.{Code}
 use Rattle.term.specs.declared.Code.TheVariants.{Symbol, Name, Run, Complement}
-use Rattle.term.specs.declared.Stand.{Stand}
-use Rattle.term.specs.declared.Stand.TheVariants.{InList, Elsewhere}
 use Rattle.term.proofs.Bools.{cond_all}
 use Rattle.term.proofs.Codes.{code_back}
 use Rattle.term.proofs.Sizes.{own_length as list_length}
 use Rattle.term.proofs.Splicing.{leaf_spliced}
 use Rattle.reader.specs.Node.{known, unless_unspliced, open_node, code_node, node_at}
-use Rattle.reader.specs.declared.Node.{Node}
-use Rattle.reader.specs.declared.Node.TheVariants.{Open}
 use Rattle.reader.proofs.Answers.{Opened}
+use Rattle.std.specs.Prelude.{Option, Some, None, Ok, Err}
+use Rattle.reader.specs.Node.{opened}
 
 -- the number of a node's own bytes
 abbrev pub own_size : List ℕ → Code → ℕ
@@ -51,8 +49,8 @@ coded false b =
 
 -- The checks in their order
 
-module _ (lang : Language) (records : Bool) (stand : Stand) (left : ℕ) (s : List ℕ) where
-  pub node_short : length s ≡ 0 → node_at lang records stand left s ≡ Node.Refused Short
+module _ (lang : Language) (records : Bool) (stand : (Option ℕ)) (left : ℕ) (s : List ℕ) where
+  pub node_short : length s ≡ 0 → node_at lang records stand left s ≡ Err Short
   unfolding node_at
   node_short h = rw h
 
@@ -77,23 +75,23 @@ shape_known table in_list Code.Refused k h = absurd h
 
 symbol_complete : (list : Bool) (entry b k low : ℕ) (u : Bool) (r : List ℕ) → Counted list k entry → (list ≡ true → u ≡ false)
     → cond list
-    (unless_unspliced u (cond (ltb (length (b ∷ cond list (k ∷ r) r)) 2) (Node.Refused Short) (Open 2 (get_or (b ∷ cond list (k ∷ r) r) 1 0) (InList b) low)))
-    (Open 1 entry Elsewhere low)
-    ≡ Open (cond list 2 1) k (cond list (InList b) Elsewhere) low
+    (unless_unspliced u (cond (ltb (length (b ∷ cond list (k ∷ r) r)) 2) (Err Short) (Ok (opened 2 (get_or (b ∷ cond list (k ∷ r) r) 1 0) (Some b) low))))
+    (Ok (opened 1 entry None low))
+    ≡ Ok (opened (cond list 2 1) k (cond list (Some b) None) low)
 symbol_complete true entry b k low u r h d = rw (d refl, le-ltb (length (b ∷ k ∷ r)) 2 (omega arith))
 symbol_complete false entry b k low u r h d = rw h
 
 -- a list that is spliced where it stands
-list_spliced : (lang : Language) (stand : Stand) (b : ℕ) → unspliced lang.edition lang.classes stand (stand_in lang.table (Symbol b)) ≡ false
-    → is_list lang.table b ≡ true → unspliced lang.edition lang.classes stand (InList b) ≡ false
+list_spliced : (lang : Language) (stand : (Option ℕ)) (b : ℕ) → unspliced lang.edition lang.classes stand (stand_in lang.table (Symbol b)) ≡ false
+    → is_list lang.table b ≡ true → unspliced lang.edition lang.classes stand (Some b) ≡ false
 list_spliced lang stand b h e = rw e at h
 
-open_complete : (lang : Language) (stand : Stand) (low : ℕ) (c : Code) (k : ℕ) (r : List ℕ) → Shape lang.table (in_list stand) c k
+open_complete : (lang : Language) (stand : (Option ℕ)) (low : ℕ) (c : Code) (k : ℕ) (r : List ℕ) → Shape lang.table (in_list stand) c k
     → unspliced lang.edition lang.classes stand (stand_in lang.table c) ≡ false
-    → open_node lang stand low (own lang.table c k r) c ≡ Open (own_size lang.table c) k (stand_in lang.table c) low
+    → open_node lang stand low (own lang.table c k r) c ≡ Ok (opened (own_size lang.table c) k (stand_in lang.table c) low)
 unfolding Shape open_node own list_code byte_of
 open_complete lang stand low (Symbol b) k r h d =
-    symbol_complete (is_list lang.table b) (get_or lang.table b 0) b k low (unspliced lang.edition lang.classes stand (InList b)) r h.1
+    symbol_complete (is_list lang.table b) (get_or lang.table b 0) b k low (unspliced lang.edition lang.classes stand (Some b)) r h.1
     (list_spliced lang stand b d)
 open_complete lang stand low (Name v) k r h d = rw h
 open_complete lang stand low (Run v) k r h d = rw (h.0, h.1)
@@ -124,9 +122,9 @@ module _ (table : List ℕ) where
       by true = refl
       by false = refl
 
-pub node_complete : (lang : Language) (records : Bool) (stand : Stand) (left : ℕ) (c : Code) (k : ℕ) (r : List ℕ) → 0 < left → Written records c
+pub node_complete : (lang : Language) (records : Bool) (stand : (Option ℕ)) (left : ℕ) (c : Code) (k : ℕ) (r : List ℕ) → 0 < left → Written records c
     → Shape lang.table (in_list stand) c k → unspliced lang.edition lang.classes stand (stand_in lang.table c) ≡ false
-    → node_at lang records stand left (own lang.table c k r) ≡ Open (own_size lang.table c) k (stand_in lang.table c) (below_of c left)
+    → node_at lang records stand left (own lang.table c k r) ≡ Ok (opened (own_size lang.table c) k (stand_in lang.table c) (below_of c left))
 node_complete lang records stand left c k r l w h d =
     let table = lang.table in
     node_open lang records stand left (own table c k r) c (own_long table c k r) (sym (ap (code_in records) (own_first table c k r) ∙ code_back records c w))
@@ -135,11 +133,11 @@ node_complete lang records stand left c k r l w h d =
 
 -- An open node: its own bytes stand at the start, and its code allows it
 
-module _ (lang : Language) (records : Bool) (stand : Stand) (left : ℕ) where
+module _ (lang : Language) (records : Bool) (stand : (Option ℕ)) (left : ℕ) where
   abbrev table : List ℕ
   table = lang.table
 
-  pub record NodeSound (s : List ℕ) (c : Code) (size k : ℕ) (inside : Stand) (low : ℕ) : Type 0 where
+  pub record NodeSound (s : List ℕ) (c : Code) (size k : ℕ) (inside : (Option ℕ)) (low : ℕ) : Type 0 where
     pub bytes : s ≡ own lang.table c k (drop size s)
     pub long : size ≡ own_size lang.table c
     pub written : Written records c
@@ -151,7 +149,7 @@ module _ (lang : Language) (records : Bool) (stand : Stand) (left : ℕ) where
     -- less nesting is left for two children or more
     pub fewer : low < left + (2 - k)
 
-  sized : (s : List ℕ) (c : Code) (x k : ℕ) (list : Bool) (inside : Stand) → byte_of c ≡ x → list_code table c ≡ list → stand_in table c ≡ inside
+  sized : (s : List ℕ) (c : Code) (x k : ℕ) (list : Bool) (inside : (Option ℕ)) → byte_of c ≡ x → list_code table c ≡ list → stand_in table c ≡ inside
       → unspliced lang.edition lang.classes stand inside ≡ false → Written records c
       → (Octets (x ∷ cond list (k ∷ s) s) → Shape table (in_list stand) c k) → 0 < left → below_of c left < left + (2 - k)
       → NodeSound (x ∷ cond list (k ∷ s) s) c (cond list 2 1) k inside (below_of c left)
@@ -162,31 +160,31 @@ module _ (lang : Language) (records : Bool) (stand : Stand) (left : ℕ) where
       record { bytes = rw (i, b); long = rw i; written = w; shape = h; spliced = rw n u; is_inside = sym n; levels = l; is_low = refl; fewer = f }
 
   sound_list : (n x : ℕ) (s : List ℕ) → byte_of (Symbol n) ≡ x → Written records (Symbol n) → 2 ≤ length (x ∷ s) → n < length table → is_list table n ≡ true
-      → unspliced lang.edition lang.classes stand (InList n) ≡ false → 0 < left
-      → NodeSound (x ∷ s) (Symbol n) 2 (get_or (x ∷ s) 1 0) (InList n) (below_of (Symbol n) left)
+      → unspliced lang.edition lang.classes stand (Some n) ≡ false → 0 < left
+      → NodeSound (x ∷ s) (Symbol n) 2 (get_or (x ∷ s) 1 0) (Some n) (below_of (Symbol n) left)
   unfolding Shape list_code
   sound_list n x [] b w m h e u l = absurd (omega arith)
-  sound_list n x (y ∷ s) b w m h e u l = sized s (Symbol n) x y true (InList n) b e (rw e) u w (λ o. (h, rw e (o 1))) l (omega arith)
+  sound_list n x (y ∷ s) b w m h e u l = sized s (Symbol n) x y true (Some n) b e (rw e) u w (λ o. (h, rw e (o 1))) l (omega arith)
 
   sound_symbol : (n x : ℕ) (s : List ℕ) → byte_of (Symbol n) ≡ x → Written records (Symbol n) → n < length table → 0 < left
       → Opened (NodeSound (x ∷ s) (Symbol n)) (open_node lang stand (below_of (Symbol n) left) (x ∷ s) (Symbol n))
   unfolding open_node Shape list_code
   sound_symbol n x s b w h l =
       cond_all (Opened (NodeSound (x ∷ s) (Symbol n))) (is_list table n)
-      (λ e. cond_all (Opened (NodeSound (x ∷ s) (Symbol n))) (unspliced lang.edition lang.classes stand (InList n)) (λ u. tt)
+      (λ e. cond_all (Opened (NodeSound (x ∷ s) (Symbol n))) (unspliced lang.edition lang.classes stand (Some n)) (λ u. tt)
       (λ u. cond_all (Opened (NodeSound (x ∷ s) (Symbol n))) (ltb (length (x ∷ s)) 2) (λ d. tt)
       (λ d. sound_list n x s b w (ltb-false (length (x ∷ s)) 2 d) h e u l)))
-      (λ e. sized s (Symbol n) x (get_or table n 0) false Elsewhere b e (rw e) (leaf_spliced lang.edition lang.classes stand) w (λ o. (h, rw e refl)) l (omega arith))
+      (λ e. sized s (Symbol n) x (get_or table n 0) false None b e (rw e) (leaf_spliced lang.edition lang.classes stand) w (λ o. (h, rw e refl)) l (omega arith))
 
   sound_open : (x : ℕ) (s : List ℕ) (c : Code) → Coded records x c → known table c ≡ true → 0 < left
       → Opened (NodeSound (x ∷ s) c) (open_node lang stand (below_of c left) (x ∷ s) c)
   unfolding open_node list_code Shape
   sound_open x s (Symbol n) h k l = sound_symbol n x s h.1 h.0 (ltb-true n (length table) k) l
-  sound_open x s (Name v) h k l = sized s (Name v) x 0 false Elsewhere h.1 refl refl (leaf_spliced lang.edition lang.classes stand) h.0 (λ o. refl) l (omega arith)
+  sound_open x s (Name v) h k l = sized s (Name v) x 0 false None h.1 refl refl (leaf_spliced lang.edition lang.classes stand) h.0 (λ o. refl) l (omega arith)
   sound_open x s (Run v) h k l =
       cond_all (Opened (NodeSound (x ∷ s) (Run v))) (in_list stand)
-      (λ e. sized s (Run v) x 0 false Elsewhere h.1 refl refl (leaf_spliced lang.edition lang.classes stand) h.0 (λ o. (refl, e)) l (omega arith)) (λ e. tt)
-  sound_open x s Complement h k l = sized s Complement x 1 false Elsewhere h.1 refl refl (leaf_spliced lang.edition lang.classes stand) h.0 (λ o. refl) l (omega arith)
+      (λ e. sized s (Run v) x 0 false None h.1 refl refl (leaf_spliced lang.edition lang.classes stand) h.0 (λ o. (refl, e)) l (omega arith)) (λ e. tt)
+  sound_open x s Complement h k l = sized s Complement x 1 false None h.1 refl refl (leaf_spliced lang.edition lang.classes stand) h.0 (λ o. refl) l (omega arith)
   sound_open x s Code.Refused h k l = tt
 
   sound_code : (x : ℕ) (s : List ℕ) (c : Code) → Coded records x c → Opened (NodeSound (x ∷ s) c) (code_node lang stand left (x ∷ s) c)

@@ -8,25 +8,23 @@ use lib.ListN.{length, get_or, drop, length-drop}
 use lib.Seq.{get_or-drop}
 use lib.Dec.{ltb, eqb}
 use borrow.Author.Tests.{ltb-true, lt-ltb, le-ltb, eqb-true, eq-eqb, ne_eqb}
-use Rattle.byte_answers.specs.declared.Read.TheVariants.{Ends}
 use Rattle.term.specs.Code.{decode_of}
 use Rattle.term.specs.Table.{list}
 use Rattle.term.specs.Language.{Language, simple}
 use Rattle.term.specs.Limits.{nesting, longest_record}
 use Rattle.term.specs.declared.Code.TheVariants.{Symbol}
-use Rattle.term.specs.declared.Stand.{Stand}
-use Rattle.term.specs.declared.Stand.TheVariants.{InList, Elsewhere}
 use Rattle.reader.specs.Frame.{frame}
 use Rattle.reader.specs.Node.{open_node, node_at}
 use Rattle.reader.specs.Reading.{shown, read_tree, read_whole, childless, SurelyRead}
 use Rattle.reader.specs.declared.Frame.{Frame}
-use Rattle.reader.specs.declared.Node.TheVariants.{Open}
 use Rattle.reader.proofs.Nodes.{node_open}
 use Rattle.reader.proofs.Steps.{plus, tree_open, all_none, whole_tree, whole_all}
 use Rattle.reader.proofs.Frames.{rest_of, ToCome, whole_to_come, children_to_come, none_to_come, skip}
+use Rattle.std.specs.Prelude.{Ok, Option, Some, None}
+use Rattle.reader.specs.Node.{opened}
 
 -- what is known of a test that passes
-surely : (records : Bool) (lang : Language) (s : List ℕ) (b : Bool) → (b ≡ true → shown (read_whole records lang s) ≡ Ends (length s)) → SurelyRead records lang s b
+surely : (records : Bool) (lang : Language) (s : List ℕ) (b : Bool) → (b ≡ true → shown (read_whole records lang s) ≡ Ok (length s)) → SurelyRead records lang s b
 surely records lang s true h = h refl
 surely records lang s false h = tt
 
@@ -40,10 +38,10 @@ module _ (lang : Language) (s : List ℕ) (b : ℕ) (one : length s ≡ 1) (is :
   in_table true e h = (ltb-true b (length table) e, eqb-true (get_or table b 0) 0 h)
   in_table false e h = absurd (false≢true h)
 
-  leaf_node : b < length table → get_or table b 0 ≡ 0 → node_at lang false Elsewhere nesting s ≡ Open 1 (get_or table b 0) Elsewhere (nesting - 1)
+  leaf_node : b < length table → get_or table b 0 ≡ 0 → node_at lang false None nesting s ≡ Ok (opened 1 (get_or table b 0) None (nesting - 1))
   unfolding open_node
   leaf_node known z =
-      node_open lang false Elsewhere nesting s (Symbol b) (λ e. omega arith) (sym is) (lt-ltb b (length table) known) (λ e. omega arith)
+      node_open lang false None nesting s (Symbol b) (λ e. omega arith) (sym is) (lt-ltb b (length table) known) (λ e. omega arith)
       ∙ rw (ne_eqb (get_or table b 0) list (λ e. omega arith))
 
   pub leaf_read : SurelyRead false lang s (childless lang.table b)
@@ -51,9 +49,9 @@ module _ (lang : Language) (s : List ℕ) (b : ℕ) (one : length s ≡ 1) (is :
       surely false lang s (childless table b) (λ e.
       let k = in_table (ltb b (length table)) refl e in
       ap shown (whole_tree false lang s (omega arith))
-      ∙ whole_all s (read_tree lang false nesting Elsewhere s) (length s)
-      (tree_open lang false nesting Elsewhere s (leaf_node k.0 k.1)
-      ∙ ap (plus 1) (all_none (read_tree lang false (nesting - 1) Elsewhere) (get_or table b 0) (drop 1 s) k.1) ∙ ap Ends (sym one))
+      ∙ whole_all s (read_tree lang false nesting None s) (length s)
+      (tree_open lang false nesting None s (leaf_node k.0 k.1)
+      ∙ ap (plus 1) (all_none (read_tree lang false (nesting - 1) None) (get_or table b 0) (drop 1 s) k.1) ∙ ap Ok (sym one))
       (omega arith) (omega arith))
 
 -- Fewer than 32 nodes with children
@@ -82,7 +80,7 @@ module _ (table s : List ℕ) where
     pub to_come : ToCome (simple table) true s frames at
 
   pub passing_starts : Passing 0 1 0
-  passing_starts = record { frames = frame 1 nesting Elsewhere ∷ []; trees = refl; few = omega arith; roomy = (omega arith, tt); to_come = whole_to_come (simple table) true s }
+  passing_starts = record { frames = frame 1 nesting None ∷ []; trees = refl; few = omega arith; roomy = (omega arith, tt); to_come = whole_to_come (simple table) true s }
 
   -- the frame of the next tree
   record Next (at trees parents : ℕ) : Type 0 where
@@ -106,7 +104,7 @@ module _ (table s : List ℕ) where
       by (suc n) e later =
           record { first = f; others = fs; some = omega (arith, e); is_total = refl; room = r.0; roomy = r.1; to_come = l }
 
-  none_left : (at : ℕ) (fs : List Frame) → total fs ≡ 0 → ToCome (simple table) true s fs at → shown (read_tree (simple table) true nesting Elsewhere s) ≡ Ends at
+  none_left : (at : ℕ) (fs : List Frame) → total fs ≡ 0 → ToCome (simple table) true s fs at → shown (read_tree (simple table) true nesting None s) ≡ Ok at
   none_left at [] z l = none_to_come (simple table) true s at l
   none_left at (f ∷ fs) z l = none_left at fs (omega (arith, z)) (skip (simple table) true s f fs at (omega (arith, z)) l)
 
@@ -116,22 +114,22 @@ module _ (table s : List ℕ) where
       surely true (simple table) s (eqb at (length s)) (λ e.
       let z = eqb-true at (length s) e in
       ap shown (whole_tree true (simple table) s k)
-      ∙ whole_all s (read_tree (simple table) true nesting Elsewhere s) (length s) (none_left at i.frames (omega (arith, h, i.trees)) i.to_come ∙ ap Ends z)
+      ∙ whole_all s (read_tree (simple table) true nesting None s) (length s) (none_left at i.frames (omega (arith, h, i.trees)) i.to_come ∙ ap Ok z)
       (omega arith) (omega arith))
 
   -- the node of a symbol that is in the table
-  module _ (at b : ℕ) (within : at < length s) (is : b ≡ get_or s at 0) (known : b < length table) (stand : Stand) (left : ℕ) (low : 0 < left) where
+  module _ (at b : ℕ) (within : at < length s) (is : b ≡ get_or s at 0) (known : b < length table) (stand : (Option ℕ)) (left : ℕ) (low : 0 < left) where
     symbol_node : node_at (simple table) true stand left (drop at s) ≡ open_node (simple table) stand (left - 1) (drop at s) (Symbol b)
     symbol_node =
         let z : at ≡ at + 0 = omega arith in
         node_open (simple table) true stand left (drop at s) (Symbol b) (λ e. omega (arith, length-drop at s, e))
         (ap Symbol (is ∙ ap (λ (n : ℕ). get_or s n 0) z ∙ sym (get_or-drop at s 0 0))) (lt-ltb b (length table) known) (λ e. omega arith)
 
-    fixed_node : (get_or table b 0 ≡ list → ⊥) → node_at (simple table) true stand left (drop at s) ≡ Open 1 (get_or table b 0) Elsewhere (left - 1)
+    fixed_node : (get_or table b 0 ≡ list → ⊥) → node_at (simple table) true stand left (drop at s) ≡ Ok (opened 1 (get_or table b 0) None (left - 1))
     unfolding open_node
     fixed_node d = symbol_node ∙ rw (ne_eqb (get_or table b 0) list d)
 
-    list_node_holds : get_or table b 0 ≡ list → at + 1 < length s → node_at (simple table) true stand left (drop at s) ≡ Open 2 (get_or s (at + 1) 0) (InList b) (left - 1)
+    list_node_holds : get_or table b 0 ≡ list → at + 1 < length s → node_at (simple table) true stand left (drop at s) ≡ Ok (opened 2 (get_or s (at + 1) 0) (Some b) (left - 1))
     unfolding open_node
     list_node_holds e h =
         symbol_node
@@ -145,8 +143,8 @@ module _ (table s : List ℕ) where
     levels = omega (arith, next.room, i.few)
 
     -- a node with children
-    parent : {size k : ℕ} {inside : Stand} → parents < nesting - 1
-        → node_at (simple table) true next.first.stand next.first.left (drop at s) ≡ Open size k inside (next.first.left - 1)
+    parent : {size k : ℕ} {inside : (Option ℕ)} → parents < nesting - 1
+        → node_at (simple table) true next.first.stand next.first.left (drop at s) ≡ Ok (opened size k inside (next.first.left - 1))
         → Passing (at + size) (end + size - 1 + k) (parents + 1)
     parent {size} {k} {inside} h e =
         let f = next.first in
@@ -168,7 +166,7 @@ module _ (table s : List ℕ) where
             trees = omega (arith, i.trees, next.is_total, next.some);
             few = i.few;
             roomy = (next.room, next.roomy);
-            to_come = skip (simple table) true s (frame (get_or table b 0) (f.left - 1) Elsewhere) (rest_of f ∷ next.others) (at + 1) (sym is_entry ∙ z)
+            to_come = skip (simple table) true s (frame (get_or table b 0) (f.left - 1) None) (rest_of f ∷ next.others) (at + 1) (sym is_entry ∙ z)
                 (children_to_come (simple table) true s f next.others at next.some e next.to_come);
           }
 

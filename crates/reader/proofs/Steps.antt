@@ -10,28 +10,24 @@ use lib.Dec.{eqb}
 use borrow.Author.Tests.{le-leb, lt-leb, eq-eqb, ne_eqb}
 use Rattle.answers.specs.declared.Refusal.{Refusal}
 use Rattle.answers.specs.declared.Refusal.TheVariants.{Long, Spare}
-use Rattle.byte_answers.specs.declared.Read.{Read}
-use Rattle.byte_answers.specs.declared.Read.TheVariants.{Ends}
 use Rattle.term.specs.Code.{code_in}
 use Rattle.term.specs.Tree.{Tree, Trees}
 use Rattle.term.specs.Language.{Language}
 use Rattle.term.specs.Limits.{nesting, longest}
 use Rattle.term.specs.declared.Code.{Code}
-use Rattle.term.specs.declared.Stand.{Stand}
-use Rattle.term.specs.declared.Stand.TheVariants.{Elsewhere}
 use Rattle.term.proofs.Sizes.{encode_length}
 use Rattle.reader.specs.Node.{node_at}
 use Rattle.reader.specs.Reading.{Parsed, refused, read, shown, join, chain, read_all, grow, enter, read_tree, unless_spare, read_whole}
-use Rattle.reader.specs.declared.Node.{Node}
-use Rattle.reader.specs.declared.Node.TheVariants.{Open}
 use Rattle.reader.proofs.Answers.{Got, opened_at, refused_shown, ends_shown}
 use Rattle.reader.proofs.Nodes.{NodeSound, own_length, own_size_holds, sound_node}
 use Rattle.reader.proofs.Inverse.{TreeSound, sound, tree_unfold}
+use Rattle.std.specs.Prelude.{Result, Ok, Err, Option, None}
+use Rattle.reader.specs.Node.{opened}
 
 -- What is read lies within the bytes and the nesting
 
-module _ (lang : Language) (records : Bool) (stand : Stand) (left : ℕ) (s : List ℕ) {size k : ℕ} {inside : Stand} {low : ℕ}
-    (e : node_at lang records stand left s ≡ Open size k inside low) where
+module _ (lang : Language) (records : Bool) (stand : (Option ℕ)) (left : ℕ) (s : List ℕ) {size k : ℕ} {inside : (Option ℕ)} {low : ℕ}
+    (e : node_at lang records stand left s ≡ Ok (opened size k inside low)) where
   node_sound : NodeSound lang records stand left s (code_in records (get_or s 0 0)) size k inside low
   node_sound = opened_at (NodeSound lang records stand left s (code_in records (get_or s 0 0))) (sound_node lang records stand left s) e
 
@@ -43,7 +39,7 @@ module _ (lang : Language) (records : Bool) (stand : Stand) (left : ℕ) (s : Li
   pub node_below : (0 < left) × (low < left + (2 - k))
   node_below = (node_sound.levels, node_sound.fewer)
 
-pub tree_ends : (lang : Language) (records : Bool) (left : ℕ) (stand : Stand) (s : List ℕ) (n : ℕ) → shown (read_tree lang records left stand s) ≡ Ends n → n ≤ length s
+pub tree_ends : (lang : Language) (records : Bool) (left : ℕ) (stand : (Option ℕ)) (s : List ℕ) (n : ℕ) → shown (read_tree lang records left stand s) ≡ Ok n → n ≤ length s
 tree_ends lang records left stand s n e =
     let x = ends_shown (read_tree lang records left stand s) n e in
     let h = subst (Got (TreeSound lang records left stand s)) x.1 (sound lang records left stand s) in
@@ -51,9 +47,9 @@ tree_ends lang records left stand s n e =
 
 -- So many bytes before what was read
 
-abbrev pub plus : ℕ → Read → Read
-plus n (Read.Refused r) = Read.Refused r
-plus n (Ends m) = Ends (n + m)
+abbrev pub plus : ℕ → Result ℕ Refusal → Result ℕ Refusal
+plus n (Err r) = Err r
+plus n (Ok m) = Ok (n + m)
 
 shown_grow : (c : Code) (size : ℕ) (a : Parsed Trees) → shown (grow c size a) ≡ plus size (shown a)
 unfolding shown grow
@@ -66,9 +62,9 @@ shown_join t n (refused r) = refl
 shown_join t n (read ts m) = refl
 
 -- and then what follows
-abbrev pub and_then : Read → (ℕ → Read) → Read
-and_then (Read.Refused r) g = Read.Refused r
-and_then (Ends n) g = plus n (g n)
+abbrev pub and_then : Result ℕ Refusal → (ℕ → Result ℕ Refusal) → Result ℕ Refusal
+and_then (Err r) g = Err r
+and_then (Ok n) g = plus n (g n)
 
 pub shown_chain : (a : Parsed Tree) (g : ℕ → Parsed Trees) → shown (chain a g) ≡ and_then (shown a) (λ n. shown (g n))
 unfolding shown chain
@@ -77,14 +73,14 @@ shown_chain (read t n) g = shown_join t n (g n)
 
 -- One tree
 
-module _ (lang : Language) (records : Bool) (left : ℕ) (stand : Stand) (s : List ℕ) where
+module _ (lang : Language) (records : Bool) (left : ℕ) (stand : (Option ℕ)) (s : List ℕ) where
   -- a node that is refused refuses its tree
-  pub tree_refused : (r : Refusal) → node_at lang records stand left s ≡ Node.Refused r → shown (read_tree lang records left stand s) ≡ Read.Refused r
+  pub tree_refused : (r : Refusal) → node_at lang records stand left s ≡ Err r → shown (read_tree lang records left stand s) ≡ Err r
   unfolding shown enter
   tree_refused r e = ap shown (tree_unfold lang records left stand s) ∙ rw e
 
   -- a node that is open goes on with its children
-  pub tree_open : {size k : ℕ} {inside : Stand} {low : ℕ} → node_at lang records stand left s ≡ Open size k inside low
+  pub tree_open : {size k : ℕ} {inside : (Option ℕ)} {low : ℕ} → node_at lang records stand left s ≡ Ok (opened size k inside low)
       → shown (read_tree lang records left stand s) ≡ plus size (shown (read_all (read_tree lang records low inside) k (drop size s)))
   unfolding enter
   tree_open {size} {k} {inside} {low} e =
@@ -93,7 +89,7 @@ module _ (lang : Language) (records : Bool) (left : ℕ) (stand : Stand) (s : Li
 
 -- So many trees
 
-pub all_none : (f : List ℕ → Parsed Tree) (k : ℕ) (s : List ℕ) → k ≡ 0 → shown (read_all f k s) ≡ Ends 0
+pub all_none : (f : List ℕ → Parsed Tree) (k : ℕ) (s : List ℕ) → k ≡ 0 → shown (read_all f k s) ≡ Ok 0
 unfolding shown read_all
 all_none f k s e = rw e
 
@@ -106,28 +102,28 @@ all_more f (suc k) s h = rw (sub-one (suc k))
 -- The whole of the bytes
 
 module _ (records : Bool) (lang : Language) (s : List ℕ) where
-  pub whole_long : longest records < length s → shown (read_whole records lang s) ≡ Read.Refused Long
+  pub whole_long : longest records < length s → shown (read_whole records lang s) ≡ Err Long
   unfolding read_whole shown
   whole_long h = rw (lt-leb (length s) (longest records) h)
 
-  pub whole_tree : length s ≤ longest records → read_whole records lang s ≡ unless_spare s (read_tree lang records nesting Elsewhere s)
+  pub whole_tree : length s ≤ longest records → read_whole records lang s ≡ unless_spare s (read_tree lang records nesting None s)
   unfolding read_whole
   whole_tree h = rw (le-leb (length s) (longest records) h)
 
-pub whole_refused : (s : List ℕ) (a : Parsed Tree) (r : Refusal) → shown a ≡ Read.Refused r → shown (unless_spare s a) ≡ Read.Refused r
+pub whole_refused : (s : List ℕ) (a : Parsed Tree) (r : Refusal) → shown a ≡ Err r → shown (unless_spare s a) ≡ Err r
 unfolding shown unless_spare
 whole_refused s a r e = rw (refused_shown a r e)
 
-whole_ends : (s : List ℕ) (a : Parsed Tree) (n : ℕ) → shown a ≡ Ends n → shown (unless_spare s a) ≡ cond (eqb n (length s)) (Ends n) (Read.Refused Spare)
+whole_ends : (s : List ℕ) (a : Parsed Tree) (n : ℕ) → shown a ≡ Ok n → shown (unless_spare s a) ≡ cond (eqb n (length s)) (Ok n) (Err Spare)
 unfolding shown unless_spare
 whole_ends s a n e = let x = ends_shown a n e in rw x.1 (by x.0 (eqb n (length s)))
   where
-    by : (t : Tree) (b : Bool) → shown (cond b (read t n) (refused Spare)) ≡ cond b (Ends n) (Read.Refused Spare)
+    by : (t : Tree) (b : Bool) → shown (cond b (read t n) (refused Spare)) ≡ cond b (Ok n) (Err Spare)
     by t true = refl
     by t false = refl
 
-pub whole_spare : (s : List ℕ) (a : Parsed Tree) (n : ℕ) → shown a ≡ Ends n → n < length s → shown (unless_spare s a) ≡ Read.Refused Spare
+pub whole_spare : (s : List ℕ) (a : Parsed Tree) (n : ℕ) → shown a ≡ Ok n → n < length s → shown (unless_spare s a) ≡ Err Spare
 whole_spare s a n e h = whole_ends s a n e ∙ simp (ne_eqb n (length s) (omega arith))
 
-pub whole_all : (s : List ℕ) (a : Parsed Tree) (n : ℕ) → shown a ≡ Ends n → n ≤ length s → length s ≤ n → shown (unless_spare s a) ≡ Ends n
+pub whole_all : (s : List ℕ) (a : Parsed Tree) (n : ℕ) → shown a ≡ Ok n → n ≤ length s → length s ≤ n → shown (unless_spare s a) ≡ Ok n
 whole_all s a n e h k = whole_ends s a n e ∙ simp (eq-eqb n (length s) (omega arith))

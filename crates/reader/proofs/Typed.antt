@@ -42,10 +42,10 @@ module _ {X : Type 0} (write : X → Tree) (make : Tree → X) (back : (x : X) �
       from h = ap (map_parsed make) ((read_iff l records s octets (write x)).1 h) ∙ ap (λ (y : X). read y (length s)) (back x)
 
 -- what is read are all the bytes
-read_length : {A : Type 0} (f : Tree → A) (records : Bool) (l : Language) (s : List ℕ) (x : A) (n : ℕ) → map_parsed f (read_whole records l s) ≡ read x n
+size_told : {A : Type 0} (f : Tree → A) (records : Bool) (l : Language) (s : List ℕ) (x : A) (n : ℕ) → map_parsed f (read_whole records l s) ≡ read x n
     → map_parsed f (read_whole records l s) ≡ read x (length s)
 unfolding ReadWhole
-read_length f records l s x n e =
+size_told f records l s x n e =
     let m = map_read f (read_whole records l s) x n e in
     e ∙ ap (read x) (subst (Got (ReadWhole l records s)) m.1 (whole_read l records s)).1
 
@@ -62,8 +62,8 @@ module _ (l : Language) (s : List ℕ) (octets : Octets s) where
   module _ (n : ℕ) where
     pub record_read : (t : Term) → read_record l s ≡ read t n → (term_bytes l.table t [] ≡ s) × TermAccepted l t
     unfolding read_record
-    record_read t e = (record_iff t).0 (read_length term_of true l s t n e)
+    record_read t e = (record_iff t).0 (size_told term_of true l s t n e)
 
     pub pattern_read : (q : Pattern) → read_pattern l s ≡ read q n → (pattern_bytes l.table q [] ≡ s) × PatternAccepted l q
     unfolding read_pattern
-    pattern_read q e = (pattern_iff q).0 (read_length pattern_of false l s q n e)
+    pattern_read q e = (pattern_iff q).0 (size_told pattern_of false l s q n e)

@@ -1,7 +1,6 @@
 -- What a call brings: an edition, a table and, since "A call may bring a class list" (document 02, L1), maybe that. One that brings none has the empty
 -- one, and nothing to check.
-use Rattle.std.specs.Prelude.{ℕ, List, [], Bool, true, false}
-use Rattle.std.proofs.Math.Option.{Option, none, some}
+use Rattle.std.specs.Prelude.{ℕ, List, [], Bool, true, false, Option, Some, None}
 use Rattle.term.specs.Class.{classes_accepted}
 use Rattle.term.specs.Language.{Language, language}
 use Rattle.term.specs.declared.Edition.{Edition}
@@ -14,23 +13,23 @@ pub record Brought : Type 0 where
 
 -- a call's simple form: edition 1, no class list
 abbrev pub simply : List ℕ → Brought
-simply table = record { edition = One; table = table; list = none }
+simply table = record { edition = One; table = table; list = None }
 
 -- its form `_in`, told both: "A call without a sheet, and the writer, is told the edition"
 abbrev pub bringing : Edition → List ℕ → List ℕ → Brought
-bringing edition table classes = record { edition = edition; table = table; list = some classes }
+bringing edition table classes = record { edition = edition; table = table; list = Some classes }
 
 -- a class list, if one is brought
 abbrev pub list_if : Bool → List ℕ → Option (List ℕ)
-list_if true classes = some classes
-list_if false classes = none
+list_if true classes = Some classes
+list_if false classes = None
 
 abbrev pub brought_by : Edition → List ℕ → Bool → List ℕ → Brought
 brought_by edition table brings classes = record { edition = edition; table = table; list = list_if brings classes }
 
 abbrev pub or_empty : Option (List ℕ) → List ℕ
-or_empty none = []
-or_empty (some classes) = classes
+or_empty None = []
+or_empty (Some classes) = classes
 
 abbrev pub classes_of : Brought → List ℕ
 classes_of brought = or_empty brought.list
@@ -43,8 +42,8 @@ abbrev pub language_of : Brought → Language
 language_of brought = language_in brought.edition brought.table brought.list
 
 abbrev pub list_accepted : List ℕ → Option (List ℕ) → Bool
-list_accepted table none = true
-list_accepted table (some classes) = classes_accepted table classes
+list_accepted table None = true
+list_accepted table (Some classes) = classes_accepted table classes
 
 abbrev pub brought_accepted : Brought → Bool
 brought_accepted brought = list_accepted brought.table brought.list

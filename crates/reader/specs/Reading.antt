@@ -1,9 +1,7 @@
 -- Reading a record or a pattern: 6, then each node's checks, root first, left to right, 3 last.
-use Rattle.std.specs.Prelude.{ℕ, zero, suc, ◌+◌, ◌≡◌, List, Bool, true, false, cond, length, get_or, drop, leb, ltb, eqb}
+use Rattle.std.specs.Prelude.{ℕ, zero, suc, ◌+◌, ◌≡◌, List, Bool, true, false, cond, length, get_or, drop, leb, ltb, eqb, Result, Ok, Err, Option, None}
 use Rattle.answers.specs.declared.Refusal.{Refusal}
 use Rattle.answers.specs.declared.Refusal.TheVariants.{Short, Spare, Long}
-use Rattle.byte_answers.specs.declared.Read.{Read}
-use Rattle.byte_answers.specs.declared.Read.TheVariants.{Ends}
 use Rattle.term.specs.Code.{code_in}
 use Rattle.term.specs.Tree.{Tree, Trees, branch, empty, more}
 use Rattle.term.specs.Term.{Term, term_of}
@@ -11,11 +9,8 @@ use Rattle.term.specs.Pattern.{Pattern, pattern_of}
 use Rattle.term.specs.Language.{Language}
 use Rattle.term.specs.Limits.{longest, nesting}
 use Rattle.term.specs.declared.Code.{Code}
-use Rattle.term.specs.declared.Stand.{Stand}
-use Rattle.term.specs.declared.Stand.TheVariants.{Elsewhere}
 use Rattle.reader.specs.Node.{node_at}
-use Rattle.reader.specs.declared.Node.{Node}
-use Rattle.reader.specs.declared.Node.TheVariants.{Open}
+use Rattle.reader.specs.declared.Open.{Open}
 
 -- a refusal, or what was read and its number of bytes
 pub data Parsed (A : Type 0) : Type 0 where
@@ -23,9 +18,9 @@ pub data Parsed (A : Type 0) : Type 0 where
   read : A → ℕ → Parsed A
 
 -- what the code answers: the number of bytes alone
-unfoldable pub shown : {A : Type 0} → Parsed A → Read
-shown (refused r) = Read.Refused r
-shown (read a n) = Ends n
+unfoldable pub shown : {A : Type 0} → Parsed A → Result ℕ Refusal
+shown (refused r) = Err r
+shown (read a n) = Ok n
 
 unfoldable pub join : Tree → ℕ → Parsed Trees → Parsed Trees
 join t n (refused r) = refused r
@@ -46,24 +41,19 @@ grow c size (refused r) = refused r
 grow c size (read ts n) = read (branch c ts) (size + n)
 
 -- a node that is open goes on with its children
-unfoldable pub enter : Code → Node → (ℕ → ℕ → Stand → ℕ → Parsed Trees) → Parsed Tree
-enter c (Node.Refused r) g = refused r
-enter c (Open size k stand low) g = grow c size (g size k stand low)
+unfoldable pub enter : Code → Result Open Refusal → (ℕ → ℕ → Option ℕ → ℕ → Parsed Trees) → Parsed Tree
+enter c (Err r) g = refused r
+enter c (Ok o) g = grow c o.size (g o.size o.kids o.inside o.low)
 
 -- the tree at the start of s. The first number bounds the nodes: as many as s has bytes are enough, and with none left s is short
-unfoldable pub read_by : Language → Bool → ℕ → ℕ → Stand → List ℕ → Parsed Tree
+unfoldable pub read_by : Language → Bool → ℕ → ℕ → Option ℕ → List ℕ → Parsed Tree
 read_by l records zero left stand s = refused Short
 read_by l records (suc n) left stand s =
     enter (code_in records (get_or s 0 0)) (node_at l records stand left s)
     (λ size k children low. read_all (read_by l records n low children) k (drop size s))
 
-unfoldable pub read_tree : Language → Bool → ℕ → Stand → List ℕ → Parsed Tree
+unfoldable pub read_tree : Language → Bool → ℕ → Option ℕ → List ℕ → Parsed Tree
 read_tree l records left stand s = read_by l records (length s) left stand s
-
--- a node's refusal is handed on; of an open node it says nothing
-abbrev pub HandsOn : Node → Read → Type 0
-HandsOn (Node.Refused r) a = a ≡ Read.Refused r
-HandsOn (Open size k stand low) a = Unit {0}
 
 -- 3 where bytes are left after the tree
 unfoldable pub unless_spare : List ℕ → Parsed Tree → Parsed Tree
@@ -73,7 +63,7 @@ unless_spare s (read t n) = cond (eqb n (length s)) (read t n) (refused Spare)
 -- the whole of s as one tree
 unfoldable pub read_whole : Bool → Language → List ℕ → Parsed Tree
 read_whole records l s =
-    cond (leb (length s) (longest records)) (unless_spare s (read_tree l records nesting Elsewhere s)) (refused Long)
+    cond (leb (length s) (longest records)) (unless_spare s (read_tree l records nesting None s)) (refused Long)
 
 -- a symbol of the table that has no children
 abbrev pub childless : List ℕ → ℕ → Bool
@@ -81,7 +71,7 @@ childless table b = cond (ltb b (length table)) (eqb (get_or table b 0) 0) false
 
 -- true where s is known to be one tree; false says nothing
 abbrev pub SurelyRead : Bool → Language → List ℕ → Bool → Type 0
-SurelyRead records l s true = shown (read_whole records l s) ≡ Ends (length s)
+SurelyRead records l s true = shown (read_whole records l s) ≡ Ok (length s)
 SurelyRead records l s false = Unit {0}
 
 unfoldable pub map_parsed : {A B : Type 0} → (A → B) → Parsed A → Parsed B

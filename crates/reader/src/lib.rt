@@ -3,18 +3,19 @@
 
 ghost use Rattle.std.specs.Prelude.{◌≡◌, true, false, ◌-◌};
 ghost use Rattle.term.specs.Code.{code_in};
-ghost use Rattle.term.specs.Language.{language, simple};
+ghost use Rattle.term.specs.Language.{simple};
+ghost use Rattle.term.specs.Lent.{language_by};
 ghost use Rattle.term.specs.Limits.{nesting, longest};
 ghost use Rattle.term.specs.Splicing.{in_list, directly, unspliced};
-ghost use Rattle.reader.specs.Brought.{list_if, or_empty, list_accepted};
-ghost use Rattle.reader.specs.Node.{list_node, unless_unspliced, unless_deep, code_node, node_at};
+ghost use Rattle.reader.specs.Brought.{simply, bringing, brought_accepted, language_of};
+ghost use Rattle.reader.specs.Lent.{brought_of};
+ghost use Rattle.reader.specs.Node.{opened, list_node, unless_unspliced, unless_deep, code_node, node_at};
 ghost use Rattle.reader.specs.Frame.{frame};
-ghost use Rattle.reader.specs.Simple.{stand_by, opening_of, level_by, Hands};
-ghost use Rattle.reader.specs.Reading.{shown, read_tree, HandsOn, read_whole, childless, SurelyRead, read_record, read_pattern};
+ghost use Rattle.reader.specs.Simple.{read_in};
+ghost use Rattle.reader.specs.Reading.{shown, read_tree, read_whole, childless, SurelyRead, read_record, read_pattern};
 
 use answers::Refusal;
-use byte_answers::Read;
-use term::{Code, Edition, LIST, LONGEST_PATTERN, LONGEST_RECORD, NESTING, Stand, decode};
+use term::{Code, Edition, LIST, LONGEST_PATTERN, LONGEST_RECORD, Language, NESTING, decode};
 
 // The most frames around a tree that is being read.
 pub const FRAMES: usize = NESTING as usize;
@@ -22,24 +23,29 @@ pub const FRAMES: usize = NESTING as usize;
 // So many nodes with children are not nested too deep, nor are their children.
 const FEW_PARENTS: u8 = NESTING - 1;
 
-// The checks of one node: its own bytes, its number of children, where these stand, and the nesting left for them.
+// A node that passed its checks: the number of its own bytes and of its children, the list that these stand in, and the nesting left for them.
 #[derive(Clone, Copy)]
-pub enum Node {
-    Open {
-        size: usize,
-        kids: u8,
-        inside: Stand,
-        low: u8,
-    },
-    Refused(Refusal),
+pub struct Open {
+    pub size: usize,
+    pub kids: u8,
+    pub inside: Option<u8>,
+    pub low: u8,
 }
 
-// Trees that are still to be read: how many, the nesting left for them, and where they stand.
+// What a call brings: an edition, a table and, where symbols are alike, a class list.
+#[derive(Clone, Copy)]
+pub struct Brought<'a> {
+    pub edition: Edition,
+    pub table: &'a [u8],
+    pub list: Option<&'a [u8]>,
+}
+
+// Trees that are still to be read: how many, the nesting left for them, and the list that they stand in directly.
 #[derive(Clone, Copy)]
 pub struct Frame {
     pub count: u8,
     pub left: u8,
-    pub stand: Stand,
+    pub stand: Option<u8>,
 }
 
 fn code_in(records: bool, b: u8) -> Code
@@ -55,137 +61,133 @@ fn wide(b: u8) -> usize
 }
 
 // A node of one byte.
-fn plain_node(kids: u8, left: u8) -> Node
-    ensures { result ≡ unless_deep left (Node.Open 1 kids Stand.Elsewhere (left - 1)) }
+fn plain_node(kids: u8, left: u8) -> Result<Open, Refusal>
+    ensures { result ≡ unless_deep left (Ok (opened 1 kids None (left - 1))) }
 {
     if left == 0 {
-        return Node::Refused(Refusal::Deep);
+        return Err(Refusal::Deep);
     }
-    Node::Open {
+    Ok(Open {
         size: 1,
-        kids: kids,
-        inside: Stand::Elsewhere,
+        kids,
+        inside: None,
         low: left - 1,
-    }
+    })
 }
 
 // A complement: its child has its own nesting.
-fn complement_node(left: u8) -> Node
-    ensures { result ≡ unless_deep left (Node.Open 1 1 Stand.Elsewhere left) }
+fn complement_node(left: u8) -> Result<Open, Refusal>
+    ensures { result ≡ unless_deep left (Ok (opened 1 1 None left)) }
 {
     if left == 0 {
-        return Node::Refused(Refusal::Deep);
+        return Err(Refusal::Deep);
     }
-    Node::Open {
+    Ok(Open {
         size: 1,
         kids: 1,
-        inside: Stand::Elsewhere,
+        inside: None,
         low: left,
-    }
+    })
 }
 
 // A run name that is no child of a list.
-fn stray_node(left: u8) -> Node
-    ensures { result ≡ unless_deep left (Node.Refused Refusal.Stray) }
+fn stray_node(left: u8) -> Result<Open, Refusal>
+    ensures { result ≡ unless_deep left (Err Refusal.Stray) }
 {
     if left == 0 {
-        return Node::Refused(Refusal::Deep);
+        return Err(Refusal::Deep);
     }
-    Node::Refused(Refusal::Stray)
+    Err(Refusal::Stray)
 }
 
 // Whether a node stands as a direct child of a list.
-pub fn in_list(stand: Stand) -> bool
+pub fn in_list(stand: Option<u8>) -> bool
     ensures { result ≡ in_list stand }
 {
-    match stand {
-        Stand::InList(_) => true,
-        Stand::Elsewhere => false,
-    }
+    stand.is_some()
 }
 
 // Whether a list of symbol b stands directly in a list of the same symbol, up to class.
-fn is_direct(classes: &[u8], stand: Stand, b: u8) -> bool
-    ensures { result ≡ directly classes.now stand (Stand.InList b) }
+fn is_direct(classes: &[u8], stand: Option<u8>, b: u8) -> bool
+    ensures { result ≡ directly classes.now stand (Some b) }
 {
     match stand {
-        Stand::InList(s) => term::same_symbol(classes, s, b),
-        Stand::Elsewhere => false,
+        Some(s) => term::same_symbol(classes, s, b),
+        None => false,
     }
 }
 
-// Whether a list of symbol b is to be spliced there.
-fn is_unspliced(edition: Edition, classes: &[u8], stand: Stand, b: u8) -> bool
-    ensures { result ≡ unspliced edition classes.now stand (Stand.InList b) }
+// Whether a list of symbol b is to be spliced there. Of these functions, those that are SIMPLE read edition 1, whatever the language's is.
+fn is_unspliced<const SIMPLE: bool>(language: &Language<'_>, stand: Option<u8>, b: u8) -> bool
+    ensures { result ≡ unspliced (read_in SIMPLE (language_by language.now)).edition (read_in SIMPLE (language_by language.now)).classes stand (Some b) }
 {
-    match edition {
+    if SIMPLE {
+        return false;
+    }
+    match language.edition {
         Edition::One => false,
-        Edition::Two => is_direct(classes, stand, b),
+        Edition::Two => is_direct(language.classes, stand, b),
     }
 }
 
 // The node of a list symbol, which is to be spliced there or not.
-fn list_node(s: &[u8], left: u8, b: u8, to_splice: bool) -> Node
+fn list_node(s: &[u8], left: u8, b: u8, to_splice: bool) -> Result<Open, Refusal>
     ensures { result ≡ unless_deep left (unless_unspliced to_splice (list_node b (left - 1) s.now)) }
 {
     if left == 0 {
-        return Node::Refused(Refusal::Deep);
+        return Err(Refusal::Deep);
     }
     if to_splice {
-        return Node::Refused(Refusal::Unspliced);
+        return Err(Refusal::Unspliced);
     }
     if s.len() < 2 {
-        return Node::Refused(Refusal::Short);
+        return Err(Refusal::Short);
     }
-    Node::Open {
+    Ok(Open {
         size: 2,
         kids: s[1],
-        inside: Stand::InList(b),
+        inside: Some(b),
         low: left - 1,
-    }
+    })
 }
 
 // The node of a symbol.
-fn symbol_node(
-    edition: Edition,
-    table: &[u8],
-    classes: &[u8],
+fn symbol_node<const SIMPLE: bool>(
+    language: &Language<'_>,
     s: &[u8],
-    stand: Stand,
+    stand: Option<u8>,
     left: u8,
     b: u8,
-) -> Node
-    ensures { result ≡ code_node (language edition table.now classes.now) stand left s.now (Code.Symbol b) }
+) -> Result<Open, Refusal>
+    ensures { result ≡ code_node (read_in SIMPLE (language_by language.now)) stand left s.now (Code.Symbol b) }
 {
     let i = wide(b);
-    if table.len() <= i {
-        return Node::Refused(Refusal::BadCode);
+    if language.table.len() <= i {
+        return Err(Refusal::BadCode);
     }
-    let entry = table[i];
+    let entry = language.table[i];
     if entry == LIST {
-        return list_node(s, left, b, is_unspliced(edition, classes, stand, b));
+        return list_node(s, left, b, is_unspliced::<SIMPLE>(language, stand, b));
     }
     plain_node(entry, left)
 }
 
-// The node at the start of s, in the language of an edition, a table and a class list.
-pub fn node_at(
-    edition: Edition,
-    table: &[u8],
-    classes: &[u8],
+// The node at the start of s.
+fn node_in<const SIMPLE: bool>(
+    language: &Language<'_>,
     s: &[u8],
     records: bool,
-    stand: Stand,
+    stand: Option<u8>,
     left: u8,
-) -> Node
-    ensures { result ≡ node_at (language edition table.now classes.now) records stand left s.now }
+) -> Result<Open, Refusal>
+    ensures { result ≡ node_at (read_in SIMPLE (language_by language.now)) records stand left s.now }
 {
     if s.len() == 0 {
-        return Node::Refused(Refusal::Short);
+        return Err(Refusal::Short);
     }
     let code = code_in(records, s[0]);
     match code {
-        Code::Symbol(b) => symbol_node(edition, table, classes, s, stand, left, b),
+        Code::Symbol(b) => symbol_node::<SIMPLE>(language, s, stand, left, b),
         Code::Name(_) => plain_node(0, left),
         Code::Run(_) => {
             if in_list(stand) {
@@ -194,261 +196,69 @@ pub fn node_at(
             stray_node(left)
         }
         Code::Complement => complement_node(left),
-        Code::Refused => Node::Refused(Refusal::BadCode),
+        Code::Refused => Err(Refusal::BadCode),
     }
 }
 
-// The checks of one node in edition 1, which tells its children no more of where they stand than whether that is in a list.
-#[derive(Clone, Copy)]
-enum Opening {
-    Open {
-        size: usize,
-        kids: u8,
-        list: bool,
-        low: u8,
-    },
-    Refused(Refusal),
-}
-
-// Trees that are still to be read in edition 1.
-#[derive(Clone, Copy)]
-struct Level {
-    count: u8,
+// The node at the start of s, in the language of an edition, a table and a class list.
+pub fn node_at(
+    language: &Language<'_>,
+    s: &[u8],
+    records: bool,
+    stand: Option<u8>,
     left: u8,
-    list: bool,
-}
-
-// A node of one byte, in edition 1.
-fn simple_plain(kids: u8, left: u8) -> Opening
-    ensures { result ≡ opening_of (unless_deep left (Node.Open 1 kids Stand.Elsewhere (left - 1))) }
+) -> Result<Open, Refusal>
+    ensures { result ≡ node_at (language_by language.now) records stand left s.now }
 {
-    if left == 0 {
-        return Opening::Refused(Refusal::Deep);
-    }
-    Opening::Open {
-        size: 1,
-        kids: kids,
-        list: false,
-        low: left - 1,
-    }
-}
-
-// A complement, in edition 1.
-fn simple_complement(left: u8) -> Opening
-    ensures { result ≡ opening_of (unless_deep left (Node.Open 1 1 Stand.Elsewhere left)) }
-{
-    if left == 0 {
-        return Opening::Refused(Refusal::Deep);
-    }
-    Opening::Open {
-        size: 1,
-        kids: 1,
-        list: false,
-        low: left,
-    }
-}
-
-// A run name that is no child of a list, in edition 1.
-fn simple_stray(left: u8) -> Opening
-    ensures { result ≡ opening_of (unless_deep left (Node.Refused Refusal.Stray)) }
-{
-    if left == 0 {
-        return Opening::Refused(Refusal::Deep);
-    }
-    Opening::Refused(Refusal::Stray)
-}
-
-// The node of a list symbol, in edition 1.
-fn simple_list(s: &[u8], left: u8) -> Opening
-    ensures { result ≡ opening_of (unless_deep left (list_node 0 (left - 1) s.now)) }
-{
-    if left == 0 {
-        return Opening::Refused(Refusal::Deep);
-    }
-    if s.len() < 2 {
-        return Opening::Refused(Refusal::Short);
-    }
-    Opening::Open {
-        size: 2,
-        kids: s[1],
-        list: true,
-        low: left - 1,
-    }
-}
-
-// The node of a symbol, in edition 1.
-fn simple_symbol(table: &[u8], s: &[u8], left: u8, b: u8) -> Opening
-    ensures { result ≡ opening_of (code_node (simple table.now) Stand.Elsewhere left s.now (Code.Symbol b)) }
-{
-    let i = wide(b);
-    if table.len() <= i {
-        return Opening::Refused(Refusal::BadCode);
-    }
-    let entry = table[i];
-    if entry == LIST {
-        return simple_list(s, left);
-    }
-    simple_plain(entry, left)
-}
-
-// The node at the start of s, in edition 1.
-fn simple_node(table: &[u8], s: &[u8], records: bool, list: bool, left: u8) -> Opening
-    ensures { result ≡ opening_of (node_at (simple table.now) records (stand_by list) left s.now) }
-{
-    if s.len() == 0 {
-        return Opening::Refused(Refusal::Short);
-    }
-    let code = code_in(records, s[0]);
-    match code {
-        Code::Symbol(b) => simple_symbol(table, s, left, b),
-        Code::Name(_) => simple_plain(0, left),
-        Code::Run(_) => {
-            if list {
-                return simple_plain(0, left);
-            }
-            simple_stray(left)
-        }
-        Code::Complement => simple_complement(left),
-        Code::Refused => Opening::Refused(Refusal::BadCode),
-    }
+    node_in::<false>(language, s, records, stand, left)
 }
 
 impl Frame {
     pub const EMPTY: Frame = Frame {
         count: 0,
         left: 0,
-        stand: Stand::Elsewhere,
+        stand: None,
     };
 
-    pub fn of(count: u8, left: u8, stand: Stand) -> Frame
+    pub fn of(count: u8, left: u8, stand: Option<u8>) -> Frame
         ensures { result ≡ frame count left stand }
     {
-        Frame {
-            count: count,
-            left: left,
-            stand: stand,
-        }
-    }
-}
-
-// A refused node's refusal; an open node has none, and is never asked.
-pub fn node_refusal(n: Node) -> Read
-    ensures { HandsOn n result }
-{
-    match n {
-        Node::Refused(r) => Read::Refused(r),
-        Node::Open {
-            size: _,
-            kids: _,
-            inside: _,
-            low: _,
-        } => Read::Ends(0),
-    }
-}
-
-impl Level {
-    const EMPTY: Level = Level {
-        count: 0,
-        left: 0,
-        list: false,
-    };
-
-    fn of(count: u8, left: u8, list: bool) -> Level
-        ensures { result ≡ level_by count left list }
-    {
-        Level {
-            count: count,
-            left: left,
-            list: list,
-        }
-    }
-}
-
-// The same in edition 1.
-fn simple_refusal(n: Opening) -> Read
-    ensures { Hands n result }
-{
-    match n {
-        Opening::Refused(r) => Read::Refused(r),
-        Opening::Open {
-            size: _,
-            kids: _,
-            list: _,
-            low: _,
-        } => Read::Ends(0),
-    }
-}
-
-// The tree at the start of s in edition 1, read as by `read_tree`, with levels for frames.
-fn simple_tree(table: &[u8], s: &[u8], records: bool) -> Read
-    ensures { result ≡ shown (read_tree (simple table.now) records nesting Stand.Elsewhere s.now) }
-{
-    let mut around = [Level::EMPTY; FRAMES];
-    let mut depth: usize = 0;
-    let mut top = Level::of(1, NESTING, false);
-    let mut at: usize = 0;
-    loop {
-        let node = simple_node(table, &s[at..], records, top.list, top.left);
-        let Opening::Open {
-            size,
-            kids,
-            list,
-            low,
-        } = node
-        else {
-            return simple_refusal(node);
-        };
-        at = at + size;
-        top.count = top.count - 1;
-        if 0 < kids {
-            if 0 < top.count {
-                around[depth] = top;
-                depth = depth + 1;
-            }
-            top = Level::of(kids, low, list);
-        } else if top.count == 0 {
-            if depth == 0 {
-                return Read::Ends(at);
-            }
-            depth = depth - 1;
-            top = around[depth];
-        }
+        Frame { count, left, stand }
     }
 }
 
 // The tree at the start of s. Still to be read are the trees of `top`, and then those of the frames around it, the innermost first.
-fn read_tree(edition: Edition, table: &[u8], classes: &[u8], s: &[u8], records: bool) -> Read
-    ensures { result ≡ shown (read_tree (language edition table.now classes.now) records nesting Stand.Elsewhere s.now) }
+fn read_tree<const SIMPLE: bool>(
+    language: &Language<'_>,
+    s: &[u8],
+    records: bool,
+) -> Result<usize, Refusal>
+    ensures { result ≡ shown (read_tree (read_in SIMPLE (language_by language.now)) records nesting None s.now) }
 {
     let mut around = [Frame::EMPTY; FRAMES];
     let mut depth: usize = 0;
-    let mut top = Frame::of(1, NESTING, Stand::Elsewhere);
+    let mut top = Frame::of(1, NESTING, None);
     let mut at: usize = 0;
     loop {
-        let stand = top.stand;
-        let node = node_at(edition, table, classes, &s[at..], records, stand, top.left);
-        let Node::Open {
+        let Open {
             size,
             kids,
             inside,
             low,
-        } = node
-        else {
-            return node_refusal(node);
-        };
-        at = at + size;
-        top.count = top.count - 1;
+        } = node_in::<SIMPLE>(language, &s[at..], records, top.stand, top.left)?;
+        at += size;
+        top.count -= 1;
         if 0 < kids {
             if 0 < top.count {
                 around[depth] = top;
-                depth = depth + 1;
+                depth += 1;
             }
             top = Frame::of(kids, low, inside);
         } else if top.count == 0 {
             if depth == 0 {
-                return Read::Ends(at);
+                return Ok(at);
             }
-            depth = depth - 1;
+            depth -= 1;
             top = around[depth];
         }
     }
@@ -492,38 +302,22 @@ fn is_leaf(table: &[u8], s: &[u8]) -> bool
     }
 }
 
-// The whole of s as one tree, in edition 1.
-fn simple_whole(records: bool, table: &[u8], s: &[u8]) -> Read
-    ensures { result ≡ shown (read_whole records (simple table.now) s.now) }
-{
-    if longest_of(records) < s.len() {
-        return Read::Refused(Refusal::Long);
-    }
-    let tree = simple_tree(table, s, records);
-    let Read::Ends(n) = tree else {
-        return tree;
-    };
-    if n < s.len() {
-        return Read::Refused(Refusal::Spare);
-    }
-    tree
-}
-
 // The whole of s as one tree.
-fn read_whole(records: bool, edition: Edition, table: &[u8], classes: &[u8], s: &[u8]) -> Read
-    ensures { result ≡ shown (read_whole records (language edition table.now classes.now) s.now) }
+fn read_whole<const SIMPLE: bool>(
+    records: bool,
+    language: &Language<'_>,
+    s: &[u8],
+) -> Result<usize, Refusal>
+    ensures { result ≡ shown (read_whole records (read_in SIMPLE (language_by language.now)) s.now) }
 {
     if longest_of(records) < s.len() {
-        return Read::Refused(Refusal::Long);
+        return Err(Refusal::Long);
     }
-    let tree = read_tree(edition, table, classes, s, records);
-    let Read::Ends(n) = tree else {
-        return tree;
-    };
-    if n < s.len() {
-        return Read::Refused(Refusal::Spare);
+    let end = read_tree::<SIMPLE>(language, s, records)?;
+    if end < s.len() {
+        return Err(Refusal::Spare);
     }
-    tree
+    Ok(end)
 }
 
 // Whether s is surely a record of edition 1: with fewer than 32 lists and other nodes that have children, a tree is not nested deeper than 32 and needs no frames.
@@ -568,61 +362,102 @@ fn is_shallow(table: &[u8], s: &[u8]) -> bool
     at == s.len()
 }
 
-// Whether the class list is accepted, if the call brings one.
-pub fn accepts_list(table: &[u8], brings: bool, classes: &[u8]) -> bool
-    ensures { result ≡ list_accepted table.now (list_if brings classes.now) }
-{
-    if brings {
-        return term::check_classes(table, classes);
+impl<'a> Brought<'a> {
+    // Edition 1, without a class list.
+    pub fn simply(table: &'a [u8]) -> Brought<'a>
+        ensures { brought_of result ≡ simply table.now }
+    {
+        Brought {
+            edition: Edition::One,
+            table,
+            list: None,
+        }
     }
-    true
-}
 
-// The class list that the call brings, or an empty one.
-pub fn brought_list(brings: bool, classes: &[u8]) -> &[u8]
-    ensures { result.now ≡ or_empty (list_if brings classes.now) }
-{
-    if brings {
-        return classes;
+    // An edition, and a class list.
+    pub fn bringing(edition: Edition, table: &'a [u8], classes: &'a [u8]) -> Brought<'a>
+        ensures { brought_of result ≡ bringing edition table.now classes.now }
+    {
+        Brought {
+            edition,
+            table,
+            list: Some(classes),
+        }
     }
-    &classes[..0]
+
+    // Whether the class list is accepted, if the call brings one.
+    pub fn accepts_list(&self) -> bool
+        ensures { result ≡ brought_accepted (brought_of self.now) }
+    {
+        match self.list {
+            Some(classes) => term::check_classes(self.table, classes),
+            None => true,
+        }
+    }
+
+    // The language of the call: one that brings no class list has an empty one.
+    pub fn language(&self) -> Language<'a>
+        ensures { language_by result ≡ language_of (brought_of self.now) }
+    {
+        Language {
+            edition: self.edition,
+            table: self.table,
+            classes: self.list.unwrap_or(&self.table[..0]),
+        }
+    }
 }
 
 // Reads a record in edition 1, by an accepted table.
-pub fn read_record(table: &[u8], bytes: &[u8]) -> Read
+pub fn read_record(table: &[u8], bytes: &[u8]) -> Result<usize, Refusal>
     ensures { result ≡ shown (read_record (simple table.now) bytes.now) }
 {
     if is_shallow(table, bytes) {
-        return Read::Ends(bytes.len());
+        return Ok(bytes.len());
     }
-    simple_whole(true, table, bytes)
+    read_whole::<true>(
+        true,
+        &Language {
+            edition: Edition::One,
+            table,
+            classes: &[],
+        },
+        bytes,
+    )
 }
 
 // Reads a pattern likewise.
-pub fn read_pattern(table: &[u8], bytes: &[u8]) -> Read
+pub fn read_pattern(table: &[u8], bytes: &[u8]) -> Result<usize, Refusal>
     ensures { result ≡ shown (read_pattern (simple table.now) bytes.now) }
 {
     if is_leaf(table, bytes) {
-        return Read::Ends(bytes.len());
+        return Ok(bytes.len());
     }
-    simple_whole(false, table, bytes)
+    read_whole::<true>(
+        false,
+        &Language {
+            edition: Edition::One,
+            table,
+            classes: &[],
+        },
+        bytes,
+    )
 }
 
-// The same in the language of an edition, an accepted table and an accepted class list, or an empty one. Edition 1 never looks at the class list.
-pub fn read_record_in(edition: Edition, table: &[u8], classes: &[u8], bytes: &[u8]) -> Read
-    ensures { result ≡ shown (read_record (language edition table.now classes.now) bytes.now) }
+// The same in a language whose table is accepted, and whose class list is, or empty. Edition 1 never looks at the class list.
+pub fn read_record_in(language: &Language<'_>, bytes: &[u8]) -> Result<usize, Refusal>
+    ensures { result ≡ shown (read_record (language_by language.now) bytes.now) }
 {
-    match edition {
-        Edition::One => read_record(table, bytes),
-        Edition::Two => read_whole(true, Edition::Two, table, classes, bytes),
+    match language.edition {
+        Edition::One => read_record(language.table, bytes),
+        Edition::Two => read_whole::<false>(true, language, bytes),
     }
 }
 
-pub fn read_pattern_in(edition: Edition, table: &[u8], classes: &[u8], bytes: &[u8]) -> Read
-    ensures { result ≡ shown (read_pattern (language edition table.now classes.now) bytes.now) }
+pub fn read_pattern_in(language: &Language<'_>, bytes: &[u8]) -> Result<usize, Refusal>
+    ensures { result ≡ shown (read_pattern (language_by language.now) bytes.now) }
 {
-    match edition {
-        Edition::One => read_pattern(table, bytes),
-        Edition::Two => read_whole(false, Edition::Two, table, classes, bytes),
+    match language.edition {
+        Edition::One => read_pattern(language.table, bytes),
+        Edition::Two => read_whole::<false>(false, language, bytes),
     }
 }

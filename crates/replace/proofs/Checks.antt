@@ -7,29 +7,26 @@ use mathlib.Core.List.{List, []}
 use mathlib.Core.Bool.{Bool, true, false, not, cond}
 use Rattle.answers.specs.declared.Refusal.{Refusal}
 use Rattle.answers.specs.declared.Refusal.TheVariants.{Loose}
-use Rattle.byte_answers.specs.declared.Read.{Read}
-use Rattle.byte_answers.specs.declared.Read.TheVariants.{Ends}
 use Rattle.term.specs.Limits.{Octets, PatternAccepted}
 use Rattle.term.specs.Pattern.{Pattern, pattern_bytes}
 use Rattle.term.specs.Table.{table_accepted}
 use Rattle.term.specs.Term.{Term}
-use Rattle.term.specs.declared.Edition.{Edition}
 use Rattle.reader.specs.Reading.{read, shown, read_record, read_pattern}
 use Rattle.reader.proofs.Answers.{refused_shown, ends_shown}
 use Rattle.reader.proofs.Typed.{record_iff, pattern_iff, record_read, pattern_read}
 use Rattle.parts.specs.Shown.{answer_width}
 use Rattle.anti_pattern.specs.Variables.{free}
-use Rattle.anti_pattern.specs.Language.{Language, language}
+use Rattle.anti_pattern.specs.Language.{Language}
 use Rattle.reader.specs.Brought.{Brought, language_of, brought_accepted}
 use Rattle.call.specs.Verdict.{Verdict, passed, fault, check, reading, both}
 use Rattle.call.proofs.Checks as every
 use Rattle.matcher.specs.Call.{rule_checked, check_of}
-use Rattle.matcher.specs.declared.Check.TheVariants.{Passed, Failed}
 use Rattle.matcher.proofs.Checks as matching
 use Rattle.replace.specs.Call.{Input, firmly, trees, checked}
 use Rattle.replace.specs.Filling.{TellsLoose}
 use Rattle.replace.specs.Loose.{loose}
 use Rattle.replace.proofs.Templates.{template_exactly}
+use Rattle.std.specs.Prelude.{Ok, Err}
 
 abbrev pub Trees : Type 0
 Trees = (Pattern × Pattern) × Term
@@ -101,35 +98,27 @@ trees_are : (l : Language) (rule template bytes : List ℕ) (x : Pattern × Patt
     → trees l rule template bytes ≡ both (check (not b) Loose (passed x)) v
 trees_are l rule template bytes x n m b v e f g h = rw (e, f, g, h)
 
--- what the readers tell, by the class list that is brought
-module _ (edition : Edition) (table bytes : List ℕ) {list classes : List ℕ} (brought : list ≡ classes) where
-  pub pattern_told : {r s : Read} → r ≡ shown (read_pattern (language edition table list) bytes) → r ≡ s → shown (read_pattern (language edition table classes) bytes) ≡ s
-  pattern_told e f = ap (λ (y : List ℕ). shown (read_pattern (language edition table y) bytes)) (sym brought) ∙ sym e ∙ f
-
-  pub record_told : {r s : Read} → r ≡ shown (read_record (language edition table list) bytes) → r ≡ s → shown (read_record (language edition table classes) bytes) ≡ s
-  record_told e f = ap (λ (y : List ℕ). shown (read_record (language edition table y) bytes)) (sym brought) ∙ sym e ∙ f
-
 -- each check by what is told of the ones before it
 
 module _ (brought : Brought) (rule template bytes : List ℕ) where
   abbrev spoken : Language
   spoken = language_of brought
 
-  pub rule_fails : (r : Refusal) → Failed r ≡ check_of (rule_checked brought rule answer_width) → Failed r ≡ check_of (checked brought rule template bytes)
+  pub rule_fails : (r : Refusal) → Err r ≡ check_of (rule_checked brought rule answer_width) → Err r ≡ check_of (checked brought rule template bytes)
   rule_fails = matching.rule_fails brought rule answer_width (λ v. both (firmly (both v (reading (read_pattern spoken template)))) (reading (read_record spoken bytes))) (λ r i. refl)
 
-  module _ (ruled : Passed ≡ check_of (rule_checked brought rule answer_width)) where
+  module _ (ruled : Ok tt ≡ check_of (rule_checked brought rule answer_width)) where
     own : (v : Verdict Trees) → trees spoken rule template bytes ≡ v → checked brought rule template bytes ≡ v
     own v e =
         let p = matching.rule_passed brought rule answer_width ruled in
         every.then_own brought answer_width (trees spoken rule template bytes) p.0 p.2 p.1 ∙ e
 
-    pub template_fails : (r : Refusal) → shown (read_pattern spoken template) ≡ Read.Refused r → Failed r ≡ check_of (checked brought rule template bytes)
+    pub template_fails : (r : Refusal) → shown (read_pattern spoken template) ≡ Err r → Err r ≡ check_of (checked brought rule template bytes)
     template_fails r e =
         let p = matching.rule_passed brought rule answer_width ruled in
         sym (ap check_of (own (fault r 0) (rw (p.3.2, refused_shown (read_pattern spoken template) r e))))
 
-    module _ (m : ℕ) (template_ends : shown (read_pattern spoken template) ≡ Ends m) (rule_octets : Octets rule) (template_octets : Octets template)
+    module _ (m : ℕ) (template_ends : shown (read_pattern spoken template) ≡ Ok m) (rule_octets : Octets rule) (template_octets : Octets template)
         (b : Bool) (loose_told : TellsLoose brought.table rule template b) where
       is_loose : (p : Pattern) (n : ℕ) → read_pattern spoken rule ≡ read p n → (q : Pattern) → read_pattern spoken template ≡ read q m → b ≡ loose (free p) q
       unfolding TellsLoose
@@ -153,15 +142,15 @@ module _ (brought : Brought) (rule template bytes : List ℕ) where
           go x false (fault r i) = refl
           go x false (passed t) = refl
 
-      pub loose_fails : b ≡ true → Failed Loose ≡ check_of (checked brought rule template bytes)
+      pub loose_fails : b ≡ true → Err Loose ≡ check_of (checked brought rule template bytes)
       loose_fails h = sym (told (reading (read_record spoken bytes)) refl ∙ ap (λ (c : Bool). check_of (cond c (fault Loose 0) (reading (read_record spoken bytes)))) h)
 
       module _ (firm : b ≡ false) where
-        pub record_fails : (r : Refusal) → shown (read_record spoken bytes) ≡ Read.Refused r → Failed r ≡ check_of (checked brought rule template bytes)
+        pub record_fails : (r : Refusal) → shown (read_record spoken bytes) ≡ Err r → Err r ≡ check_of (checked brought rule template bytes)
         record_fails r e =
             sym (told (fault r 0) (ap reading (refused_shown (read_record spoken bytes) r e)) ∙ ap (λ (c : Bool). check_of {X = Term} (cond c (fault Loose 0) (fault r 0))) firm)
 
-        pub all_pass : (n : ℕ) → shown (read_record spoken bytes) ≡ Ends n → Passed ≡ check_of (checked brought rule template bytes)
+        pub all_pass : (n : ℕ) → shown (read_record spoken bytes) ≡ Ok n → Ok tt ≡ check_of (checked brought rule template bytes)
         all_pass n e =
             let t = ends_shown (read_record spoken bytes) n e in
             sym (told (passed t.0) (ap reading t.1) ∙ ap (λ (c : Bool). check_of (cond c (fault Loose 0) (passed t.0))) firm)

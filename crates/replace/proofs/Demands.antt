@@ -5,7 +5,6 @@ use mathlib.Core.Path.{◌≡◌, refl, sym, ap, ap₂, subst, ◌∙◌}
 use mathlib.Core.Logic.{inl, inr}
 use mathlib.Core.List.{List, []}
 use mathlib.Core.Bool.{Bool, true, false, cond}
-use mathlib.Core.Option.{Option, none, some}
 use lib.Dec.{ltb}
 use lib.ListN.{length, take, drop}
 use lib.Seq.{take_at}
@@ -13,7 +12,7 @@ use borrow.Author.Tests.{le-ltb}
 use Rattle.answers.specs.Answers.{applied_number, applied_length}
 use Rattle.answers.specs.declared.Refusal.TheVariants.{Full, Outgrown}
 use Rattle.answers.specs.declared.Applied.{Applied}
-use Rattle.answers.specs.declared.Applied.TheVariants.{Bound, None, Spent, Refused}
+use Rattle.answers.specs.declared.Applied.TheVariants.{Bound, Spent}
 use Rattle.answers.proofs.Numbers.{word_or_refusal}
 use Rattle.term.specs.Class.{Alike}
 use Rattle.term.specs.Limits.{longest_record, Octets, TermAccepted}
@@ -38,6 +37,8 @@ use Rattle.replace.proofs.Limits.{within_room}
 use Rattle.replace.proofs.Replacements as came
 use Rattle.replace.proofs.Results.{one_result, own_template, first_is_shown}
 use Rattle.replace.proofs.Templates.{template_exactly}
+use Rattle.std.specs.Prelude.{Result, Ok, Err, Option, Some, None}
+use Rattle.answers.specs.declared.Refusal.{Refusal}
 
 -- a result within the limits is never too long for 4,096 bytes
 measured_room : (l : Language) (r : Replacement) → measured l.table r ≡ unless_full longest_record (measured l.table r)
@@ -46,7 +47,7 @@ measured_room l (spent n) = refl
 measured_room l (result u n) = go (within_limits l.table u) refl
   where
     go : (b : Bool) → within_limits l.table u ≡ b
-        → cond b (Bound n (size l.table u)) (Refused Outgrown) ≡ unless_full longest_record (cond b (Bound n (size l.table u)) (Refused Outgrown))
+        → cond b (Ok (Bound n (size l.table u))) (Err Outgrown) ≡ unless_full longest_record (cond b (Ok (Bound n (size l.table u))) (Err Outgrown))
     go true e = rw (le-ltb longest_record (size l.table u) (within_room l u e))
     go false e = refl
 
@@ -68,19 +69,19 @@ measured_short l (nothing n) = omega arith
 measured_short l (spent n) = omega arith
 measured_short l (result u n) = go (within_limits l.table u) refl
   where
-    go : (b : Bool) → within_limits l.table u ≡ b → applied_length (cond b (Bound n (size l.table u)) (Refused Outgrown)) ≤ longest_record
+    go : (b : Bool) → within_limits l.table u ≡ b → applied_length (cond b (Ok (Bound n (size l.table u))) (Err Outgrown)) ≤ longest_record
     go true e = within_room l u e
     go false e = omega arith
 
-unless_short : (room : ℕ) (a : Applied) → applied_length a ≤ longest_record → applied_length (unless_full room a) ≤ longest_record
-unless_short room (Bound n m) h = go (ltb room m)
+unless_short : (room : ℕ) (a : Result Applied Refusal) → applied_length a ≤ longest_record → applied_length (unless_full room a) ≤ longest_record
+unless_short room (Ok (Bound n m)) h = go (ltb room m)
   where
-    go : (b : Bool) → applied_length (cond b (Refused Full) (Bound n m)) ≤ longest_record
+    go : (b : Bool) → applied_length (cond b (Err Full) (Ok (Bound n m))) ≤ longest_record
     go true = omega arith
     go false = h
-unless_short room (None n) h = h
-unless_short room (Spent n) h = h
-unless_short room (Refused r) h = h
+unless_short room (Ok (Applied.None n)) h = h
+unless_short room (Ok (Spent n)) h = h
+unless_short room (Err r) h = h
 
 module _ (brought : Brought) (rule template bytes : List ℕ) (allowance : ℕ) where
   pub look_short : applied_length (look_of brought rule template bytes allowance) ≤ longest_record
@@ -105,8 +106,8 @@ pub brought_classed : (brought : Brought) → brought_accepted brought ≡ true 
 brought_classed brought = by brought.list
   where
     by : (o : Option (List ℕ)) → list_accepted brought.table o ≡ true → Classed (language_in brought.edition brought.table o)
-    by none h = inl refl
-    by (some classes) h = inr h
+    by None h = inl refl
+    by (Some classes) h = inr h
 
 -- every larger allowance comes to the same
 pub larger : (l : Language) (p q : Pattern) (t : Term) (allowance more : ℕ) → count_of l p t ≤ allowance → allowance ≤ more
@@ -157,7 +158,7 @@ module _ (brought : Brought) (rule template bytes before : List ℕ) (allowance 
   abbrev Refuses : Pattern → Pattern → Term → Type 0
   Refuses p q t = (count_of lang p t ≤ allowance) × ((u : Term) × Replaced lang p q t u × (Fitting lang (length before) u → ⊥))
 
-  abbrev tells : Trees → Applied
+  abbrev tells : Trees → Result Applied Refusal
   tells x = apply_on lang x.0.0 x.0.1 x.1 allowance (length before)
 
   abbrev leaves : Trees → List ℕ
@@ -250,7 +251,7 @@ look_demanded brought rule template bytes allowance ro to bo =
     record {
       as_applied = e;
       demanded = λ before h.
-          subst (λ (a : Applied). Demanded brought rule template bytes before allowance a (output_of brought rule template bytes allowance before))
+          subst (λ (a : Result Applied Refusal). Demanded brought rule template bytes before allowance a (output_of brought rule template bytes allowance before))
           (ap (apply_of brought rule template bytes allowance) h ∙ sym e)
           (demanded brought rule template bytes before allowance ro to bo);
     }

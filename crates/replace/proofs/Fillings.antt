@@ -1,15 +1,15 @@
 -- Filling a template: what is put so far, and what is still to come.
-use Prim.Native.Nat.{ℕ, zero, suc, ◌+◌, ◌-◌, ◌*◌, ◌%◌, ◌≤◌, ◌<◌}
+use Prim.Native.Nat.{ℕ, zero, suc, ◌+◌, ◌-◌, ◌*◌, ◌≤◌, ◌<◌}
 use native.Mathlib.Omega.{arith}
 use native.Mathlib.Numerals.{add-one}
 use mathlib.Core.Path.{◌≡◌, refl, sym, ap, ap₂, subst, ◌∙◌}
+use mathlib.Core.Logic.{◌⊎◌, inl, inr}
 use mathlib.Core.List.{List, [], ◌∷◌}
 use mathlib.Core.Bool.{Bool, true, false, cond, not, ◌&&◌, ◌||◌, true≢false, false≢true, and-true, and-false}
-use mathlib.Core.Option.{Option, none, some}
 use lib.ListN.{length, get_or, set, take, drop, length-drop, length-take}
 use lib.Seq.{sets}
 use lib.Dec.{eqb, leb}
-use borrow.Author.Tests.{lt-ltb, not-false, leb-true}
+use borrow.Author.Tests.{lt-ltb, not-false}
 use Rattle.term.specs.Table.{is_list, width}
 use Rattle.term.specs.Code.{decode_of}
 use Rattle.term.specs.Tree.{encode}
@@ -35,9 +35,9 @@ use Rattle.replace.specs.Loose.{loose, loose_all}
 use Rattle.replace.specs.Growth.{nests, nest_all, narrow, narrow_all}
 use Rattle.matcher.specs.Demands.{offset_in, length_in, terms_in}
 use Rattle.parts.specs.Shown.{entry_width}
-use Rattle.replace.specs.Filling.{longest_part, part_room, own_bytes, children_bytes, part_in, Run as Stretch, TellsNesting, ChildrenOf, Limited, Filling, narrow_number, stored_number, fit_all, filled_to, AllApart, TellsStored, Puts, Fills, Stores, FillsTree, StoresTree, FillsNode, StoresNode, FilledWithin}
+use Rattle.replace.specs.Filling.{longest_part, part_room, own_bytes, children_bytes, part_in, Run as Stretch, TellsNesting, ChildrenOf, Limited, Filling, fit_all, filled, filled_to, AllApart, TellsStored, Puts, Fills, Stores, FillsTree, StoresTree, FillsNode, StoresNode, FilledWithin}
 use Rattle.replace.specs.declared.Filled.{Filled}
-use Rattle.replace.specs.declared.Filled.TheVariants.{To, Unfit}
+use Rattle.splice.specs.Pass.{narrow_node, stored}
 use Rattle.replace.proofs.Forests.{fit_limited, code_of, first_of, rest_of, head_code, none_left, symbol_only, name_only, run_only, complement_only, refused_only, part_rest, own_width, past_symbol, past_first, first_extent}
 use Rattle.replace.proofs.Instances.{neither}
 use Rattle.replace.proofs.Limits.{all_narrow_holds, and_both}
@@ -45,6 +45,7 @@ use Rattle.replace.proofs.Splices.{placed_all_front}
 use Rattle.term.proofs.Spans.{extent_some}
 use Rattle.term.proofs.Stores.{sets_append}
 use Rattle.replace.proofs.Stored.{set_before}
+use Rattle.std.specs.Prelude.{Option, Some, None}
 
 -- Sequences joined
 
@@ -80,10 +81,10 @@ fit_join table left us ts = ap₂ (λ (x y : Bool). x && y) (nest_join left us t
 
 -- a node fits if its children do, one level down, and their number does
 pub node_fit : (table : List ℕ) (left x : ℕ) (ts : Terms) → 0 < left
-    → fit_all table left (single (node x ts)) ≡ (fit_all table (left - 1) ts && narrow_number (is_list table x) (count ts))
+    → fit_all table left (single (node x ts)) ≡ (fit_all table (left - 1) ts && narrow_node (is_list table x) (count ts))
 node_fit table left x ts h =
-    ap (λ (b : Bool). ((b && nest_all (left - 1) ts) && true) && ((narrow_number (is_list table x) (count ts) && narrow_all table ts) && true)) (lt-ltb 0 left h)
-    ∙ shuffle (nest_all (left - 1) ts) (narrow_all table ts) (narrow_number (is_list table x) (count ts))
+    ap (λ (b : Bool). ((b && nest_all (left - 1) ts) && true) && ((narrow_node (is_list table x) (count ts) && narrow_all table ts) && true)) (lt-ltb 0 left h)
+    ∙ shuffle (nest_all (left - 1) ts) (narrow_all table ts) (narrow_node (is_list table x) (count ts))
   where
     shuffle : (n w c : Bool) → ((n && true) && ((c && w) && true)) ≡ ((n && w) && c)
     shuffle true true true = refl
@@ -97,11 +98,20 @@ node_deep table left x ts e = rw e
 
 -- What is filled
 
-pub filled_to_holds : (b : Bool) (n k m l : ℕ) → To m l ≡ filled_to b n k → (b ≡ true) × (m ≡ n) × (l ≡ k)
-filled_to_holds true n k m l e = (refl, cc, cc)
+length_told : Option Filled → ℕ
+length_told None = 0
+length_told (Some r) = r.length
+
+elements_told : Option Filled → ℕ
+elements_told None = 0
+elements_told (Some r) = r.elements
+
+pub filled_to_holds : (b : Bool) (n k m l : ℕ) → Some (filled m l) ≡ filled_to b n k → (b ≡ true) × (m ≡ n) × (l ≡ k)
+unfolding length_told elements_told
+filled_to_holds true n k m l e = (refl, ap length_told e, ap elements_told e)
 filled_to_holds false n k m l e = let z : ◌≡◌ {A = ℕ} 0 1 = cc in absurd (omega arith)
 
-pub filled_unfit : (b : Bool) (n k : ℕ) → Unfit ≡ filled_to b n k → b ≡ false
+pub filled_unfit : (b : Bool) (n k : ℕ) → None ≡ filled_to b n k → b ≡ false
 filled_unfit true n k e = let z : ◌≡◌ {A = ℕ} 0 1 = cc in absurd (omega arith)
 filled_unfit false n k e = refl
 
@@ -117,13 +127,13 @@ module _ (table s : List ℕ) (left at : ℕ) (out : List ℕ) where
   stored_fits b after e t h ts r = (sym e ∙ t ts r, λ g. h)
 
 -- where no list stands around, nothing is spliced
-no_around : (listed : ℕ → Option ℕ) (ts : Terms) → placed_all listed none ts nil ≡ ts
+no_around : (listed : ℕ → Option ℕ) (ts : Terms) → placed_all listed None ts nil ≡ ts
 no_around listed nil = refl
 no_around listed (node s us :: ts) = ap (node s us ::◌) (no_around listed ts)
 
-module _ (table bytes answer : List ℕ) (listed : ℕ → Option ℕ) (around : Option ℕ) (no : around ≡ none) (v left at : ℕ) (out part : List ℕ)
+module _ (table bytes answer : List ℕ) (listed : ℕ → Option ℕ) (around : Option ℕ) (no : around ≡ None) (v left at : ℕ) (out part : List ℕ)
     (is : part ≡ part_in bytes answer v) where
-  abbrev Putting : Filled → List ℕ → Type 0
+  abbrev Putting : Option Filled → List ℕ → Type 0
   Putting r after = Puts table listed around bytes answer v left at out r after × FilledWithin longest_part r
 
   here_run : (ts : Terms) → Stretch table (part_in bytes answer v) ts → Stretch table part ts
@@ -132,7 +142,7 @@ module _ (table bytes answer : List ℕ) (listed : ℕ → Option ℕ) (around :
   same : (ts : Terms) → placed_all listed around ts nil ≡ ts
   same ts = ap (λ (o : Option ℕ). placed_all listed o ts nil) no ∙ no_around listed ts
 
-  pub part_unfit : (b : Bool) (after : List ℕ) → b ≡ false → TellsStored table part left at out b after → Putting Unfit after
+  pub part_unfit : (b : Bool) (after : List ℕ) → b ≡ false → TellsStored table part left at out b after → Putting None after
   unfolding TellsStored Puts
   part_unfit b after e t = (
     λ ts r n.
@@ -142,7 +152,7 @@ module _ (table bytes answer : List ℕ) (listed : ℕ → Option ℕ) (around :
   )
 
   pub part_fits : (b : Bool) (k : ℕ) (after : List ℕ) → b ≡ true → TellsStored table part left at out b after → k ≡ terms_in answer v → k ≤ longest_part → length part ≤ longest_part
-      → Putting (To (length part) k) after
+      → Putting (Some (filled (length part) k)) after
   unfolding TellsStored Puts
   part_fits b k after e t c few short = (
     λ ts r n.
@@ -150,7 +160,7 @@ module _ (table bytes answer : List ℕ) (listed : ℕ → Option ℕ) (around :
         let z : length part ≡ sizes table ts = ap length y.bytes ∙ terms_sizes table ts in
         let f = sym e ∙ (t ts y).0 in
         rw (same ts) (
-          ap₂ To z (c ∙ n) ∙ ap (λ (x : Bool). filled_to x (sizes table ts) (count ts)) f,
+          ap₂ (λ (i j : ℕ). Some (filled i j)) z (c ∙ n) ∙ ap (λ (x : Bool). filled_to x (sizes table ts) (count ts)) f,
           λ h. (t ts y).1 h ∙ ap (sets out at) y.bytes,
         ),
     (short, omega arith),
@@ -172,13 +182,13 @@ placed_narrow table listed around (node x us :: ts) h =
 -- Template
 
 assigned_term : (o : Option Terms) (t : Term) → assigned o ≡ single t → term_assigned o ≡ t
-assigned_term none t e = let z : ◌≡◌ {A = ℕ} 0 1 = ap count e in absurd (omega arith)
-assigned_term (some nil) t e = let z : ◌≡◌ {A = ℕ} 0 1 = ap count e in absurd (omega arith)
-assigned_term (some (u :: us)) t e = cc
+assigned_term None t e = let z : ◌≡◌ {A = ℕ} 0 1 = ap count e in absurd (omega arith)
+assigned_term (Some nil) t e = let z : ◌≡◌ {A = ℕ} 0 1 = ap count e in absurd (omega arith)
+assigned_term (Some (u :: us)) t e = cc
 
-pub within_more : (r : Filled) (n m : ℕ) → n ≤ m → FilledWithin n r → FilledWithin m r
-within_more (To k j) n m h f = (omega (arith, f.0), omega (arith, f.1))
-within_more Unfit n m h f = tt
+pub within_more : (r : Option Filled) (n m : ℕ) → n ≤ m → FilledWithin n r → FilledWithin m r
+within_more (Some r) n m h f = (omega (arith, f.0), omega (arith, f.1))
+within_more None n m h f = tt
 
 module _ (table : List ℕ) (listed : ℕ → Option ℕ) (around : Option ℕ) (s bytes answer : List ℕ) (left at : ℕ) (out₀ : List ℕ) where
   -- what child patterns are filled to here, and below a symbol
@@ -191,11 +201,11 @@ module _ (table : List ℕ) (listed : ℕ → Option ℕ) (around : Option ℕ) 
   abbrev Here : Children → List ℕ → Assignment → Type 0
   Here qs vs a = Filling table listed around s bytes answer qs vs a
 
-  abbrev pub Fitted : Filled → List ℕ → Type 0
+  abbrev pub Fitted : Option Filled → List ℕ → Type 0
   Fitted r after =
       Fills table listed around s bytes answer left r × (FilledWithin (part_room * length s) r × Stores table listed around s bytes answer left at out₀ after)
 
-  unfitted : (after : List ℕ) → ((qs : Children) (vs : List ℕ) (a : Assignment) → Here qs vs a → fit_all table left (here qs a) ≡ false) → Fitted Unfit after
+  unfitted : (after : List ℕ) → ((qs : Children) (vs : List ℕ) (a : Assignment) → Here qs vs a → fit_all table left (here qs a) ≡ false) → Fitted None after
   unfolding Fills Stores
   unfitted after h = (
     λ qs vs a f. ap (λ (b : Bool). filled_to b (sizes table (here qs a)) (count (here qs a))) (sym (h qs vs a f)),
@@ -217,14 +227,14 @@ module _ (table : List ℕ) (listed : ℕ → Option ℕ) (around : Option ℕ) 
           none_left table s (length s) (rest_of qs) (omega arith) (ap (λ (n : ℕ). drop n s) z ∙ e.1)
 
     -- no complement and no refused code comes up
-    pub tree_complement : (after : List ℕ) → decode_of (get_or s 0 0) ≡ Complement → Fitted Unfit after
+    pub tree_complement : (after : List ℕ) → decode_of (get_or s 0 0) ≡ Complement → Fitted None after
     tree_complement after e =
         unfitted after
         (λ qs vs a f.
         let o = complement_only qs (sym (code_is qs vs a f) ∙ e) in
         absurd (true≢false (sym (ap (loose_all vs) o.2) ∙ f.firm)))
 
-    pub tree_refused : (after : List ℕ) → decode_of (get_or s 0 0) ≡ Code.Refused → Fitted Unfit after
+    pub tree_refused : (after : List ℕ) → decode_of (get_or s 0 0) ≡ Code.Refused → Fitted None after
     unfolding encode
     tree_refused after e =
         unfitted after
@@ -272,7 +282,7 @@ module _ (table : List ℕ) (listed : ℕ → Option ℕ) (around : Option ℕ) 
           terms = f.lent.terms v l.0.1 (not-false (among v vs) n.0);
         }
 
-    pub tree_part : (v : ℕ) → IsVariable v → (r : Filled) (after : List ℕ)
+    pub tree_part : (v : ℕ) → IsVariable v → (r : Option Filled) (after : List ℕ)
         → Puts table listed around bytes answer v left at out₀ r after → FilledWithin longest_part r → Fitted r after
     unfolding Puts Fills Stores
     tree_part v is r after g w = (
@@ -328,7 +338,7 @@ module _ (table : List ℕ) (listed : ℕ → Option ℕ) (around : Option ℕ) 
             inner = record { small = f.small; stands = refl; limited = fit_limited table o.0 _ _ l.0.2.3; firm = m.0; apart = w.0.1; lent = f.lent };
           }
 
-      pub tree_deep : (after : List ℕ) → left ≡ 0 → Fitted Unfit after
+      pub tree_deep : (after : List ℕ) → left ≡ 0 → Fitted None after
       tree_deep after z =
           unfitted after
           (λ qs vs a f.
@@ -346,7 +356,7 @@ module _ (table : List ℕ) (listed : ℕ → Option ℕ) (around : Option ℕ) 
           inside_is : spliced_instances listed within y.ks a ≡ below x y.ks a
           inside_is = ap (λ (o : Option ℕ). spliced_instances listed o y.ks a) (iw ∙ ap listed y.byte)
 
-        pub tree_inside_unfit : (after : List ℕ) → Fills table listed within inside bytes answer (left - 1) Unfit → Fitted Unfit after
+        pub tree_inside_unfit : (after : List ℕ) → Fills table listed within inside bytes answer (left - 1) None → Fitted None after
         unfolding Fills
         tree_inside_unfit after g =
             unfitted after
@@ -354,9 +364,9 @@ module _ (table : List ℕ) (listed : ℕ → Option ℕ) (around : Option ℕ) 
             let y = symbolic qs vs a f in
             let b = sym (ap (fit_all table (left - 1)) (inside_is qs vs a y)) ∙ filled_unfit (fit_all table (left - 1) (spliced_instances listed within y.ks a)) _ _ (g y.ks vs a (filling qs vs a y)) in
             ap (fit_all table left) y.makes ∙ node_fit table left x (below x y.ks a) deep
-            ∙ ap (λ (z : Bool). z && narrow_number (is_list table x) (count (below x y.ks a))) b)
+            ∙ ap (λ (z : Bool). z && narrow_node (is_list table x) (count (below x y.ks a))) b)
 
-        module _ (own : ℕ) (ow : own ≡ own_bytes table (get_or s 0 0)) (m k : ℕ) (g : Fills table listed within inside bytes answer (left - 1) (To m k)) where
+        module _ (own : ℕ) (ow : own ≡ own_bytes table (get_or s 0 0)) (m k : ℕ) (g : Fills table listed within inside bytes answer (left - 1) (Some (filled m k))) where
           is_list_holds : (qs : Children) (vs : List ℕ) (a : Assignment) → Here qs vs a → Symbolic qs vs a x → (eqb own 2 ≡ is_list table x) × (own ≡ width table x)
           is_list_holds qs vs a f y =
               let z : own ≡ width table x = ow ∙ ap (own_bytes table) y.byte ∙ own_width table s f.small 0 x y.in_table in
@@ -366,55 +376,54 @@ module _ (table : List ℕ) (listed : ℕ → Option ℕ) (around : Option ℕ) 
               by true = refl
               by false = refl
 
-          filled : (qs : Children) (vs : List ℕ) (a : Assignment) (y : Symbolic qs vs a x)
+          comes_to : (qs : Children) (vs : List ℕ) (a : Assignment) (y : Symbolic qs vs a x)
               → (fit_all table (left - 1) (below x y.ks a) ≡ true) × (m ≡ sizes table (below x y.ks a)) × (k ≡ count (below x y.ks a))
           unfolding Fills
-          filled qs vs a y =
+          comes_to qs vs a y =
               filled_to_holds (fit_all table (left - 1) (below x y.ks a)) (sizes table (below x y.ks a)) (count (below x y.ks a)) m k
-              (subst (λ (ts : Terms). To m k ≡ filled_to (fit_all table (left - 1) ts) (sizes table ts) (count ts)) (inside_is qs vs a y) (g y.ks vs a (filling qs vs a y)))
+              (subst (λ (ts : Terms). Some (filled m k) ≡ filled_to (fit_all table (left - 1) ts) (sizes table ts) (count ts)) (inside_is qs vs a y) (g y.ks vs a (filling qs vs a y)))
 
-          pub tree_wide : (after : List ℕ) → narrow_number (eqb own 2) k ≡ false → Fitted Unfit after
+          pub tree_wide : (after : List ℕ) → narrow_node (eqb own 2) k ≡ false → Fitted None after
           tree_wide after h =
               unfitted after
               (λ qs vs a f.
               let y = symbolic qs vs a f in
-              let z = filled qs vs a y in
+              let z = comes_to qs vs a y in
               ap (fit_all table left) y.makes ∙ node_fit table left x (below x y.ks a) deep
-              ∙ ap₂ (λ (u w : Bool). u && w) z.0 (ap₂ narrow_number (sym (is_list_holds qs vs a f y).0) (sym z.2) ∙ h))
+              ∙ ap₂ (λ (u w : Bool). u && w) z.0 (ap₂ narrow_node (sym (is_list_holds qs vs a f y).0) (sym z.2) ∙ h))
 
           -- the bytes of a node, where its number of children is stored last
-          node_stored : (o : List ℕ) (j w : ℕ) (l : Bool) (ts : Terms) → narrow_number l (count ts) ≡ true
-              → stored_number l (sets (set o j w) (j + cond l 2 1) (terms_bytes table ts [])) (j + 1) (count ts)
+          node_stored : (o : List ℕ) (j w : ℕ) (l : Bool) (ts : Terms) → narrow_node l (count ts) ≡ true
+              → stored l (sets (set o j w) (j + cond l 2 1) (terms_bytes table ts [])) (j + 1) (count ts)
               ≡ sets o j (w ∷ cond l (count ts ∷ terms_bytes table ts []) (terms_bytes table ts []))
           node_stored o j w true ts h =
               let two : j + 2 ≡ suc (suc j) = omega arith in
-              let r : count ts % 256 ≡ count ts = omega (arith, leb-true (count ts) 255 h) in
-              rw (r, add-one j, two) (set_before (set o j w) (suc j) (suc (suc j)) (count ts) (terms_bytes table ts []) (omega arith))
+              rw (h, add-one j, two) (set_before (set o j w) (suc j) (suc (suc j)) (count ts) (terms_bytes table ts []) (omega arith))
           node_stored o j w false ts h = rw (add-one j)
 
-          pub tree_node : (inner after : List ℕ) → narrow_number (eqb own 2) k ≡ true
+          pub tree_node : (inner after : List ℕ) → narrow_node (eqb own 2) k ≡ true
               → Stores table listed within inside bytes answer (left - 1) (at + own) (set out₀ at (get_or s 0 0)) inner
-              → after ≡ stored_number (eqb own 2) inner (at + 1) k → FilledWithin (part_room * length inside) (To m k) → length inside < length s → own ≤ 2
-              → Fitted (To (own + m) 1) after
+              → after ≡ stored (eqb own 2) inner (at + 1) k → FilledWithin (part_room * length inside) (Some (filled m k)) → length inside < length s → own ≤ 2
+              → Fitted (Some (filled (own + m) 1)) after
           unfolding Fills Stores encode size
           tree_node inner after h w q within less two = (
             λ qs vs a f.
                 let y = symbolic qs vs a f in
                 let ts : Terms = below x y.ks a in
-                let z = filled qs vs a y in
+                let z = comes_to qs vs a y in
                 let l = is_list_holds qs vs a f y in
                 let sz : own + m ≡ sizes table (single (node x ts)) = omega (arith, l.1, z.1) in
-                ap (λ (n : ℕ). To n 1) sz ∙ ap (λ (b : Bool). filled_to b (sizes table (single (node x ts))) 1) (sym (fits qs vs a f))
+                ap (λ (n : ℕ). Some (filled n 1)) sz ∙ ap (λ (b : Bool). filled_to b (sizes table (single (node x ts))) 1) (sym (fits qs vs a f))
                 ∙ ap (λ (us : Terms). filled_to (fit_all table left us) (sizes table us) (count us)) (sym y.makes),
             (
               (omega (arith, within.0), omega arith),
               λ qs vs a f b.
                   let y = symbolic qs vs a f in
                   let ts : Terms = below x y.ks a in
-                  let z = filled qs vs a y in
+                  let z = comes_to qs vs a y in
                   let l = is_list_holds qs vs a f y in
-                  q ∙ ap₂ (λ (u : Bool) (v : ℕ). stored_number u inner (at + 1) v) l.0 z.2
-                  ∙ ap (λ (o : List ℕ). stored_number (is_list table x) o (at + 1) (count ts))
+                  q ∙ ap₂ (λ (u : Bool) (v : ℕ). stored u inner (at + 1) v) l.0 z.2
+                  ∙ ap (λ (o : List ℕ). stored (is_list table x) o (at + 1) (count ts))
                   (w y.ks vs a (filling qs vs a y) (ap (fit_all table (left - 1)) (inside_is qs vs a y) ∙ z.0)
                   ∙ ap (λ (us : Terms). sets (set out₀ at (get_or s 0 0)) (at + own) (terms_bytes table us [])) (inside_is qs vs a y)
                   ∙ ap₂ (λ (u v : ℕ). sets (set out₀ at u) (at + v) (terms_bytes table ts [])) y.byte l.1)
@@ -423,14 +432,14 @@ module _ (table : List ℕ) (listed : ℕ → Option ℕ) (around : Option ℕ) 
             ),
           )
             where
-              narrow_is : (qs : Children) (vs : List ℕ) (a : Assignment) (f : Here qs vs a) → narrow_number (is_list table x) (count (below x (symbolic qs vs a f).ks a)) ≡ true
-              narrow_is qs vs a f = let y = symbolic qs vs a f in ap₂ narrow_number (sym (is_list_holds qs vs a f y).0) (sym (filled qs vs a y).2) ∙ h
+              narrow_is : (qs : Children) (vs : List ℕ) (a : Assignment) (f : Here qs vs a) → narrow_node (is_list table x) (count (below x (symbolic qs vs a f).ks a)) ≡ true
+              narrow_is qs vs a f = let y = symbolic qs vs a f in ap₂ narrow_node (sym (is_list_holds qs vs a f y).0) (sym (comes_to qs vs a y).2) ∙ h
 
               fits : (qs : Children) (vs : List ℕ) (a : Assignment) (f : Here qs vs a) → fit_all table left (single (node x (below x (symbolic qs vs a f).ks a))) ≡ true
               fits qs vs a f =
                   let y = symbolic qs vs a f in
                   node_fit table left x (below x y.ks a) deep
-                  ∙ and_both (fit_all table (left - 1) (below x y.ks a)) (narrow_number (is_list table x) (count (below x y.ks a))) (filled qs vs a y).0 (narrow_is qs vs a f)
+                  ∙ and_both (fit_all table (left - 1) (below x y.ks a)) (narrow_node (is_list table x) (count (below x y.ks a))) (comes_to qs vs a y).0 (narrow_is qs vs a f)
 
   -- Trees one after the other: ws is put, and rs are still to come
 
@@ -476,13 +485,13 @@ module _ (table : List ℕ) (listed : ℕ → Option ℕ) (around : Option ℕ) 
     };
   }
 
-  pub pass_last : (out : List ℕ) (used put elements : ℕ) → length s ≤ used → Passing out used put elements → Fitted (To put elements) out
+  pub pass_last : (out : List ℕ) (used put elements : ℕ) → length s ≤ used → Passing out used put elements → Fitted (Some (filled put elements)) out
   unfolding Fills Stores
   pass_last out used put elements l p = (
     λ qs vs a f.
         let d = p.done qs vs a f in
         let e = all qs vs a f in
-        ap₂ To (d.long ∙ ap (sizes table) (sym e)) (d.many ∙ ap count (sym e))
+        ap₂ (λ (i j : ℕ). Some (filled i j)) (d.long ∙ ap (sizes table) (sym e)) (d.many ∙ ap count (sym e))
         ∙ ap (λ (b : Bool). filled_to b (sizes table (here qs a)) (count (here qs a))) (sym (ap (fit_all table left) e ∙ d.fit)),
     (
       (omega (arith, p.less, p.within), omega (arith, p.few, p.within)),
@@ -545,7 +554,7 @@ module _ (table : List ℕ) (listed : ℕ → Option ℕ) (around : Option ℕ) 
           onward = ap (λ (k : ℕ). drop (used + k) s) z ∙ c.1;
         }
 
-    pub pass_tree_unfit : (after : List ℕ) → FillsTree table listed around t bytes answer left Unfit → Fitted Unfit after
+    pub pass_tree_unfit : (after : List ℕ) → FillsTree table listed around t bytes answer left None → Fitted None after
     unfolding FillsTree Fills
     pass_tree_unfit after g =
         unfitted after
@@ -558,7 +567,7 @@ module _ (table : List ℕ) (listed : ℕ → Option ℕ) (around : Option ℕ) 
         ∙ ap (λ (y : Bool). fit_all table left d.ws && y) (fit_join table left us (here (rest_of d.rs) a) ∙ ap (λ (y : Bool). y && fit_all table left (here (rest_of d.rs) a)) b)
         ∙ and-false (fit_all table left d.ws))
 
-    pub pass_tree : (after : List ℕ) (m k : ℕ) → FillsTree table listed around t bytes answer left (To m k) → FilledWithin (part_room * length t) (To m k)
+    pub pass_tree : (after : List ℕ) (m k : ℕ) → FillsTree table listed around t bytes answer left (Some (filled m k)) → FilledWithin (part_room * length t) (Some (filled m k))
         → StoresTree table listed around t bytes answer left (at + put) out after → length after ≡ length out → used + n ≤ length s → length t ≤ n
         → Passing after (used + n) (put + m) (elements + k)
     unfolding FillsTree StoresTree Fills Stores
@@ -596,90 +605,98 @@ module _ (table : List ℕ) (listed : ℕ → Option ℕ) (around : Option ℕ) 
 -- What is told of one tree, and of one that has a symbol
 
 module _ (table : List ℕ) (listed : ℕ → Option ℕ) (around : Option ℕ) (t bytes answer : List ℕ) (left at : ℕ) (out : List ℕ) where
-  abbrev Treed : Filled → List ℕ → Type 0
+  abbrev Treed : Option Filled → List ℕ → Type 0
   Treed r after =
       FillsTree table listed around t bytes answer left r × (FilledWithin (part_room * length t) r × StoresTree table listed around t bytes answer left at out after)
 
-  treed : (r : Filled) (after : List ℕ) → FilledWithin (part_room * length t) r
+  treed : (r : Option Filled) (after : List ℕ) → FilledWithin (part_room * length t) r
       → (length t ≡ extent_of table t → Fitted table listed around t bytes answer left at out r after) → Treed r after
   unfolding FillsTree StoresTree
   treed r after w h = (λ o. (h o).0, (w, λ o. (h o).1.1))
 
-  pub told_node : (x : ℕ) → decode_of (get_or t 0 0) ≡ Symbol x → (r : Filled) (after : List ℕ) → FillsNode table listed t bytes answer left r
+  pub told_node : (x : ℕ) → decode_of (get_or t 0 0) ≡ Symbol x → (r : Option Filled) (after : List ℕ) → FillsNode table listed t bytes answer left r
       → FilledWithin (part_room * length t) r → StoresNode table listed t bytes answer left at out after → Treed r after
   unfolding FillsNode StoresNode
   told_node x e r after f w s = (f around x e, (w, s around x e))
 
   module _ (some : 0 < length t) where
-    pub told_complement : decode_of (get_or t 0 0) ≡ Complement → (after : List ℕ) → Treed Unfit after
-    told_complement e after = treed Unfit after tt (λ o. tree_complement table listed around t bytes answer left at out some o after e)
+    told_complement : decode_of (get_or t 0 0) ≡ Complement → (after : List ℕ) → Treed None after
+    told_complement e after = treed None after tt (λ o. tree_complement table listed around t bytes answer left at out some o after e)
 
-    pub told_refused : decode_of (get_or t 0 0) ≡ Code.Refused → (after : List ℕ) → Treed Unfit after
-    told_refused e after = treed Unfit after tt (λ o. tree_refused table listed around t bytes answer left at out some o after e)
+    told_refused : decode_of (get_or t 0 0) ≡ Code.Refused → (after : List ℕ) → Treed None after
+    told_refused e after = treed None after tt (λ o. tree_refused table listed around t bytes answer left at out some o after e)
 
-    module _ (v : ℕ) (r : Filled) (after : List ℕ) (g : Puts table listed around bytes answer v left at out r after)
+    pub told_other : (code : Code) → code ≡ decode_of (get_or t 0 0) → (code ≡ Complement) ⊎ (code ≡ Code.Refused) → (after : List ℕ) → Treed None after
+    told_other code d (inl e) = told_complement (sym d ∙ e)
+    told_other code d (inr e) = told_refused (sym d ∙ e)
+
+    module _ (v : ℕ) (r : Option Filled) (after : List ℕ) (g : Puts table listed around bytes answer v left at out r after)
         (w : FilledWithin longest_part r) where
       within : FilledWithin (part_room * length t) r
       within = within_more r longest_part (part_room * length t) (omega arith) w
 
-      pub told_name : decode_of (get_or t 0 0) ≡ Name v → Treed r after
+      told_name : decode_of (get_or t 0 0) ≡ Name v → Treed r after
       told_name e =
           treed r after within
           (λ o. tree_part table listed around t bytes answer left at out some o v (name_variable table listed around t bytes answer left at out some o v e) r after g w)
 
-      pub told_run : decode_of (get_or t 0 0) ≡ Run v → Treed r after
+      told_run : decode_of (get_or t 0 0) ≡ Run v → Treed r after
       told_run e =
           treed r after within
           (λ o. tree_part table listed around t bytes answer left at out some o v (run_variable table listed around t bytes answer left at out some o v e) r after g w)
 
+      pub told_variable : (code : Code) → code ≡ decode_of (get_or t 0 0) → (code ≡ Name v) ⊎ (code ≡ Run v) → Treed r after
+      told_variable code d (inl e) = told_name (sym d ∙ e)
+      told_variable code d (inr e) = told_run (sym d ∙ e)
+
 module _ (table : List ℕ) (listed : ℕ → Option ℕ) (t bytes answer : List ℕ) (left at : ℕ) (out : List ℕ) (some : 0 < length t) where
-  abbrev pub Noded : Filled → List ℕ → Type 0
+  abbrev pub Noded : Option Filled → List ℕ → Type 0
   Noded r after =
       FillsNode table listed t bytes answer left r × (FilledWithin (part_room * length t) r × StoresNode table listed t bytes answer left at out after)
 
-  noded : (r : Filled) (after : List ℕ) → FilledWithin (part_room * length t) r
+  noded : (r : Option Filled) (after : List ℕ) → FilledWithin (part_room * length t) r
       → ((around : Option ℕ) (x : ℕ) → decode_of (get_or t 0 0) ≡ Symbol x → length t ≡ extent_of table t → Fitted table listed around t bytes answer left at out r after)
       → Noded r after
   unfolding FillsNode StoresNode FillsTree StoresTree
   noded r after w h = (λ around x e o. (h around x e o).0, (w, λ around x e o. (h around x e o).1.1))
 
-  pub put_deep : (after : List ℕ) → left ≡ 0 → Noded Unfit after
-  put_deep after z = noded Unfit after tt (λ around x e o. tree_deep table listed around t bytes answer left at out some o x e after z)
+  pub put_deep : (after : List ℕ) → left ≡ 0 → Noded None after
+  put_deep after z = noded None after tt (λ around x e o. tree_deep table listed around t bytes answer left at out some o x e after z)
 
   module _ (deep : 0 < left) (inside : List ℕ) (c : ChildrenOf table t inside) (within : Option ℕ) (iw : within ≡ listed (get_or t 0 0)) where
-    pub put_inside_unfit : (after : List ℕ) → Fills table listed within inside bytes answer (left - 1) Unfit → Noded Unfit after
+    pub put_inside_unfit : (after : List ℕ) → Fills table listed within inside bytes answer (left - 1) None → Noded None after
     put_inside_unfit after g =
-        noded Unfit after tt (λ around x e o. tree_inside_unfit table listed around t bytes answer left at out some o x e deep inside c within iw after g)
+        noded None after tt (λ around x e o. tree_inside_unfit table listed around t bytes answer left at out some o x e deep inside c within iw after g)
 
-    module _ (own : ℕ) (ow : own ≡ own_bytes table (get_or t 0 0)) (m k : ℕ) (g : Fills table listed within inside bytes answer (left - 1) (To m k)) where
-      pub put_wide : (after : List ℕ) → narrow_number (eqb own 2) k ≡ false → Noded Unfit after
+    module _ (own : ℕ) (ow : own ≡ own_bytes table (get_or t 0 0)) (m k : ℕ) (g : Fills table listed within inside bytes answer (left - 1) (Some (filled m k))) where
+      pub put_wide : (after : List ℕ) → narrow_node (eqb own 2) k ≡ false → Noded None after
       put_wide after h =
-          noded Unfit after tt (λ around x e o. tree_wide table listed around t bytes answer left at out some o x e deep inside c within iw own ow m k g after h)
+          noded None after tt (λ around x e o. tree_wide table listed around t bytes answer left at out some o x e deep inside c within iw own ow m k g after h)
 
-      pub put_node : (inner after : List ℕ) → narrow_number (eqb own 2) k ≡ true
+      pub put_node : (inner after : List ℕ) → narrow_node (eqb own 2) k ≡ true
           → Stores table listed within inside bytes answer (left - 1) (at + own) (set out at (get_or t 0 0)) inner
-          → after ≡ stored_number (eqb own 2) inner (at + 1) k → FilledWithin (part_room * length inside) (To m k) → length inside < length t → own ≤ 2
-          → Noded (To (own + m) 1) after
+          → after ≡ stored (eqb own 2) inner (at + 1) k → FilledWithin (part_room * length inside) (Some (filled m k)) → length inside < length t → own ≤ 2
+          → Noded (Some (filled (own + m) 1)) after
       put_node inner after h w q f less two =
-          noded (To (own + m) 1) after (omega (arith, f.0), omega arith)
+          noded (Some (filled (own + m) 1)) after (omega (arith, f.0), omega arith)
           (λ around x e o. tree_node table listed around t bytes answer left at out some o x e deep inside c within iw own ow m k g inner after h w q f less two)
 
 -- a part is no longer than an answer can tell
 pub part_short : (bytes answer : List ℕ) (v : ℕ) → ((i : ℕ) → get_or answer i 0 ≤ longest_part) → length (part_in bytes answer v) ≤ longest_part
 unfolding part_in part_bytes
 part_short bytes answer v h =
-    either (leb (length answer) (entry_width * v + 1)) _ _ (none bytes) (either (leb (offset_in answer v + length_in answer v) (length bytes)) _ _ some (none bytes))
+    either (leb (length answer) (entry_width * v + 1)) _ _ (no_part bytes) (either (leb (offset_in answer v + length_in answer v) (length bytes)) _ _ a_part (no_part bytes))
   where
     either : (b : Bool) (x y : List ℕ) → length x ≤ longest_part → length y ≤ longest_part → length (cond b x y) ≤ longest_part
     either true x y f g = f
     either false x y f g = g
 
-    none : (l : List ℕ) → length (take 0 l) ≤ longest_part
-    none [] = omega arith
-    none (x ∷ l) = omega arith
+    no_part : (l : List ℕ) → length (take 0 l) ≤ longest_part
+    no_part [] = omega arith
+    no_part (x ∷ l) = omega arith
 
-    some : length (take (length_in answer v) (drop (offset_in answer v) bytes)) ≤ longest_part
-    some = omega (arith, length-take (length_in answer v) (drop (offset_in answer v) bytes), h (entry_width * v + 1))
+    a_part : length (take (length_in answer v) (drop (offset_in answer v) bytes)) ≤ longest_part
+    a_part = omega (arith, length-take (length_in answer v) (drop (offset_in answer v) bytes), h (entry_width * v + 1))
 
 pub part_is : (bytes answer : List ℕ) (v : ℕ) (r : List ℕ) → ((i : ℕ) → get_or answer i 0 ≤ longest_part) → r ≡ part_in bytes answer v
     → (r ≡ part_in bytes answer v) × (length r ≤ longest_part)
@@ -703,5 +720,5 @@ terms_some answer v w n h e f = (f ∙ ap (λ (i : ℕ). get_or answer (entry_wi
 pub part_size : (s : List ℕ) (used n : ℕ) → used + n ≤ length s → length (take (used + n - used) (drop used s)) ≡ n
 part_size s used n h = omega (arith, length-take (used + n - used) (drop used s), length-drop used s)
 
-pub filled_within : (most : ℕ) (r : Filled) {n k : ℕ} → (e : r ≡ To n k) → FilledWithin most r → (n ≤ most) × (k ≤ 256 * most)
+pub filled_within : (most : ℕ) (r : Option Filled) {n k : ℕ} → (e : r ≡ Some (filled n k)) → FilledWithin most r → (n ≤ most) × (k ≤ 256 * most)
 filled_within most r e w = subst (FilledWithin most) e w

@@ -4,7 +4,6 @@ use native.Mathlib.Omega.{arith}
 use mathlib.Core.Path.{◌≡◌, refl, sym, ap, ap₂, subst, ◌∙◌}
 use mathlib.Core.List.{List, [], ◌∷◌}
 use mathlib.Core.Bool.{Bool, true, false, cond, not, ◌||◌, true≢false, false≢true}
-use mathlib.Core.Option.{Option, none, some}
 use lib.Dec.{eqb}
 use lib.ListN.{get_or}
 use borrow.Author.Tests.{eqb-true, not-false}
@@ -27,6 +26,7 @@ use Rattle.anti_pattern.proofs.Facts.{some_same}
 use Rattle.replace.specs.Demands.{exactly}
 use Rattle.replace.specs.Instance.{term_assigned, instance, instances}
 use Rattle.replace.specs.Loose.{loose, loose_all}
+use Rattle.std.specs.Prelude.{Option, Some, None}
 
 pub neither : (a b : Bool) → (a || b) ≡ false → (a ≡ false) × (b ≡ false)
 neither true b h = absurd (true≢false h)
@@ -76,8 +76,8 @@ module _ (l : Language) (vs : List ℕ) where
   module _ (a : Assignment) where
     -- the variables are assigned terms of the language, the names among them a single one each
     pub record Assigns : Type 0 where
-      pub names_one : (v : ℕ) → v < names → among v vs ≡ true → (t : Term) × (a v ≡ some (single t))
-      pub assigns : (v : ℕ) → among v vs ≡ true → (w : Terms) × TermsOf l w × (a v ≡ some w)
+      pub names_one : (v : ℕ) → v < names → among v vs ≡ true → (t : Term) × (a v ≡ Some (single t))
+      pub assigns : (v : ℕ) → among v vs ≡ true → (w : Terms) × TermsOf l w × (a v ≡ Some w)
 
     module _ (had : Assigns) where
       mutual
@@ -117,7 +117,7 @@ module _ (l : Language) (vs : List ℕ) where
       counted_fixed true n k c e = absurd (true≢false e)
       counted_fixed false n k c e = c
 
-      assigned_over : (v : ℕ) (w : Terms) → among v vs ≡ true → a v ≡ some w → OverAll l.table w
+      assigned_over : (v : ℕ) (w : Terms) → among v vs ≡ true → a v ≡ Some w → OverAll l.table w
       assigned_over v w m e = let z = had.assigns v m in subst (OverAll l.table) (some_same (sym z.2 ∙ e)) (each_over l z.0 z.1)
 
       mutual
@@ -183,7 +183,7 @@ module _ (l : Language) (vs : List ℕ) where
 
 module _ (l : Language) (a : Assignment) (v : ℕ) (low : v < names) where
   abbrev One : ℕ → Type 0
-  One u = (t : Term) × (a u ≡ some (single t))
+  One u = (t : Term) × (a u ≡ Some (single t))
 
   name_first : (u : ℕ) (vs : List ℕ) → (u ≡ v → One v) → (among v vs ≡ true → One v) → among v (u ∷ vs) ≡ true → One v
   name_first u vs g f m = go (eqb u v) refl m
@@ -216,5 +216,5 @@ pub satisfies_assigns : (l : Language) (p : Pattern) (t : Term) (a : Assignment)
 unfolding Extends
 satisfies_assigns l p t a f s = record {
   names_one = λ v low m. name_one l a v low p t 32 false [] f s.holds (λ n. absurd (false≢true n)) m;
-  assigns = λ v m. subst (λ (b : Bool). ExtendsAt (TermsOf l) none b (a v)) m (s.exact v);
+  assigns = λ v m. subst (λ (b : Bool). ExtendsAt (TermsOf l) None b (a v)) m (s.exact v);
 }

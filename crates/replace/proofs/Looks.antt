@@ -4,7 +4,6 @@ use native.Mathlib.Omega.{arith}
 use mathlib.Core.Path.{◌≡◌, refl, sym, ap, subst, ◌∙◌}
 use mathlib.Core.List.{List, [], ◌∷◌}
 use mathlib.Core.Bool.{Bool, true, false, cond, ◌&&◌, or-false}
-use mathlib.Core.Option.{none, some}
 use lib.Dec.{leb, ltb}
 use lib.ListN.{length, take, drop, length-take, length-drop}
 use borrow.Author.Tests.{le-leb, lt-leb, leb-false}
@@ -13,8 +12,9 @@ use Rattle.answers.specs.Part.{part}
 use Rattle.answers.specs.declared.Refusal.{Refusal}
 use Rattle.answers.specs.declared.Refusal.TheVariants.{Outgrown}
 use Rattle.answers.specs.declared.Answer.{Answer}
-use Rattle.answers.specs.declared.Answer.TheVariants.{Bound as Matches, None as Misses, Spent as Spends, Refused as Refuses}
-use Rattle.answers.specs.declared.Applied.TheVariants.{Bound, None, Spent, Refused}
+use Rattle.answers.specs.declared.Answer.TheVariants.{Bound as Matches, None as Misses, Spent as Spends}
+use Rattle.answers.specs.declared.Applied.{Applied}
+use Rattle.answers.specs.declared.Applied.TheVariants.{Bound, Spent}
 use Rattle.term.specs.Class.{Alike}
 use Rattle.term.specs.Limits.{nesting, longest_record, longest_pattern}
 use Rattle.term.specs.Part.{part_bytes}
@@ -41,19 +41,19 @@ use Rattle.matcher.specs.Demands.{offset_in, length_in, Shows}
 use Rattle.matcher.proofs.Answered.{first_shown}
 use Rattle.matcher.proofs.Matched.{bytes_answered}
 use Rattle.replace.specs.Call.{Input, Replacement, result, nothing, spent, replaced_by, replacement, measured, look_on}
-use Rattle.replace.specs.Filling.{part_in, Run, Lent, Whole, fit_all, filled_to, Fills, Measures}
+use Rattle.replace.specs.Filling.{part_in, Run, Lent, Whole, fit_all, filled, filled_to, Fills, Measures}
 use Rattle.replace.specs.Growth.{nests, narrow, within_limits}
 use Rattle.replace.specs.Instance.{instance}
 use Rattle.replace.specs.Splice.{spliced_in, listed_in, spliced_instances}
 use Rattle.replace.specs.Loose.{loose}
 use Rattle.replace.specs.declared.Filled.{Filled}
-use Rattle.replace.specs.declared.Filled.TheVariants.{To, Unfit}
 use Rattle.replace.proofs.Fillings.{filled_to_holds, filled_unfit}
 use Rattle.replace.proofs.Instances.{satisfies_assigns}
 use Rattle.replace.proofs.Limits.{and_both}
 use Rattle.replace.proofs.Marks.{small_table}
 use Rattle.replace.proofs.Splices.{template_apart, filled_spliced}
 use Rattle.replace.proofs.Templates.{template_exactly}
+use Rattle.std.specs.Prelude.{Result, Ok, Err, Option, Some, None}
 
 -- What a buffer shows is lent
 
@@ -115,36 +115,36 @@ module _ (l : Language) (template bytes buffer : List ℕ) (n : ℕ) where
   spliced q a = spliced_in l (instance q a)
 
   pub filled_whole : (q : Pattern) (vs : List ℕ) (a : Assignment) → Whole l template bytes buffer q vs a
-      → spliced_instances (listed_in l) none (plain q end) a ≡ single (spliced q a)
+      → spliced_instances (listed_in l) None (plain q end) a ≡ single (spliced q a)
   filled_whole q vs a w = filled_spliced table l.classes l.edition vs a w.spoken q (sym (or-false (loose vs q)) ∙ w.filling.firm)
 
-  one_filled : (r : Filled) (q : Pattern) (vs : List ℕ) (a : Assignment) → Whole l template bytes buffer q vs a → Fills table (listed_in l) none template bytes buffer 32 r
+  one_filled : (r : Option Filled) (q : Pattern) (vs : List ℕ) (a : Assignment) → Whole l template bytes buffer q vs a → Fills table (listed_in l) None template bytes buffer 32 r
       → r ≡ filled_to (fit_all table 32 (single (spliced q a))) (sizes table (single (spliced q a))) (count (single (spliced q a)))
   unfolding Fills
   one_filled r q vs a w f =
       subst (λ (ts : Terms). r ≡ filled_to (fit_all table 32 ts) (sizes table ts) (count ts)) (filled_whole q vs a w) (f (plain q end) vs a w.filling)
 
-  pub measures_unfit : Fills table (listed_in l) none template bytes buffer 32 Unfit → Measures l template bytes buffer n (Refused Outgrown)
+  pub measures_unfit : Fills table (listed_in l) None template bytes buffer 32 None → Measures l template bytes buffer n (Err Outgrown)
   unfolding Measures
   measures_unfit f q vs a g =
       let u = spliced q a in
-      let z = filled_unfit (fit_all table 32 (single u)) _ _ (one_filled Unfit q vs a g f) in
-      sym (ap (λ (y : Bool). cond y (Bound n (size table u)) (Refused Outgrown)) (unfit_limits table u z))
+      let z = filled_unfit (fit_all table 32 (single u)) _ _ (one_filled None q vs a g f) in
+      sym (ap (λ (y : Bool). cond y (Ok (Bound n (size table u))) (Err Outgrown)) (unfit_limits table u z))
 
-  pub measures_long : (m k : ℕ) → Fills table (listed_in l) none template bytes buffer 32 (To m k) → longest_record < m → Measures l template bytes buffer n (Refused Outgrown)
+  pub measures_long : (m k : ℕ) → Fills table (listed_in l) None template bytes buffer 32 (Some (filled m k)) → longest_record < m → Measures l template bytes buffer n (Err Outgrown)
   unfolding Measures
   measures_long m k f h q vs a g =
       let u = spliced q a in
-      let z = filled_to_holds (fit_all table 32 (single u)) (sizes table (single u)) (count (single u)) m k (one_filled (To m k) q vs a g f) in
-      sym (ap (λ (y : Bool). cond y (Bound n (size table u)) (Refused Outgrown)) (long_limits table u (omega (arith, z.1, sizes_single table u))))
+      let z = filled_to_holds (fit_all table 32 (single u)) (sizes table (single u)) (count (single u)) m k (one_filled (Some (filled m k)) q vs a g f) in
+      sym (ap (λ (y : Bool). cond y (Ok (Bound n (size table u))) (Err Outgrown)) (long_limits table u (omega (arith, z.1, sizes_single table u))))
 
-  pub measures_bound : (m k : ℕ) → Fills table (listed_in l) none template bytes buffer 32 (To m k) → m ≤ longest_record → Measures l template bytes buffer n (Bound n m)
+  pub measures_bound : (m k : ℕ) → Fills table (listed_in l) None template bytes buffer 32 (Some (filled m k)) → m ≤ longest_record → Measures l template bytes buffer n (Ok (Bound n m))
   unfolding Measures
   measures_bound m k f h q vs a g =
       let u = spliced q a in
-      let z = filled_to_holds (fit_all table 32 (single u)) (sizes table (single u)) (count (single u)) m k (one_filled (To m k) q vs a g f) in
+      let z = filled_to_holds (fit_all table 32 (single u)) (sizes table (single u)) (count (single u)) m k (one_filled (Some (filled m k)) q vs a g f) in
       let s : m ≡ size table u = z.1 ∙ sizes_single table u in
-      ap (Bound n) s ∙ sym (ap (λ (y : Bool). cond y (Bound n (size table u)) (Refused Outgrown)) (fit_limits table u (omega (arith, s)) z.0))
+      ap (λ (i : ℕ). Ok (Bound n i)) s ∙ sym (ap (λ (y : Bool). cond y (Ok (Bound n (size table u))) (Err Outgrown)) (fit_limits table u (omega (arith, s)) z.0))
 
 -- the rule's answer and the template's result are told by one search
 
@@ -152,23 +152,23 @@ module _ (l : Language) (q : Pattern) (allowance : ℕ) where
   abbrev by : Bool → Answers → ℕ → Replacement
   by b o c = cond b (spent allowance) (replaced_by l q (first_answer o) c)
 
-  told_bound : (b : Bool) (o : Answers) (c n : ℕ) → Matches n ≡ told (limit b allowance (matching_of l.table o c))
-      → (e : Env) × (first_answer o ≡ some e) × (by b o c ≡ result (spliced_in l (instance q e.value)) n)
+  told_bound : (b : Bool) (o : Answers) (c n : ℕ) → Ok (Matches n) ≡ told (limit b allowance (matching_of l.table o c))
+      → (e : Env) × (first_answer o ≡ Some e) × (by b o c ≡ result (spliced_in l (instance q e.value)) n)
   told_bound true o c n h = let z : ◌≡◌ {A = ℕ} 0 1 = cc in absurd (omega arith)
   told_bound false (found e m o) c n h = let z : n ≡ c = cc in (e, refl, ap (result (spliced_in l (instance q e.value))) (sym z))
   told_bound false failed c n h = let z : ◌≡◌ {A = ℕ} 0 1 = cc in absurd (omega arith)
 
-  told_none : (b : Bool) (o : Answers) (c n : ℕ) → Misses n ≡ told (limit b allowance (matching_of l.table o c)) → by b o c ≡ nothing n
+  told_none : (b : Bool) (o : Answers) (c n : ℕ) → Ok (Misses n) ≡ told (limit b allowance (matching_of l.table o c)) → by b o c ≡ nothing n
   told_none true o c n h = let z : ◌≡◌ {A = ℕ} 0 1 = cc in absurd (omega arith)
   told_none false (found e m o) c n h = let z : ◌≡◌ {A = ℕ} 0 1 = cc in absurd (omega arith)
   told_none false failed c n h = let z : n ≡ c = cc in ap nothing (sym z)
 
-  told_spent : (b : Bool) (o : Answers) (c n : ℕ) → Spends n ≡ told (limit b allowance (matching_of l.table o c)) → by b o c ≡ spent n
+  told_spent : (b : Bool) (o : Answers) (c n : ℕ) → Ok (Spends n) ≡ told (limit b allowance (matching_of l.table o c)) → by b o c ≡ spent n
   told_spent true o c n h = let z : n ≡ allowance = cc in ap spent (sym z)
   told_spent false (found e m o) c n h = let z : ◌≡◌ {A = ℕ} 0 1 = cc in absurd (omega arith)
   told_spent false failed c n h = let z : ◌≡◌ {A = ℕ} 0 1 = cc in absurd (omega arith)
 
-  told_refused : (b : Bool) (o : Answers) (c : ℕ) (r : Refusal) → Refuses r ≡ told (limit b allowance (matching_of l.table o c)) → ⊥
+  told_refused : (b : Bool) (o : Answers) (c : ℕ) (r : Refusal) → Err r ≡ told (limit b allowance (matching_of l.table o c)) → ⊥
   told_refused true o c r h = let z : ◌≡◌ {A = ℕ} 0 1 = cc in omega arith
   told_refused false (found e m o) c r h = let z : ◌≡◌ {A = ℕ} 0 1 = cc in omega arith
   told_refused false failed c r h = let z : ◌≡◌ {A = ℕ} 0 1 = cc in omega arith
@@ -177,7 +177,7 @@ module _ (l : Language) (rule template bytes : List ℕ) (k : Alike l.table l.cl
   abbrev tab : List ℕ
   tab = l.table
 
-  shows_lent : (e : Env) (buffer : List ℕ) (ps : List _) → answer_width ≤ length buffer → first_answer (whole l p t).out ≡ some e
+  shows_lent : (e : Env) (buffer : List ℕ) (ps : List _) → answer_width ≤ length buffer → first_answer (whole l p t).out ≡ Some e
       → Shows tab bytes p t e.value buffer → Shown tab bytes ps e → Lent tab bytes buffer (free p) e.value
   unfolding part_in
   shows_lent e buffer ps wide f s h =
@@ -202,7 +202,7 @@ module _ (l : Language) (rule template bytes : List ℕ) (k : Alike l.table l.cl
         one = λ v low m. let u = had.names_one v low m in (u.0, ap assigned u.1);
       }
 
-  template_whole : (e : Env) (buffer : List ℕ) → first_answer (whole l p t).out ≡ some e → Lent tab bytes buffer (free p) e.value
+  template_whole : (e : Env) (buffer : List ℕ) → first_answer (whole l p t).out ≡ Some e → Lent tab bytes buffer (free p) e.value
       → Whole l template bytes buffer q (free p) e.value
   unfolding encode
   template_whole e buffer f h = record {
@@ -223,7 +223,7 @@ module _ (l : Language) (rule template bytes : List ℕ) (k : Alike l.table l.cl
   pub template_short : length template ≤ longest_pattern
   template_short = subst (λ (y : List ℕ). length y ≤ longest_pattern) i.replacing.bytes i.replacing.accepted.short
 
-  module _ (before after : List ℕ) (wide : answer_width ≤ length before) (same : length after ≡ length before) (a : Answer)
+  module _ (before after : List ℕ) (wide : answer_width ≤ length before) (same : length after ≡ length before) (a : Result Answer Refusal)
       (m : (a ≡ answer_on_bytes tab l.classes rule bytes allowance (length before)) × (after ≡ buffer_on_bytes tab l.classes rule bytes allowance before)) where
     is_told : a ≡ told (answer l p t allowance)
     is_told = m.0 ∙ (bytes_answered tab l.classes rule bytes before allowance wide l.edition k p t i.matched).0
@@ -232,8 +232,8 @@ module _ (l : Language) (rule template bytes : List ℕ) (k : Alike l.table l.cl
     is_written = m.1 ∙ (bytes_answered tab l.classes rule bytes before allowance wide l.edition k p t i.matched).1
 
     -- where the rule is bound, its first answer is lent
-    pub bound_filling : (n : ℕ) → a ≡ Matches n
-        → (e : Env) × (first_answer (whole l p t).out ≡ some e) × Whole l template bytes after q (free p) e.value
+    pub bound_filling : (n : ℕ) → a ≡ Ok (Matches n)
+        → (e : Env) × (first_answer (whole l p t).out ≡ Some e) × Whole l template bytes after q (free p) e.value
         × (replacement l p q t allowance ≡ result (spliced_in l (instance q e.value)) n)
     unfolding answer replacement
     bound_filling n e =
@@ -247,14 +247,14 @@ module _ (l : Language) (rule template bytes : List ℕ) (k : Alike l.table l.cl
           o.2 ∙ ap (λ (y : Env). result (spliced_in l (instance q y.value)) n) z,
         )
 
-    pub none_looked : (n : ℕ) → a ≡ Misses n → None n ≡ look_on l p q t allowance
+    pub none_looked : (n : ℕ) → a ≡ Ok (Misses n) → Ok (Applied.None n) ≡ look_on l p q t allowance
     unfolding answer replacement
     none_looked n e = sym (ap (measured tab) (told_none l q allowance (ltb allowance (count_of l p t)) (whole l p t).out (count_of l p t) n (sym e ∙ is_told)))
 
-    pub spent_looked : (n : ℕ) → a ≡ Spends n → Spent n ≡ look_on l p q t allowance
+    pub spent_looked : (n : ℕ) → a ≡ Ok (Spends n) → Ok (Spent n) ≡ look_on l p q t allowance
     unfolding answer replacement
     spent_looked n e = sym (ap (measured tab) (told_spent l q allowance (ltb allowance (count_of l p t)) (whole l p t).out (count_of l p t) n (sym e ∙ is_told)))
 
-    pub never_refused : (r : Refusal) → a ≡ Refuses r → ⊥
+    pub never_refused : (r : Refusal) → a ≡ Err r → ⊥
     unfolding answer
     never_refused r e = told_refused l q allowance (ltb allowance (count_of l p t)) (whole l p t).out (count_of l p t) r (sym e ∙ is_told)

@@ -2,6 +2,7 @@
 use Prim.Native.Nat.{ℕ, zero, suc, ◌+◌, ◌-◌, ◌≤◌, ◌<◌}
 use native.Mathlib.Omega.{arith}
 use mathlib.Core.Path.{◌≡◌, refl, sym, ap, subst, ◌∙◌}
+use mathlib.Core.Logic.{◌⊎◌, inl, inr}
 use mathlib.Core.List.{List, [], ◌∷◌}
 use mathlib.Core.Bool.{Bool, true, false, cond, not, ◌||◌, or-true, or-false, false≢true}
 use lib.ListN.{length, get_or, set, take, drop, length-drop, length-set}
@@ -46,13 +47,17 @@ unmarked_at (false ∷ l) zero h = refl
 unmarked_at (false ∷ l) (suc v) h = unmarked_at l v h
 
 -- a code's variable is one of the 48
-pub name_below : (b x : ℕ) → decode_of b ≡ Name x → x < 48
+name_below : (b x : ℕ) → decode_of b ≡ Name x → x < 48
 unfolding VariableBelow
 name_below b x e = subst VariableBelow e (decode_below b)
 
-pub run_below : (b x : ℕ) → decode_of b ≡ Run x → x < 48
+run_below : (b x : ℕ) → decode_of b ≡ Run x → x < 48
 unfolding VariableBelow
 run_below b x e = subst VariableBelow e (decode_below b)
+
+pub variable_below : (b : ℕ) (code : Code) → code ≡ decode_of b → (x : ℕ) → (code ≡ Name x) ⊎ (code ≡ Run x) → x < 48
+variable_below b code d x (inl e) = name_below b x (sym d ∙ e)
+variable_below b code d x (inr e) = run_below b x (sym d ∙ e)
 
 -- the children of a symbol, and that it is in the table
 symbol_fits : (table : List ℕ) (x : ℕ) (ks : Children) (left : ℕ) (in_list : Bool) → Fits table false (pattern_tree (symbol x ks)) left in_list
@@ -163,7 +168,7 @@ module _ (table s : List ℕ) where
             ∙ sym (ap (λ (y : Bool). y || among v ys) (ap (λ (i : ℕ). get_or (set marks x true) i false) (sym (eqb-true x v e)) ∙ get_or-set_same marks x true false (omega (arith, m.long))))
         go false e = sym (ap (λ (y : Bool). y || among v ys) (get_or-set_other marks x v true false (λ z. eqb-false x v e (sym z))))
 
-    pub marking_name : (x : ℕ) → x < 48 → decode_of (get_or s at 0) ≡ Name x → Marking (set marks x true) (at + 1)
+    marking_name : (x : ℕ) → x < 48 → decode_of (get_or s at 0) ≡ Name x → Marking (set marks x true) (at + 1)
     marking_name x low e = record {
       long = length-set marks x true ∙ m.long;
       state = λ p r.
@@ -175,7 +180,7 @@ module _ (table s : List ℕ) where
           );
     }
 
-    pub marking_run : (x : ℕ) → x < 48 → decode_of (get_or s at 0) ≡ Run x → Marking (set marks x true) (at + 1)
+    marking_run : (x : ℕ) → x < 48 → decode_of (get_or s at 0) ≡ Run x → Marking (set marks x true) (at + 1)
     marking_run x low e = record {
       long = length-set marks x true ∙ m.long;
       state = λ p r.
@@ -186,6 +191,10 @@ module _ (table s : List ℕ) where
             λ v b. g.2 v b ∙ ap (λ (y : Children). get_or marks v false || among v (vars_all y [])) n.1 ∙ marked x v (vars_all n.0 []) low,
           );
     }
+
+    pub marking_variable : (code : Code) → code ≡ decode_of (get_or s at 0) → (x : ℕ) → (code ≡ Name x) ⊎ (code ≡ Run x) → Marking (set marks x true) (at + 1)
+    marking_variable code d x (inl e) = marking_name x (name_below _ x (sym d ∙ e)) (sym d ∙ e)
+    marking_variable code d x (inr e) = marking_run x (run_below _ x (sym d ∙ e)) (sym d ∙ e)
 
     pub marking_complement : (n : ℕ) → decode_of (get_or s at 0) ≡ Complement → n ≡ extent_of table (take (length s - at) (drop at s)) → Marking marks (at + n)
     marking_complement k e i = record {
@@ -224,42 +233,55 @@ module _ (table s : List ℕ) where
         let n = symbol_next (small_table table r.table_accepted_holds) at l g.0 g.1 x e in
         (n.0 ⊞ n.1, n.3, g.2 ∙ ap (loose_all vs) n.2 ∙ sym (loose_both vs n.0 n.1))
 
-    pub loosening_name : (x : ℕ) → x < 48 → decode_of (get_or s at 0) ≡ Name x → get_or marks x false ≡ true → Loosening marks (at + 1)
+    loosening_name : (x : ℕ) → x < 48 → decode_of (get_or s at 0) ≡ Name x → get_or marks x false ≡ true → Loosening marks (at + 1)
     loosening_name x low e b q r vs k =
         let g = m q r vs k in
         let n = name_next (small_table table r.table_accepted_holds) at l g.0 g.1 x e in
         (n.0, n.2, g.2 ∙ ap (loose_all vs) n.1 ∙ ap (λ (y : Bool). not y || loose_all vs n.0) (sym (k x low) ∙ b))
 
-    pub loosening_run : (x : ℕ) → x < 48 → decode_of (get_or s at 0) ≡ Run x → get_or marks x false ≡ true → Loosening marks (at + 1)
+    loosening_run : (x : ℕ) → x < 48 → decode_of (get_or s at 0) ≡ Run x → get_or marks x false ≡ true → Loosening marks (at + 1)
     loosening_run x low e b q r vs k =
         let g = m q r vs k in
         let n = run_next (small_table table r.table_accepted_holds) at l g.0 g.1 x e in
         (n.0, n.2, g.2 ∙ ap (loose_all vs) n.1 ∙ ap (λ (y : Bool). not y || loose_all vs n.0) (sym (k x low) ∙ b))
 
-    pub name_loose : (x : ℕ) → x < 48 → decode_of (get_or s at 0) ≡ Name x → get_or marks x false ≡ false → MarksLoose table s marks true
+    name_loose : (x : ℕ) → x < 48 → decode_of (get_or s at 0) ≡ Name x → get_or marks x false ≡ false → MarksLoose table s marks true
     unfolding MarksLoose
     name_loose x low e b q r vs k =
         let g = m q r vs k in
         let n = name_next (small_table table r.table_accepted_holds) at l g.0 g.1 x e in
         sym (g.2 ∙ ap (loose_all vs) n.1 ∙ ap (λ (y : Bool). not y || loose_all vs n.0) (sym (k x low) ∙ b))
 
-    pub run_loose : (x : ℕ) → x < 48 → decode_of (get_or s at 0) ≡ Run x → get_or marks x false ≡ false → MarksLoose table s marks true
+    run_loose : (x : ℕ) → x < 48 → decode_of (get_or s at 0) ≡ Run x → get_or marks x false ≡ false → MarksLoose table s marks true
     unfolding MarksLoose
     run_loose x low e b q r vs k =
         let g = m q r vs k in
         let n = run_next (small_table table r.table_accepted_holds) at l g.0 g.1 x e in
         sym (g.2 ∙ ap (loose_all vs) n.1 ∙ ap (λ (y : Bool). not y || loose_all vs n.0) (sym (k x low) ∙ b))
 
-    pub complement_loose : decode_of (get_or s at 0) ≡ Complement → MarksLoose table s marks true
+    complement_loose : decode_of (get_or s at 0) ≡ Complement → MarksLoose table s marks true
     unfolding MarksLoose
     complement_loose e q r vs k =
         let g = m q r vs k in
         let n = complement_next (small_table table r.table_accepted_holds) at l g.0 g.1 e in
         sym (g.2 ∙ ap (loose_all vs) n.2)
 
-    pub refused_loose : decode_of (get_or s at 0) ≡ Code.Refused → MarksLoose table s marks true
+    refused_loose : decode_of (get_or s at 0) ≡ Code.Refused → MarksLoose table s marks true
     unfolding MarksLoose
     refused_loose e q r vs k = let g = m q r vs k in absurd (refused_never (small_table table r.table_accepted_holds) at l g.0 g.1 e)
+
+    module _ (code : Code) (d : code ≡ decode_of (get_or s at 0)) where
+      pub loosening_variable : (x : ℕ) → (code ≡ Name x) ⊎ (code ≡ Run x) → get_or marks x false ≡ true → Loosening marks (at + 1)
+      loosening_variable x (inl e) = loosening_name x (name_below _ x (sym d ∙ e)) (sym d ∙ e)
+      loosening_variable x (inr e) = loosening_run x (run_below _ x (sym d ∙ e)) (sym d ∙ e)
+
+      pub variable_loose : (x : ℕ) → (code ≡ Name x) ⊎ (code ≡ Run x) → get_or marks x false ≡ false → MarksLoose table s marks true
+      variable_loose x (inl e) = name_loose x (name_below _ x (sym d ∙ e)) (sym d ∙ e)
+      variable_loose x (inr e) = run_loose x (run_below _ x (sym d ∙ e)) (sym d ∙ e)
+
+      pub other_loose : (code ≡ Complement) ⊎ (code ≡ Code.Refused) → MarksLoose table s marks true
+      other_loose (inl e) = complement_loose (sym d ∙ e)
+      other_loose (inr e) = refused_loose (sym d ∙ e)
 
   pub loosening_last : (marks : List Bool) (at : ℕ) → length s ≤ at → Loosening marks at → MarksLoose table s marks false
   unfolding MarksLoose

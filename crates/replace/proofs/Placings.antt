@@ -4,7 +4,6 @@ use native.Mathlib.Omega.{arith}
 use mathlib.Core.Path.{◌≡◌, refl, sym, ap, ap₂, subst, ◌∙◌}
 use mathlib.Core.List.{List, [], ◌∷◌}
 use mathlib.Core.Bool.{Bool, true, false, cond, ◌&&◌, and-false, false≢true}
-use mathlib.Core.Option.{Option, none, some}
 use lib.ListN.{length, get_or, take, drop, length-take}
 use lib.Seq.{sets}
 use Rattle.term.specs.Extent.{extent_of}
@@ -18,27 +17,27 @@ use Rattle.term.proofs.Lists.{front}
 use Rattle.term.proofs.Sizes.{number_terms, terms_sizes, encodes_append}
 use Rattle.term.proofs.Stores.{sets_append}
 use Rattle.anti_pattern.proofs.Facts.{join_nil, count_join}
-use Rattle.replace.specs.Filling.{longest_part, Run, ChildrenOf, TellsStored, PlacedBytes, placed_terms, part_in, PutsEach, Puts, filled_to, FilledWithin}
+use Rattle.replace.specs.Filling.{longest_part, Run, ChildrenOf, TellsStored, PlacedBytes, placed_terms, part_in, PutsEach, Puts, filled, filled_to, FilledWithin}
 use Rattle.replace.specs.Growth.{nest_all}
 use Rattle.term.specs.Splicing.{same_list}
 use Rattle.replace.specs.Splice.{placed_all}
 use Rattle.replace.specs.declared.Filled.{Filled}
-use Rattle.replace.specs.declared.Filled.TheVariants.{To, Unfit}
 use Rattle.replace.proofs.Fillings.{nest_join, within_more}
 use Rattle.replace.proofs.Limits.{and_both}
 use Rattle.replace.proofs.Parts.{Left, First, whole_left, none_behind, first_left}
+use Rattle.std.specs.Prelude.{Option, Some, None}
 
 join_join : (us ts rs : Terms) → (us ⧺ ts) ⧺ rs ≡ us ⧺ (ts ⧺ rs)
 join_join nil ts rs = refl
 join_join (u :: us) ts rs = ap (u ::◌) (join_join us ts rs)
 
 -- what is direct is a list
-direct_some : (around o : Option ℕ) → same_list around o ≡ true → (c : ℕ) × (o ≡ some c)
-direct_some none o h = absurd (false≢true h)
-direct_some (some a) none h = absurd (false≢true h)
-direct_some (some a) (some c) h = (c, refl)
+direct_some : (around o : Option ℕ) → same_list around o ≡ true → (c : ℕ) × (o ≡ Some c)
+direct_some None o h = absurd (false≢true h)
+direct_some (Some a) None h = absurd (false≢true h)
+direct_some (Some a) (Some c) h = (c, refl)
 
-module _ (table : List ℕ) (listed : ℕ → Option ℕ) (lists : (s c : ℕ) → listed s ≡ some c → is_list table s ≡ true) (around : Option ℕ)
+module _ (table : List ℕ) (listed : ℕ → Option ℕ) (lists : (s c : ℕ) → listed s ≡ Some c → is_list table s ≡ true) (around : Option ℕ)
     (part : List ℕ) (left at : ℕ) (out₀ : List ℕ) where
   abbrev all : Terms → Terms
   all ts = placed_all listed around ts nil
@@ -72,14 +71,14 @@ module _ (table : List ℕ) (listed : ℕ → Option ℕ) (lists : (s c : ℕ) �
   }
 
   pub place_last : (out : List ℕ) (used put elements : ℕ) → length part ≤ used → Placing out used put elements
-      → PutsEach table listed around part left at out₀ (To put elements) out × FilledWithin (length part) (To put elements)
+      → PutsEach table listed around part left at out₀ (Some (filled put elements)) out × FilledWithin (length part) (Some (filled put elements))
   unfolding PutsEach
   place_last out used put elements l p = (
     λ ts r.
         let d = p.done ts r in
         let e : all ts ≡ d.ws = d.made ∙ ap (λ (y : Terms). d.ws ⧺ all y) (none_behind table part used d.rs l d.behind) ∙ join_nil d.ws in
         rw e (
-          ap₂ To d.long d.many ∙ ap (λ (b : Bool). filled_to b (sizes table d.ws) (count d.ws)) (sym d.fit),
+          ap₂ (λ (i j : ℕ). Some (filled i j)) d.long d.many ∙ ap (λ (b : Bool). filled_to b (sizes table d.ws) (count d.ws)) (sym d.fit),
           λ h. d.stored,
         ),
     (omega (arith, p.less, p.within), omega (arith, p.few, p.within)),
@@ -147,7 +146,7 @@ module _ (table : List ℕ) (listed : ℕ → Option ℕ) (lists : (s c : ℕ) �
         go f true d z = direct_next rs f d (z ∙ d)
         go f false d z = whole_next rs f h d (z ∙ d)
 
-    pub place_unfit : b ≡ false → PutsEach table listed around part left at out₀ Unfit after × FilledWithin (length part) Unfit
+    pub place_unfit : b ≡ false → PutsEach table listed around part left at out₀ None after × FilledWithin (length part) None
     unfolding PutsEach TellsStored
     place_unfit e = (
       λ ts r.
@@ -196,7 +195,7 @@ module _ (table : List ℕ) (listed : ℕ → Option ℕ) (lists : (s c : ℕ) �
 
 -- the part of a variable
 pub each_part : (table bytes answer : List ℕ) (listed : ℕ → Option ℕ) (around : Option ℕ) (v left at : ℕ) (out part : List ℕ) → part ≡ part_in bytes answer v → length part ≤ longest_part
-    → (r : Filled) (after : List ℕ) → PutsEach table listed around part left at out r after × FilledWithin (length part) r
+    → (r : Option Filled) (after : List ℕ) → PutsEach table listed around part left at out r after × FilledWithin (length part) r
     → Puts table listed around bytes answer v left at out r after × FilledWithin longest_part r
 unfolding PutsEach Puts
 each_part table bytes answer listed around v left at out part is short r after f =

@@ -5,7 +5,6 @@ use mathlib.Core.Path.{◌≡◌, refl, sym, ap, subst, ◌∙◌}
 use mathlib.Core.Logic.{◌⊎◌, inl, inr}
 use mathlib.Core.List.{List, []}
 use mathlib.Core.Bool.{Bool, true, false, cond, true≢false}
-use mathlib.Core.Option.{Option, none, some}
 use lib.Dec.{ltb}
 use lib.ListN.{length, drop}
 use lib.Seq.{drop_at}
@@ -15,7 +14,7 @@ use Rattle.answers.specs.Refusal.{number_of}
 use Rattle.answers.specs.declared.Refusal.{Refusal}
 use Rattle.answers.specs.declared.Refusal.TheVariants.{Full, Outgrown}
 use Rattle.answers.specs.declared.Applied.{Applied}
-use Rattle.answers.specs.declared.Applied.TheVariants.{Bound, None, Spent, Refused}
+use Rattle.answers.specs.declared.Applied.TheVariants.{Bound, Spent}
 use Rattle.answers.proofs.Numbers.{word_or_refusal}
 use Rattle.term.specs.Class.{Alike}
 use Rattle.term.specs.Term.{Term, size, term_tree, term_bytes}
@@ -36,16 +35,17 @@ use Rattle.replace.specs.Loose.{loose}
 use Rattle.replace.specs.Splice.{spliced_in}
 use Rattle.replace.proofs.Limits.{within_accepted}
 use Rattle.replace.proofs.Results.{one_result, instance_replaced, replaced_of}
+use Rattle.std.specs.Prelude.{Result, Ok, Err, Option, Some, None}
 
 module _ (l : Language) (k : Alike l.table l.classes) (p q : Pattern) (t : Term) (of : TermOf l t) (n : ℕ) where
   pub data Came : Replacement → Type 0 where
     came_spent : n < count_of l p t → Came (spent n)
     came_none : count_of l p t ≤ n → Unsatisfied l p t → Came (nothing (count_of l p t))
-    came_result : count_of l p t ≤ n → (e : Env) → first_answer (whole l p t).out ≡ some e → Came (result (spliced_in l (instance q e.value)) (count_of l p t))
+    came_result : count_of l p t ≤ n → (e : Env) → first_answer (whole l p t).out ≡ Some e → Came (result (spliced_in l (instance q e.value)) (count_of l p t))
 
   came_by : count_of l p t ≤ n → (o : Option Env) → first_answer (whole l p t).out ≡ o → Came (replaced_by l q o (count_of l p t))
-  came_by h (some e) f = came_result h e f
-  came_by h none f = came_none h ((search_decides l k p t of).failed_none f)
+  came_by h (Some e) f = came_result h e f
+  came_by h None f = came_none h ((search_decides l k p t of).failed_none f)
 
   pub replacement_came : Came (replacement l p q t n)
   unfolding replacement
@@ -57,7 +57,7 @@ module _ (l : Language) (k : Alike l.table l.classes) (p q : Pattern) (t : Term)
 
 module _ (l : Language) (k : Alike l.table l.classes) (p q : Pattern) (t : Term) (of : TermOf l t) (rule : PatternAccepted l p)
     (template : PatternAccepted l q) (firm : loose (free p) q ≡ false)
-    (shows : (e : Env) → first_answer (whole l p t).out ≡ some e → FirstShown l p t e.value) where
+    (shows : (e : Env) → first_answer (whole l p t).out ≡ Some e → FirstShown l p t e.value) where
   abbrev table : List ℕ
   table = l.table
 
@@ -74,13 +74,13 @@ module _ (l : Language) (k : Alike l.table l.classes) (p q : Pattern) (t : Term)
     abbrev Enough : Type 0
     Enough = count_of l p t ≤ n
 
-    pub data Ended : Applied → List ℕ → Type 0 where
-      ended_spent : n < count_of l p t → Ended (Spent n) before
-      ended_none : count_of l p t ≤ n → Unsatisfied l p t → Ended (None (count_of l p t)) before
+    pub data Ended : Result Applied Refusal → List ℕ → Type 0 where
+      ended_spent : n < count_of l p t → Ended (Ok (Spent n)) before
+      ended_none : count_of l p t ≤ n → Unsatisfied l p t → Ended (Ok (Applied.None (count_of l p t))) before
       ended_bound : count_of l p t ≤ n → (u : Term) → Replaced l p q t u → TermAccepted l u → size table u ≤ room
-          → Ended (Bound (count_of l p t) (size table u)) (term_bytes table u (drop (size table u) before))
-      ended_full : count_of l p t ≤ n → (u : Term) → Replaced l p q t u → TermAccepted l u → room < size table u → Ended (Refused Full) before
-      ended_outgrown : count_of l p t ≤ n → (u : Term) → Replaced l p q t u → (TermAccepted l u → ⊥) → Ended (Refused Outgrown) before
+          → Ended (Ok (Bound (count_of l p t) (size table u))) (term_bytes table u (drop (size table u) before))
+      ended_full : count_of l p t ≤ n → (u : Term) → Replaced l p q t u → TermAccepted l u → room < size table u → Ended (Err Full) before
+      ended_outgrown : count_of l p t ≤ n → (u : Term) → Replaced l p q t u → (TermAccepted l u → ⊥) → Ended (Err Outgrown) before
 
     ended_by : (r : Replacement) → Came l k p q t of n r → Ended (unless_full room (measured table r)) (written table r (unless_full room (measured table r)) before)
     ended_by (spent m) (came_spent h) = ended_spent h
@@ -94,13 +94,13 @@ module _ (l : Language) (k : Alike l.table l.classes) (p q : Pattern) (t : Term)
         x = instance_replaced l k p t of q rule template firm e.value (shows e f)
 
         fill : within_limits table u ≡ true → (b : Bool) → ltb room (size table u) ≡ b
-            → Ended (cond b (Refused Full) (Bound (count_of l p t) (size table u))) (written table (result u (count_of l p t)) (cond b (Refused Full) (Bound (count_of l p t) (size table u))) before)
+            → Ended (cond b (Err Full) (Ok (Bound (count_of l p t) (size table u)))) (written table (result u (count_of l p t)) (cond b (Err Full) (Ok (Bound (count_of l p t) (size table u)))) before)
         fill w true e = ended_full h u x ((within_exactly u x).0 w) (ltb-true room (size table u) e)
         fill w false e = ended_bound h u x ((within_exactly u x).0 w) (ltb-false room (size table u) e)
 
         go : (b : Bool) → within_limits table u ≡ b
-            → Ended (unless_full room (cond b (Bound (count_of l p t) (size table u)) (Refused Outgrown)))
-            (written table (result u (count_of l p t)) (unless_full room (cond b (Bound (count_of l p t) (size table u)) (Refused Outgrown))) before)
+            → Ended (unless_full room (cond b (Ok (Bound (count_of l p t) (size table u))) (Err Outgrown)))
+            (written table (result u (count_of l p t)) (unless_full room (cond b (Ok (Bound (count_of l p t) (size table u))) (Err Outgrown))) before)
         go true w = fill w (ltb room (size table u)) refl
         go false w = ended_outgrown h u x (λ a. true≢false (sym ((within_exactly u x).1 a) ∙ w))
 
@@ -113,77 +113,77 @@ module _ (l : Language) (k : Alike l.table l.classes) (p q : Pattern) (t : Term)
     same_accepted : (u w : Term) → Replaced l p q t u → Replaced l p q t w → TermAccepted l u → TermAccepted l w
     same_accepted u w x y h = subst (TermAccepted l) (one u w x y) h
 
-    pub spent_to : (a : Applied) (after : List ℕ) → Ended a after → applied_number a ≡ 11 → n < count_of l p t
+    pub spent_to : (a : Result Applied Refusal) (after : List ℕ) → Ended a after → applied_number a ≡ 11 → n < count_of l p t
     spent_to a after (ended_spent h) e = h
     spent_to a after (ended_none h f) e = absurd (omega arith)
     spent_to a after (ended_bound h u x k' r) e = absurd (omega arith)
     spent_to a after (ended_full h u x k' r) e = absurd (omega arith)
     spent_to a after (ended_outgrown h u x k') e = absurd (omega arith)
 
-    pub spent_from : (a : Applied) (after : List ℕ) → Ended a after → n < count_of l p t → applied_number a ≡ 11
+    pub spent_from : (a : Result Applied Refusal) (after : List ℕ) → Ended a after → n < count_of l p t → applied_number a ≡ 11
     spent_from a after (ended_spent h) e = refl
     spent_from a after (ended_none h f) e = absurd (omega arith)
     spent_from a after (ended_bound h u x k' r) e = absurd (omega arith)
     spent_from a after (ended_full h u x k' r) e = absurd (omega arith)
     spent_from a after (ended_outgrown h u x k') e = absurd (omega arith)
 
-    pub spent_count : (a : Applied) (after : List ℕ) → Ended a after → applied_number a ≡ 11 → applied_count a ≡ n
+    pub spent_count : (a : Result Applied Refusal) (after : List ℕ) → Ended a after → applied_number a ≡ 11 → applied_count a ≡ n
     spent_count a after (ended_spent h) e = refl
     spent_count a after (ended_none h f) e = absurd (omega arith)
     spent_count a after (ended_bound h u x k' r) e = absurd (omega arith)
     spent_count a after (ended_full h u x k' r) e = absurd (omega arith)
     spent_count a after (ended_outgrown h u x k') e = absurd (omega arith)
 
-    pub none_to : (a : Applied) (after : List ℕ) → Ended a after → applied_number a ≡ 10 → Enough × Unsatisfied l p t
+    pub none_to : (a : Result Applied Refusal) (after : List ℕ) → Ended a after → applied_number a ≡ 10 → Enough × Unsatisfied l p t
     none_to a after (ended_spent h) e = absurd (omega arith)
     none_to a after (ended_none h f) e = (h, f)
     none_to a after (ended_bound h u x k' r) e = absurd (omega arith)
     none_to a after (ended_full h u x k' r) e = absurd (omega arith)
     none_to a after (ended_outgrown h u x k') e = absurd (omega arith)
 
-    pub none_from : (a : Applied) (after : List ℕ) → Ended a after → Enough × Unsatisfied l p t → applied_number a ≡ 10
+    pub none_from : (a : Result Applied Refusal) (after : List ℕ) → Ended a after → Enough × Unsatisfied l p t → applied_number a ≡ 10
     none_from a after (ended_spent h) e = absurd (omega (arith, e.0))
     none_from a after (ended_none h f) e = refl
     none_from a after (ended_bound h u x k' r) e = absurd (e.1 x.answer x.shown.first.satisfies)
     none_from a after (ended_full h u x k' r) e = absurd (e.1 x.answer x.shown.first.satisfies)
     none_from a after (ended_outgrown h u x k') e = absurd (e.1 x.answer x.shown.first.satisfies)
 
-    pub bound_to : (a : Applied) (after : List ℕ) → Ended a after → applied_number a ≡ 0 → Enough × ((u : Term) × Replaced l p q t u × Fitting l room u)
+    pub bound_to : (a : Result Applied Refusal) (after : List ℕ) → Ended a after → applied_number a ≡ 0 → Enough × ((u : Term) × Replaced l p q t u × Fitting l room u)
     bound_to a after (ended_spent h) e = absurd (omega arith)
     bound_to a after (ended_none h f) e = absurd (omega arith)
     bound_to a after (ended_bound h u x k' r) e = (h, (u, x, (k', omega (arith, term_size table u))))
     bound_to a after (ended_full h u x k' r) e = absurd (omega arith)
     bound_to a after (ended_outgrown h u x k') e = absurd (omega arith)
 
-    pub bound_from : (a : Applied) (after : List ℕ) → Ended a after → Enough × ((u : Term) × Replaced l p q t u × Fitting l room u) → applied_number a ≡ 0
+    pub bound_from : (a : Result Applied Refusal) (after : List ℕ) → Ended a after → Enough × ((u : Term) × Replaced l p q t u × Fitting l room u) → applied_number a ≡ 0
     bound_from a after (ended_spent h) e = absurd (omega (arith, e.0))
     bound_from a after (ended_none h f) e = absurd (f e.1.1.answer e.1.1.shown.first.satisfies)
     bound_from a after (ended_bound h u x k' r) e = refl
     bound_from a after (ended_full h u x k' r) e = absurd (omega (arith, e.1.2.1, same_size e.1.0 u e.1.1 x))
     bound_from a after (ended_outgrown h u x k') e = absurd (k' (same_accepted e.1.0 u e.1.1 x e.1.2.0))
 
-    pub outgrown_to : (a : Applied) (after : List ℕ) → Ended a after → applied_number a ≡ number_of Outgrown → Enough × ((u : Term) × Replaced l p q t u × (TermAccepted l u → ⊥))
+    pub outgrown_to : (a : Result Applied Refusal) (after : List ℕ) → Ended a after → applied_number a ≡ number_of Outgrown → Enough × ((u : Term) × Replaced l p q t u × (TermAccepted l u → ⊥))
     outgrown_to a after (ended_spent h) e = absurd (omega arith)
     outgrown_to a after (ended_none h f) e = absurd (omega arith)
     outgrown_to a after (ended_bound h u x k' r) e = absurd (omega arith)
     outgrown_to a after (ended_full h u x k' r) e = absurd (omega arith)
     outgrown_to a after (ended_outgrown h u x k') e = (h, (u, x, k'))
 
-    pub outgrown_from : (a : Applied) (after : List ℕ) → Ended a after → Enough × ((u : Term) × Replaced l p q t u × (TermAccepted l u → ⊥)) → applied_number a ≡ number_of Outgrown
+    pub outgrown_from : (a : Result Applied Refusal) (after : List ℕ) → Ended a after → Enough × ((u : Term) × Replaced l p q t u × (TermAccepted l u → ⊥)) → applied_number a ≡ number_of Outgrown
     outgrown_from a after (ended_spent h) e = absurd (omega (arith, e.0))
     outgrown_from a after (ended_none h f) e = absurd (f e.1.1.answer e.1.1.shown.first.satisfies)
     outgrown_from a after (ended_bound h u x k' r) e = absurd (e.1.2 (same_accepted u e.1.0 x e.1.1 k'))
     outgrown_from a after (ended_full h u x k' r) e = absurd (e.1.2 (same_accepted u e.1.0 x e.1.1 k'))
     outgrown_from a after (ended_outgrown h u x k') e = refl
 
-    pub full_to : (a : Applied) (after : List ℕ) → Ended a after → applied_number a ≡ number_of Full → Enough × ((u : Term) × Replaced l p q t u × TermAccepted l u × (room < length (term_bytes table u [])))
+    pub full_to : (a : Result Applied Refusal) (after : List ℕ) → Ended a after → applied_number a ≡ number_of Full → Enough × ((u : Term) × Replaced l p q t u × TermAccepted l u × (room < length (term_bytes table u [])))
     full_to a after (ended_spent h) e = absurd (omega arith)
     full_to a after (ended_none h f) e = absurd (omega arith)
     full_to a after (ended_bound h u x k' r) e = absurd (omega arith)
     full_to a after (ended_full h u x k' r) e = (h, (u, x, k', omega (arith, term_size table u)))
     full_to a after (ended_outgrown h u x k') e = absurd (omega arith)
 
-    pub full_from : (a : Applied) (after : List ℕ) → Ended a after → Enough × ((u : Term) × Replaced l p q t u × TermAccepted l u × (room < length (term_bytes table u []))) → applied_number a ≡ number_of Full
+    pub full_from : (a : Result Applied Refusal) (after : List ℕ) → Ended a after → Enough × ((u : Term) × Replaced l p q t u × TermAccepted l u × (room < length (term_bytes table u []))) → applied_number a ≡ number_of Full
     full_from a after (ended_spent h) e = absurd (omega (arith, e.0))
     full_from a after (ended_none h f) e = absurd (f e.1.1.answer e.1.1.shown.first.satisfies)
     full_from a after (ended_bound h u x k' r) e = absurd (omega (arith, e.1.3, same_size e.1.0 u e.1.1 x))
@@ -194,21 +194,21 @@ module _ (l : Language) (k : Alike l.table l.classes) (p q : Pattern) (t : Term)
     neither_word m f g (inl e) = f e
     neither_word m f g (inr e) = g e
 
-    pub shows_count : (a : Applied) (after : List ℕ) → Ended a after → (applied_number a ≡ 10) ⊎ (applied_number a ≡ 0) → applied_count a ≡ count_of l p t
+    pub shows_count : (a : Result Applied Refusal) (after : List ℕ) → Ended a after → (applied_number a ≡ 10) ⊎ (applied_number a ≡ 0) → applied_count a ≡ count_of l p t
     shows_count a after (ended_spent h) e = absurd (neither_word 11 (λ z. omega arith) (λ z. omega arith) e)
     shows_count a after (ended_none h f) e = refl
     shows_count a after (ended_bound h u x k' r) e = refl
     shows_count a after (ended_full h u x k' r) e = absurd (neither_word (number_of Full) (λ z. omega arith) (λ z. omega arith) e)
     shows_count a after (ended_outgrown h u x k') e = absurd (neither_word (number_of Outgrown) (λ z. omega arith) (λ z. omega arith) e)
 
-    pub shows_length : (a : Applied) (after : List ℕ) → Ended a after → (w : Term) → applied_number a ≡ 0 → Replaced l p q t w → applied_length a ≡ length (term_bytes table w [])
+    pub shows_length : (a : Result Applied Refusal) (after : List ℕ) → Ended a after → (w : Term) → applied_number a ≡ 0 → Replaced l p q t w → applied_length a ≡ length (term_bytes table w [])
     shows_length a after (ended_spent h) w e y = absurd (omega arith)
     shows_length a after (ended_none h f) w e y = absurd (omega arith)
     shows_length a after (ended_bound h u x k' r) w e y = sym (same_size w u y x)
     shows_length a after (ended_full h u x k' r) w e y = absurd (omega arith)
     shows_length a after (ended_outgrown h u x k') w e y = absurd (omega arith)
 
-    pub writes : (a : Applied) (after : List ℕ) → Ended a after → (w : Term) → applied_number a ≡ 0 → Replaced l p q t w → after ≡ term_bytes table w (drop (length (term_bytes table w [])) before)
+    pub writes : (a : Result Applied Refusal) (after : List ℕ) → Ended a after → (w : Term) → applied_number a ≡ 0 → Replaced l p q t w → after ≡ term_bytes table w (drop (length (term_bytes table w [])) before)
     writes a after (ended_spent h) w e y = absurd (omega arith)
     writes a after (ended_none h f) w e y = absurd (omega arith)
     writes a after (ended_bound h u x k' r) w e y = ap (λ (v : Term). term_bytes table v (drop (size table v) before)) (one u w x y)
@@ -216,42 +216,42 @@ module _ (l : Language) (k : Alike l.table l.classes) (p q : Pattern) (t : Term)
     writes a after (ended_full h u x k' r) w e y = absurd (omega arith)
     writes a after (ended_outgrown h u x k') w e y = absurd (omega arith)
 
-    pub refused_to : (a : Applied) (after : List ℕ) → Ended a after → (r : Refusal) × (applied_number a ≡ number_of r) → Enough × ((u : Term) × Replaced l p q t u × (Fitting l room u → ⊥))
+    pub refused_to : (a : Result Applied Refusal) (after : List ℕ) → Ended a after → (r : Refusal) × (applied_number a ≡ number_of r) → Enough × ((u : Term) × Replaced l p q t u × (Fitting l room u → ⊥))
     refused_to a after (ended_spent h) e = absurd (word_or_refusal 11 refl e.0 e.1)
     refused_to a after (ended_none h f) e = absurd (word_or_refusal 10 refl e.0 e.1)
     refused_to a after (ended_bound h u x k' r) e = absurd (word_or_refusal 0 refl e.0 e.1)
     refused_to a after (ended_full h u x k' r) e = (h, (u, x, λ g. omega (arith, g.1, term_size table u)))
     refused_to a after (ended_outgrown h u x k') e = (h, (u, x, λ g. k' g.0))
 
-    pub refused_from : (a : Applied) (after : List ℕ) → Ended a after → Enough × ((u : Term) × Replaced l p q t u × (Fitting l room u → ⊥)) → (r : Refusal) × (applied_number a ≡ number_of r)
+    pub refused_from : (a : Result Applied Refusal) (after : List ℕ) → Ended a after → Enough × ((u : Term) × Replaced l p q t u × (Fitting l room u → ⊥)) → (r : Refusal) × (applied_number a ≡ number_of r)
     refused_from a after (ended_spent h) e = absurd (omega (arith, e.0))
     refused_from a after (ended_none h f) e = absurd (f e.1.1.answer e.1.1.shown.first.satisfies)
     refused_from a after (ended_bound h u x k' r) e = absurd (e.1.2 (same_accepted u e.1.0 x e.1.1 k', omega (arith, same_size e.1.0 u e.1.1 x)))
     refused_from a after (ended_full h u x k' r) e = (Full, refl)
     refused_from a after (ended_outgrown h u x k') e = (Outgrown, refl)
 
-    pub no_count : (a : Applied) (after : List ℕ) → Ended a after → (r : Refusal) → applied_number a ≡ number_of r → applied_count a ≡ 0
+    pub no_count : (a : Result Applied Refusal) (after : List ℕ) → Ended a after → (r : Refusal) → applied_number a ≡ number_of r → applied_count a ≡ 0
     no_count a after (ended_spent h) s e = absurd (word_or_refusal 11 refl s e)
     no_count a after (ended_none h f) s e = absurd (word_or_refusal 10 refl s e)
     no_count a after (ended_bound h u x k' r) s e = absurd (word_or_refusal 0 refl s e)
     no_count a after (ended_full h u x k' r) s e = refl
     no_count a after (ended_outgrown h u x k') s e = refl
 
-    pub untouched : (a : Applied) (after : List ℕ) → Ended a after → (applied_number a ≡ 0 → ⊥) → after ≡ before
+    pub untouched : (a : Result Applied Refusal) (after : List ℕ) → Ended a after → (applied_number a ≡ 0 → ⊥) → after ≡ before
     untouched a after (ended_spent h) e = refl
     untouched a after (ended_none h f) e = refl
     untouched a after (ended_bound h u x k' r) e = absurd (e refl)
     untouched a after (ended_full h u x k' r) e = refl
     untouched a after (ended_outgrown h u x k') e = refl
 
-    pub no_length : (a : Applied) (after : List ℕ) → Ended a after → (applied_number a ≡ 0 → ⊥) → applied_length a ≡ 0
+    pub no_length : (a : Result Applied Refusal) (after : List ℕ) → Ended a after → (applied_number a ≡ 0 → ⊥) → applied_length a ≡ 0
     no_length a after (ended_spent h) e = refl
     no_length a after (ended_none h f) e = refl
     no_length a after (ended_bound h u x k' r) e = absurd (e refl)
     no_length a after (ended_full h u x k' r) e = refl
     no_length a after (ended_outgrown h u x k') e = refl
 
-    pub past_stays : (a : Applied) (after : List ℕ) → Ended a after → drop (applied_length a) after ≡ drop (applied_length a) before
+    pub past_stays : (a : Result Applied Refusal) (after : List ℕ) → Ended a after → drop (applied_length a) after ≡ drop (applied_length a) before
     past_stays a after (ended_spent h) = refl
     past_stays a after (ended_none h f) = refl
     past_stays a after (ended_bound h u x k' r) = ap (drop (size table u)) (encode_append table (term_tree u) [] (drop (size table u) before))

@@ -4,7 +4,6 @@ use native.Mathlib.Omega.{arith}
 use mathlib.Core.Path.{◌≡◌, refl, sym, ap, ap₂, subst, ◌∙◌}
 use mathlib.Core.List.{List, [], ◌∷◌}
 use mathlib.Core.Bool.{Bool, true, false, cond, false≢true}
-use mathlib.Core.Option.{Option, none, some}
 use lib.Dec.{eqb}
 use lib.ListN.{get_or, take, drop}
 use Rattle.answers.specs.Answers.{answer_number}
@@ -43,6 +42,7 @@ use Rattle.replace.specs.Loose.{loose}
 use Rattle.replace.specs.Splice.{spliced_in}
 use Rattle.replace.proofs.Splices.{spliced_of, stays_spliced}
 use Rattle.replace.proofs.Instances.{Assigns, instance_only, instance_holds, result_over, same_up_to, satisfies_assigns}
+use Rattle.std.specs.Prelude.{Option, Some, None}
 
 -- terms that are the same up to class and have the same bytes are equal
 
@@ -85,18 +85,18 @@ module _ (l : Language) (k : Alike l.table l.classes) (p : Pattern) (t : Term) (
       let a = (parts_shown l k p t of).free_placed x f.first.satisfies v m in
       let b = (parts_shown l k p t of).free_placed y g.first.satisfies v m in
       let c = one_first l p t x y f.first g.first in
-      let z : place l.table p t zero y v none ≡ some a.0 = sym (place_one l k x y c v p t zero none none refl) ∙ a.2 in
+      let z : place l.table p t zero y v None ≡ Some a.0 = sym (place_one l k x y c v p t zero None None refl) ∙ a.2 in
       let s : same_terms l.classes a.1 b.1 ≡ true = one (x v) (y v) a.1 b.1 a.3 b.3 (c v) in
       let n : sizes l.table a.1 ≡ sizes l.table b.1 = same_sizes l.table l.classes k a.1 b.1 s in
       let e : terms_bytes l.table a.1 [] ≡ terms_bytes l.table b.1 [] =
       sym (f.first_place v a.0 a.1 m a.2 a.3) ∙ ap (λ (i : ℕ). take i (drop a.0 (term_bytes l.table t []))) n
       ∙ g.first_place v a.0 b.1 m z b.3 in
-      a.3 ∙ ap some (equal_all l.table l.classes a.1 b.1 [] [] s e).0 ∙ sym b.3
+      a.3 ∙ ap Some (equal_all l.table l.classes a.1 b.1 [] [] s e).0 ∙ sym b.3
     where
-      one : (o r : Option Terms) (w u : Terms) → o ≡ some w → r ≡ some u → OneAt l o r → same_terms l.classes w u ≡ true
-      one none r w u e i h = absurd (none_is e)
-      one (some w') none w u e i h = absurd (none_is i)
-      one (some w') (some u') w u e i h =
+      one : (o r : Option Terms) (w u : Terms) → o ≡ Some w → r ≡ Some u → OneAt l o r → same_terms l.classes w u ≡ true
+      one None r w u e i h = absurd (none_is e)
+      one (Some w') None w u e i h = absurd (none_is i)
+      one (Some w') (Some u') w u e i h =
           subst (λ (y : Terms). same_terms l.classes y u ≡ true) (some_is e) (subst (λ (y : Terms). same_terms l.classes w' y ≡ true) (some_is i) h)
 
   module _ (q : Pattern) (rule : PatternAccepted l p) (template : PatternAccepted l q) (firm : loose (free p) q ≡ false) where
@@ -137,11 +137,11 @@ module _ (l : Language) (k : Alike l.table l.classes) (p : Pattern) (t : Term) (
 
 -- what the search finds first is a first answer that is shown
 module _ (l : Language) (rule bytes : List ℕ) (k : Alike l.table l.classes) (p : Pattern) (t : Term) (i : MatchInput l rule bytes p t) where
-  found_bound : (o : Answers) (n : ℕ) (e : Env) → first_answer o ≡ some e → answer_number (told (matching_of l.table o n)) ≡ 0
+  found_bound : (o : Answers) (n : ℕ) (e : Env) → first_answer o ≡ Some e → answer_number (told (matching_of l.table o n)) ≡ 0
   found_bound (found f m o) n e h = refl
   found_bound failed n e h = absurd (none_is h)
 
-  pub first_is_shown : (e : Env) → first_answer (whole l p t).out ≡ some e → FirstShown l p t e.value
+  pub first_is_shown : (e : Env) → first_answer (whole l p t).out ≡ Some e → FirstShown l p t e.value
   first_is_shown e h =
       let n : count_of l p t ≤ count_of l p t = omega arith in
       let b : answer_number (told (answer l p t (count_of l p t))) ≡ 0 =

@@ -3,7 +3,6 @@ use Prim.Native.Nat.{ℕ, suc}
 use mathlib.Core.Path.{◌≡◌, refl, sym, ap, ap₂, subst, ◌∙◌}
 use mathlib.Core.List.{List}
 use mathlib.Core.Bool.{Bool, true, false, not, cond, true≢false}
-use mathlib.Core.Option.{Option, none, some}
 use borrow.Author.Tests.{not-false}
 use Rattle.term.specs.Class.{class_of}
 use Rattle.term.specs.Pattern.{Pattern, Children, name, symbol, complement, end, plain, run, pattern_tree, child_trees}
@@ -14,7 +13,6 @@ use Rattle.term.specs.Tree.{branch, more}
 use Rattle.term.specs.declared.Code.TheVariants.{Symbol}
 use Rattle.term.specs.declared.Edition.{Edition}
 use Rattle.term.specs.declared.Edition.TheVariants.{One, Two}
-use Rattle.term.specs.declared.Stand.TheVariants.{InList, Elsewhere}
 use Rattle.term.proofs.Splicing.{one_spliced}
 use Rattle.term.proofs.Trees.{term_back}
 use Rattle.splice.specs.Splicing as converter
@@ -32,15 +30,16 @@ use Rattle.replace.specs.Instance.{term_assigned, instance, instances}
 use Rattle.replace.specs.Loose.{loose, loose_all}
 use Rattle.replace.specs.Splice.{spliced_by, listed_by, listed_in, placed, placed_all, spliced_instance, spliced_instances}
 use Rattle.replace.proofs.Instances.{neither, over_join}
+use Rattle.std.specs.Prelude.{Some, None, Option}
 
 -- edition 1: nothing is a list in a list
 
 abbrev unlisted : ℕ → Option ℕ
-unlisted s = none
+unlisted s = None
 
-nothing_direct : (around : Option ℕ) → same_list around none ≡ false
-nothing_direct none = refl
-nothing_direct (some c) = refl
+nothing_direct : (around : Option ℕ) → same_list around None ≡ false
+nothing_direct None = refl
+nothing_direct (Some c) = refl
 
 placed_whole : (around : Option ℕ) (t : Term) (ts : Terms) → placed unlisted around t ts ≡ t :: ts
 placed_whole around (node s us) ts = ap (λ (b : Bool). cond b (us ⧺ ts) (node s us :: ts)) (nothing_direct around)
@@ -52,7 +51,7 @@ placed_all_whole around (t :: ts) rest = placed_whole around t (placed_all unlis
 mutual
   first_edition : (q : Pattern) (a : Assignment) → spliced_instance unlisted q a ≡ instance q a
   first_edition (name v) a = refl
-  first_edition (symbol s qs) a = ap (node s) (first_edition_all none qs a)
+  first_edition (symbol s qs) a = ap (node s) (first_edition_all None qs a)
   first_edition (complement q) a = refl
 
   first_edition_all : (around : Option ℕ) (qs : Children) (a : Assignment) → spliced_instances unlisted around qs a ≡ instances qs a
@@ -65,7 +64,7 @@ mutual
 mutual
   unlisted_apart : (around : Option ℕ) (q : Pattern) → Apart unlisted around q
   unlisted_apart around (name v) = tt
-  unlisted_apart around (symbol s qs) = (nothing_direct around, unlisted_all_apart none qs)
+  unlisted_apart around (symbol s qs) = (nothing_direct around, unlisted_all_apart None qs)
   unlisted_apart around (complement q) = tt
 
   unlisted_all_apart : (around : Option ℕ) (qs : Children) → AllApart unlisted around qs
@@ -94,9 +93,9 @@ module _ (listed : ℕ → Option ℕ) where
   join_run around (t :: ts) rest w = ap₂ (placed listed around) w.0 (join_run around ts rest w.1)
 
   term_settled : (o : Option Terms) → Settled (assigned o) → joined (term_assigned o) ≡ term_assigned o
-  term_settled none h = refl
-  term_settled (some nil) h = refl
-  term_settled (some (t :: ts)) h = h.0
+  term_settled None h = refl
+  term_settled (Some nil) h = refl
+  term_settled (Some (t :: ts)) h = h.0
 
   module _ (vs : List ℕ) (a : Assignment) (settled : (v : ℕ) → among v vs ≡ true → Settled (assigned (a v))) where
     mutual
@@ -115,12 +114,12 @@ module _ (listed : ℕ → Option ℕ) where
           ap (placed_all listed around (assigned (a v))) (instances_joined around qs m.1)
           ∙ sym (join_run around (assigned (a v)) (instances qs a) (settled v (not-false (among v vs) m.0)))
 
-  placed_root : (t : Term) (ts : Terms) → placed listed none t ts ≡ t :: ts
+  placed_root : (t : Term) (ts : Terms) → placed listed None t ts ≡ t :: ts
   placed_root (node s us) ts = refl
 
-  count_root : (ts : Terms) → count (joined_all none ts) ≡ count ts
+  count_root : (ts : Terms) → count (joined_all None ts) ≡ count ts
   count_root nil = refl
-  count_root (t :: ts) = ap count (placed_root (joined t) (joined_all none ts)) ∙ ap suc (count_root ts)
+  count_root (t :: ts) = ap count (placed_root (joined t) (joined_all None ts)) ∙ ap suc (count_root ts)
 
 -- the same by the converter's splicing of trees
 
@@ -159,7 +158,7 @@ module _ (classes table : List ℕ) where
 
   -- what is spliced already stays
   spliced_stays : (t : Term) → Spliced (language Two table classes) (term_tree t) → splice_term classes table t ≡ t
-  spliced_stays t h = ap term_of (spliced_same classes table none (term_tree t) (two_spliced classes table (term_tree t) h)) ∙ term_back t
+  spliced_stays t h = ap term_of (spliced_same classes table None (term_tree t) (two_spliced classes table (term_tree t) h)) ∙ term_back t
 
   all_settled : (ts : Terms) → TermsOf (language Two table classes) ts → Settled listed ts
   all_settled nil h = tt
@@ -187,9 +186,9 @@ module _ (classes table : List ℕ) where
       go true = over_join table us ts h.2 g
       go false = (h, g)
 
-  not_listed : (s : ℕ) → is_list table s ≡ false → listed s ≡ none
+  not_listed : (s : ℕ) → is_list table s ≡ false → listed s ≡ None
   unfolding list_class
-  not_listed s e = ap (λ (b : Bool). class_in classes (cond b (InList s) Elsewhere)) e
+  not_listed s e = ap (λ (b : Bool). class_in classes (cond b (Some s) None)) e
 
   mutual
     over_joined : (t : Term) → Over table t → Over table (joined listed t)
@@ -208,7 +207,7 @@ module _ (classes table : List ℕ) where
 module _ (table classes : List ℕ) where
   -- a result over the table is of the language once it is spliced
   pub spliced_of : (edition : Edition) (u : Term) → Over table u → TermOf (language edition table classes) (spliced_by edition classes table u)
-  spliced_of One u h = (h, one_spliced table classes Elsewhere (term_tree u))
+  spliced_of One u h = (h, one_spliced table classes None (term_tree u))
   spliced_of Two u h = (
     subst (Over table) (sym (spliced_joined classes table u)) (over_joined classes table u h),
     subst (Spliced (language Two table classes)) (sym (spliced_tree classes table u))
@@ -221,42 +220,42 @@ module _ (table classes : List ℕ) where
   stays_spliced Two u h = spliced_stays classes table u h.1
 
   -- a template of the language
-  pub template_apart : (edition : Edition) (q : Pattern) → Spliced (language edition table classes) (pattern_tree q) → Apart (listed_by edition classes table) none q
-  template_apart One q h = unlisted_apart none q
-  template_apart Two q h = spliced_apart classes table none q (two_spliced classes table (pattern_tree q) h)
+  pub template_apart : (edition : Edition) (q : Pattern) → Spliced (language edition table classes) (pattern_tree q) → Apart (listed_by edition classes table) None q
+  template_apart One q h = unlisted_apart None q
+  template_apart Two q h = spliced_apart classes table None q (two_spliced classes table (pattern_tree q) h)
 
   -- "the result is spliced": what is filled at the root
   pub filled_spliced : (edition : Edition) (vs : List ℕ) (a : Assignment) → ((v : ℕ) → among v vs ≡ true → TermsOf (language edition table classes) (assigned (a v)))
-      → (q : Pattern) → loose vs q ≡ false → spliced_instances (listed_by edition classes table) none (plain q end) a ≡ single (spliced_by edition classes table (instance q a))
-  filled_spliced One vs a spoken q n = first_edition_all none (plain q end) a
+      → (q : Pattern) → loose vs q ≡ false → spliced_instances (listed_by edition classes table) None (plain q end) a ≡ single (spliced_by edition classes table (instance q a))
+  filled_spliced One vs a spoken q n = first_edition_all None (plain q end) a
   filled_spliced Two vs a spoken q n =
       placed_root (listed classes table) (spliced_instance (listed classes table) q a) nil
       ∙ ap single (instance_joined (listed classes table) vs a (λ v m. all_settled classes table (assigned (a v)) (spoken v m)) q n ∙ sym (spliced_joined classes table (instance q a)))
 
   -- what a symbol is as a list
 
-  pub lists_by : (edition : Edition) (s c : ℕ) → listed_by edition classes table s ≡ some c → is_list table s ≡ true
+  pub lists_by : (edition : Edition) (s c : ℕ) → listed_by edition classes table s ≡ Some c → is_list table s ≡ true
   unfolding list_class
   lists_by One s c e = absurd (none_is e)
   lists_by Two s c e = go (is_list table s) e
     where
-      go : (b : Bool) → class_in classes (cond b (InList s) Elsewhere) ≡ some c → b ≡ true
+      go : (b : Bool) → class_in classes (cond b (Some s) None) ≡ Some c → b ≡ true
       go true e = refl
       go false e = absurd (none_is e)
 
   module _ (edition : Edition) (s : ℕ) where
-    pub listed_never : edition ≡ One → none ≡ listed_by edition classes table s
+    pub listed_never : edition ≡ One → None ≡ listed_by edition classes table s
     listed_never e = ap (λ (x : Edition). listed_by x classes table s) (sym e)
 
-    pub listed_not : edition ≡ Two → is_list table s ≡ false → none ≡ listed_by edition classes table s
+    pub listed_not : edition ≡ Two → is_list table s ≡ false → None ≡ listed_by edition classes table s
     listed_not e f = sym (ap (λ (x : Edition). listed_by x classes table s) e ∙ not_listed classes table s f)
 
-    pub listed_list : edition ≡ Two → is_list table s ≡ true → (c : ℕ) → c ≡ class_of classes s → some c ≡ listed_by edition classes table s
+    pub listed_list : edition ≡ Two → is_list table s ≡ true → (c : ℕ) → c ≡ class_of classes s → Some c ≡ listed_by edition classes table s
     unfolding list_class
     listed_list e f c g =
-        ap some g ∙ sym (ap (λ (x : Edition). listed_by x classes table s) e ∙ ap (λ (b : Bool). class_in classes (cond b (InList s) Elsewhere)) f)
+        ap Some g ∙ sym (ap (λ (x : Edition). listed_by x classes table s) e ∙ ap (λ (b : Bool). class_in classes (cond b (Some s) None)) f)
 
-pub lists : (l : Language) (s c : ℕ) → listed_in l s ≡ some c → is_list l.table s ≡ true
+pub lists : (l : Language) (s c : ℕ) → listed_in l s ≡ Some c → is_list l.table s ≡ true
 lists l = lists_by l.table l.classes l.edition
 
 -- what is placed stands in front of the rest

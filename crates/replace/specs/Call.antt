@@ -1,10 +1,9 @@
 -- The calls: what looking and applying answer, and what applying leaves in the output, on all inputs.
-use Rattle.std.specs.Prelude.{ℕ, ◌≡◌, List, [], not, cond, length, drop, ltb}
-use Rattle.std.proofs.Math.Option.{Option, none, some}
+use Rattle.std.specs.Prelude.{ℕ, ◌≡◌, List, [], not, cond, length, drop, ltb, Result, Ok, Err, Option, Some, None}
 use Rattle.answers.specs.declared.Refusal.{Refusal}
 use Rattle.answers.specs.declared.Refusal.TheVariants.{Full, Loose, Outgrown}
 use Rattle.answers.specs.declared.Applied.{Applied}
-use Rattle.answers.specs.declared.Applied.TheVariants.{Bound, None, Spent, Refused}
+use Rattle.answers.specs.declared.Applied.TheVariants.{Bound, Spent}
 use Rattle.term.specs.Term.{Term, size, term_bytes}
 use Rattle.term.specs.Pattern.{Pattern, pattern_bytes}
 use Rattle.term.specs.Limits.{PatternAccepted}
@@ -55,8 +54,8 @@ pub data Replacement : Type 0 where
   spent : ℕ → Replacement
 
 abbrev pub replaced_by : Language → Pattern → Option Env → ℕ → Replacement
-replaced_by l q (some e) n = result (spliced_in l (instance q e.value)) n
-replaced_by l q none n = nothing n
+replaced_by l q (Some e) n = result (spliced_in l (instance q e.value)) n
+replaced_by l q None n = nothing n
 
 unfoldable pub replacement : Language → Pattern → Pattern → Term → ℕ → Replacement
 replacement l p q t allowance =
@@ -64,33 +63,33 @@ replacement l p q t allowance =
 
 -- Looking: 19 "after the match". Applying: "12 after 19", where the output has so much room
 
-abbrev pub measured : List ℕ → Replacement → Applied
-measured table (result u n) = cond (within_limits table u) (Bound n (size table u)) (Refused Outgrown)
-measured table (nothing n) = None n
-measured table (spent n) = Spent n
+abbrev pub measured : List ℕ → Replacement → Result Applied Refusal
+measured table (result u n) = cond (within_limits table u) (Ok (Bound n (size table u))) (Err Outgrown)
+measured table (nothing n) = Ok (Applied.None n)
+measured table (spent n) = Ok (Spent n)
 
-abbrev pub unless_full : ℕ → Applied → Applied
-unless_full room (Bound n length) = cond (ltb room length) (Refused Full) (Bound n length)
-unless_full room (None n) = None n
-unless_full room (Spent n) = Spent n
-unless_full room (Refused r) = Refused r
+abbrev pub unless_full : ℕ → Result Applied Refusal → Result Applied Refusal
+unless_full room (Ok (Bound n length)) = cond (ltb room length) (Err Full) (Ok (Bound n length))
+unless_full room (Ok (Applied.None n)) = Ok (Applied.None n)
+unless_full room (Ok (Spent n)) = Ok (Spent n)
+unless_full room (Err r) = Err r
 
 -- The output, which held `before`: the result's bytes in front of what lies past them. "Without a written result the output is untouched."
 
-abbrev pub written : List ℕ → Replacement → Applied → List ℕ → List ℕ
-written table (result u n) (Bound m length) before = term_bytes table u (drop length before)
-written table (result u n) (None m) before = before
-written table (result u n) (Spent m) before = before
-written table (result u n) (Refused r) before = before
+abbrev pub written : List ℕ → Replacement → Result Applied Refusal → List ℕ → List ℕ
+written table (result u n) (Ok (Bound m length)) before = term_bytes table u (drop length before)
+written table (result u n) (Ok (Applied.None m)) before = before
+written table (result u n) (Ok (Spent m)) before = before
+written table (result u n) (Err r) before = before
 written table (nothing n) a before = before
 written table (spent n) a before = before
 
 -- of trees
 
-abbrev pub look_on : Language → Pattern → Pattern → Term → ℕ → Applied
+abbrev pub look_on : Language → Pattern → Pattern → Term → ℕ → Result Applied Refusal
 look_on l p q t allowance = measured l.table (replacement l p q t allowance)
 
-abbrev pub apply_on : Language → Pattern → Pattern → Term → ℕ → ℕ → Applied
+abbrev pub apply_on : Language → Pattern → Pattern → Term → ℕ → ℕ → Result Applied Refusal
 apply_on l p q t allowance room = unless_full room (look_on l p q t allowance)
 
 abbrev pub output_on : Language → Pattern → Pattern → Term → ℕ → List ℕ → List ℕ
@@ -98,14 +97,14 @@ output_on l p q t allowance before = written l.table (replacement l p q t allowa
 
 -- and of bytes, on all inputs; of a refusal no entry is meant
 
-abbrev pub refusal : Refusal → ℕ → Applied
-refusal r i = Refused r
+abbrev pub refusal : Refusal → ℕ → Result Applied Refusal
+refusal r i = Err r
 
-unfoldable pub look_of : Brought → List ℕ → List ℕ → List ℕ → ℕ → Applied
+unfoldable pub look_of : Brought → List ℕ → List ℕ → List ℕ → ℕ → Result Applied Refusal
 look_of brought rule template bytes allowance =
     answer_by refusal (λ x. look_on (language_of brought) x.0.0 x.0.1 x.1 allowance) (checked brought rule template bytes)
 
-unfoldable pub apply_of : Brought → List ℕ → List ℕ → List ℕ → ℕ → ℕ → Applied
+unfoldable pub apply_of : Brought → List ℕ → List ℕ → List ℕ → ℕ → ℕ → Result Applied Refusal
 apply_of brought rule template bytes allowance room =
     answer_by refusal (λ x. apply_on (language_of brought) x.0.0 x.0.1 x.1 allowance room) (checked brought rule template bytes)
 

@@ -1,6 +1,5 @@
 -- What is demanded of applying: of the answer `a`, and of the final output `after` where the output held `before`.
-use Rattle.std.specs.Prelude.{ℕ, zero, ◌<◌, ◌≤◌, ◌≡◌, ◌⊎◌, ◌↔◌, List, [], true, length, take, drop}
-use Rattle.std.proofs.Math.Option.{none, some}
+use Rattle.std.specs.Prelude.{ℕ, zero, ◌<◌, ◌≤◌, ◌≡◌, ◌⊎◌, ◌↔◌, List, [], true, length, take, drop, Result, Some, None}
 use Rattle.answers.specs.Refusal.{number_of}
 use Rattle.answers.specs.Answers.{applied_number, applied_count, applied_length}
 use Rattle.answers.specs.declared.Refusal.{Refusal}
@@ -25,7 +24,7 @@ module _ (l : Language) where
   -- a first answer, with the parts that stand in the record: of assignments that count as one "the one shown is that of the first place"
   pub record FirstShown (p : Pattern) (t : Term) (x : Assignment) : Type 0 where
     pub first : First l p t x
-    pub first_place : (v at : ℕ) (w : Terms) → among v (free p) ≡ true → place l.table p t zero x v none ≡ some at → x v ≡ some w
+    pub first_place : (v at : ℕ) (w : Terms) → among v (free p) ≡ true → place l.table p t zero x v None ≡ Some at → x v ≡ Some w
         → take (sizes l.table w) (drop at (term_bytes l.table t [])) ≡ terms_bytes l.table w []
 
   -- the language in which only equal terms are the same
@@ -50,7 +49,7 @@ module _ (brought : Brought) where
   l = language_of brought
 
   -- For the trees of accepted input
-  pub record Answered (rule template bytes before : List ℕ) (allowance : ℕ) (p q : Pattern) (t : Term) (a : Applied) (after : List ℕ) : Type 0 where
+  pub record Answered (rule template bytes before : List ℕ) (allowance : ℕ) (p q : Pattern) (t : Term) (a : Result Applied Refusal) (after : List ℕ) : Type 0 where
     -- spent and none as for the match
     pub spent_exactly : (applied_number a ≡ 11) ↔ (allowance < count_of l p t)
     pub spent_shows : applied_number a ≡ 11 → applied_count a ≡ allowance
@@ -75,7 +74,7 @@ module _ (brought : Brought) where
     pub own_template : (u : Term) → q ≡ p → Replaced l p q t u → l ⊢ u ≈ t
 
 -- All that is demanded
-pub record Demanded (brought : Brought) (rule template bytes before : List ℕ) (allowance : ℕ) (a : Applied) (after : List ℕ) : Type 0 where
+pub record Demanded (brought : Brought) (rule template bytes before : List ℕ) (allowance : ℕ) (a : Result Applied Refusal) (after : List ℕ) : Type 0 where
   -- refused exactly when the class list or the input is not accepted, or the result is no accepted record for which there is room; a refusal shows
   -- count 0
   pub refused_exactly : ((r : Refusal) × (applied_number a ≡ number_of r))
@@ -97,7 +96,7 @@ pub record Demanded (brought : Brought) (rule template bytes before : List ℕ) 
       → Answered brought rule template bytes before allowance p q t a after
 
 -- and of a look
-pub record LookDemanded (brought : Brought) (rule template bytes : List ℕ) (allowance : ℕ) (a : Applied) : Type 0 where
+pub record LookDemanded (brought : Brought) (rule template bytes : List ℕ) (allowance : ℕ) (a : Result Applied Refusal) : Type 0 where
   -- "For every input the look's answer equals that of applying with an output of 4,096 bytes."
   pub as_applied : a ≡ apply_of brought rule template bytes allowance longest_record
   pub demanded : (before : List ℕ) → length before ≡ longest_record
@@ -113,11 +112,11 @@ LookDemandedOf brought rule template bytes allowance = LookDemanded brought rule
 
 -- Without the checks, of a table, a class list or none, a rule, a template and a record that passed them in an edition
 
-abbrev pub Looks : Language → List ℕ → List ℕ → List ℕ → ℕ → Applied → Type 0
+abbrev pub Looks : Language → List ℕ → List ℕ → List ℕ → ℕ → Result Applied Refusal → Type 0
 Looks l rule template bytes allowance a =
     Classed l → (p q : Pattern) (t : Term) → Input l rule template bytes p q t → a ≡ look_on l p q t allowance
 
-pub record Applies (l : Language) (rule template bytes : List ℕ) (allowance : ℕ) (before : List ℕ) (a : Applied) (after : List ℕ) : Type 0 where
+pub record Applies (l : Language) (rule template bytes : List ℕ) (allowance : ℕ) (before : List ℕ) (a : Result Applied Refusal) (after : List ℕ) : Type 0 where
   pub answer : Classed l → (p q : Pattern) (t : Term) → Input l rule template bytes p q t
       → (a ≡ apply_on l p q t allowance (length before)) × (after ≡ output_on l p q t allowance before)
   -- what is written is an accepted record of the language

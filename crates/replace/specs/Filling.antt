@@ -1,6 +1,5 @@
 -- What the private functions answer: of the trees of a template, and of the parts that are put into it.
-use Rattle.std.specs.Prelude.{ℕ, ◌+◌, ◌*◌, ◌%◌, ◌≤◌, ◌<◌, ◌≡◌, List, [], Bool, true, false, cond, ◌&&◌, length, get_or, take, set, eqb, leb}
-use Rattle.std.proofs.Math.Option.{Option, none, some}
+use Rattle.std.specs.Prelude.{ℕ, ◌+◌, ◌*◌, ◌≤◌, ◌<◌, ◌≡◌, List, [], Bool, true, false, cond, ◌&&◌, length, get_or, take, eqb, leb, Result, Option, Some, None}
 use Rattle.std.proofs.lemmas.List.Edits.{sets}
 use Rattle.answers.specs.Answers.{applied_number}
 use Rattle.answers.specs.Part.{part}
@@ -26,11 +25,9 @@ use Rattle.replace.specs.Call.{Input, result, measured, look_on}
 use Rattle.replace.specs.Growth.{nest_all, narrow_all}
 use Rattle.replace.specs.Instance.{instance}
 use Rattle.replace.specs.Splice.{spliced_in, listed_in, placed_all, spliced_instances}
-use Rattle.replace.specs.declared.Around.{Around}
-use Rattle.replace.specs.declared.Around.TheVariants.{List as ListOf, Nothing}
 use Rattle.replace.specs.Loose.{loose, loose_all}
 use Rattle.replace.specs.declared.Filled.{Filled}
-use Rattle.replace.specs.declared.Filled.TheVariants.{To, Unfit}
+use Rattle.answers.specs.declared.Refusal.{Refusal}
 
 -- a part has at most so many bytes, and so has what one byte of a template is filled to; no place in the output lies farther
 abbrev pub longest_part : ℕ
@@ -40,7 +37,7 @@ abbrev pub part_room : ℕ
 part_room = longest_part + 1
 
 abbrev pub farthest : ℕ
-farthest = 1 + part_room * longest_pattern
+farthest = part_room * longest_pattern
 
 -- the bytes of a node's own
 abbrev pub own_bytes : List ℕ → ℕ → ℕ
@@ -102,11 +99,6 @@ pub record Lent (table bytes answer : List ℕ) (vs : List ℕ) (a : Assignment)
   pub terms : (v : ℕ) → v < variables → among v vs ≡ true → terms_in answer v ≡ count (assigned (a v))
   pub one : (v : ℕ) → v < names → among v vs ≡ true → (t : Term) × (assigned (a v) ≡ single t)
 
--- what stands around: a list of a class, or no list
-abbrev pub around_of : Around → Option ℕ
-around_of (ListOf c) = some c
-around_of Nothing = none
-
 -- no list of a template stands directly inside a list of its class
 abbrev mutual
   pub Apart : (ℕ → Option ℕ) → Option ℕ → Pattern → Type 0
@@ -128,19 +120,15 @@ pub record Filling (table : List ℕ) (listed : ℕ → Option ℕ) (around : Op
   pub apart : AllApart listed around qs
   pub lent : Lent table bytes answer vs a
 
--- a list's number of children: whether a byte can tell it, and where it is stored
-abbrev pub narrow_number : Bool → ℕ → Bool
-narrow_number list n = cond list (leb n 255) true
-
-abbrev pub stored_number : Bool → List ℕ → ℕ → ℕ → List ℕ
-stored_number list out at n = cond list (set out at (n % 256)) out
-
 abbrev pub fit_all : List ℕ → ℕ → Terms → Bool
 fit_all table left ts = nest_all left ts && narrow_all table ts
 
-abbrev pub filled_to : Bool → ℕ → ℕ → Filled
-filled_to true n k = To n k
-filled_to false n k = Unfit
+abbrev pub filled : ℕ → ℕ → Filled
+filled n k = record { length = n; elements = k }
+
+abbrev pub filled_to : Bool → ℕ → ℕ → Option Filled
+filled_to true n k = Some (filled n k)
+filled_to false n k = None
 
 -- a part's terms that nest at most so deep, stored
 unfoldable pub TellsStored : List ℕ → List ℕ → ℕ → ℕ → List ℕ → Bool → List ℕ → Type 0
@@ -156,20 +144,20 @@ placed_terms true t = get_or t 1 0
 placed_terms false t = 1
 
 -- terms, each as a child of what stands around, put in the output
-abbrev pub PutIn : List ℕ → ℕ → ℕ → List ℕ → Filled → List ℕ → Terms → Type 0
+abbrev pub PutIn : List ℕ → ℕ → ℕ → List ℕ → Option Filled → List ℕ → Terms → Type 0
 PutIn table left at out r after ts =
     (r ≡ filled_to (nest_all left ts) (sizes table ts) (count ts)) × (nest_all left ts ≡ true → after ≡ sets out at (terms_bytes table ts []))
 
-unfoldable pub PutsEach : List ℕ → (ℕ → Option ℕ) → Option ℕ → List ℕ → ℕ → ℕ → List ℕ → Filled → List ℕ → Type 0
+unfoldable pub PutsEach : List ℕ → (ℕ → Option ℕ) → Option ℕ → List ℕ → ℕ → ℕ → List ℕ → Option Filled → List ℕ → Type 0
 PutsEach table listed around s left at out r after = (ts : Terms) → Run table s ts
     → PutIn table left at out r after (placed_all listed around ts nil)
 
 -- the same of the part that an answer has for a variable
-unfoldable pub Puts : List ℕ → (ℕ → Option ℕ) → Option ℕ → List ℕ → List ℕ → ℕ → ℕ → ℕ → List ℕ → Filled → List ℕ → Type 0
+unfoldable pub Puts : List ℕ → (ℕ → Option ℕ) → Option ℕ → List ℕ → List ℕ → ℕ → ℕ → ℕ → List ℕ → Option Filled → List ℕ → Type 0
 Puts table listed around bytes answer v left at out r after = (ts : Terms) → Run table (part_in bytes answer v) ts → terms_in answer v ≡ count ts
     → PutIn table left at out r after (placed_all listed around ts nil)
 
-unfoldable pub Fills : List ℕ → (ℕ → Option ℕ) → Option ℕ → List ℕ → List ℕ → List ℕ → ℕ → Filled → Type 0
+unfoldable pub Fills : List ℕ → (ℕ → Option ℕ) → Option ℕ → List ℕ → List ℕ → List ℕ → ℕ → Option Filled → Type 0
 Fills table listed around s bytes answer left r = (qs : Children) (vs : List ℕ) (a : Assignment) → Filling table listed around s bytes answer qs vs a
     → r ≡ filled_to (fit_all table left (spliced_instances listed around qs a)) (sizes table (spliced_instances listed around qs a)) (count (spliced_instances listed around qs a))
 
@@ -178,7 +166,7 @@ Stores table listed around s bytes answer left at out after = (qs : Children) (v
     → fit_all table left (spliced_instances listed around qs a) ≡ true → after ≡ sets out at (terms_bytes table (spliced_instances listed around qs a) [])
 
 -- the same of one tree, which ends where its bytes do
-unfoldable pub FillsTree : List ℕ → (ℕ → Option ℕ) → Option ℕ → List ℕ → List ℕ → List ℕ → ℕ → Filled → Type 0
+unfoldable pub FillsTree : List ℕ → (ℕ → Option ℕ) → Option ℕ → List ℕ → List ℕ → List ℕ → ℕ → Option Filled → Type 0
 FillsTree table listed around t bytes answer left r = length t ≡ extent_of table t → Fills table listed around t bytes answer left r
 
 unfoldable pub StoresTree : List ℕ → (ℕ → Option ℕ) → Option ℕ → List ℕ → List ℕ → List ℕ → ℕ → ℕ → List ℕ → List ℕ → Type 0
@@ -186,7 +174,7 @@ StoresTree table listed around t bytes answer left at out after =
     length t ≡ extent_of table t → Stores table listed around t bytes answer left at out after
 
 -- and of one that has a symbol, whatever stands around it
-unfoldable pub FillsNode : List ℕ → (ℕ → Option ℕ) → List ℕ → List ℕ → List ℕ → ℕ → Filled → Type 0
+unfoldable pub FillsNode : List ℕ → (ℕ → Option ℕ) → List ℕ → List ℕ → List ℕ → ℕ → Option Filled → Type 0
 FillsNode table listed t bytes answer left r =
     (around : Option ℕ) (x : ℕ) → decode_of (get_or t 0 0) ≡ Symbol x → FillsTree table listed around t bytes answer left r
 
@@ -195,25 +183,25 @@ StoresNode table listed t bytes answer left at out after =
     (around : Option ℕ) (x : ℕ) → decode_of (get_or t 0 0) ≡ Symbol x → StoresTree table listed around t bytes answer left at out after
 
 -- no more than so many bytes and elements
-abbrev pub FilledWithin : ℕ → Filled → Type 0
-FilledWithin most (To n k) = (n ≤ most) × (k ≤ 256 * most)
-FilledWithin most Unfit = Unit {0}
+abbrev pub FilledWithin : ℕ → Option Filled → Type 0
+FilledWithin most (Some f) = (f.length ≤ most) × (f.elements ≤ 256 * most)
+FilledWithin most None = Unit {0}
 
 -- a template and the parts that are put into it, which are terms of the language
 pub record Whole (l : Language) (template bytes answer : List ℕ) (q : Pattern) (vs : List ℕ) (a : Assignment) : Type 0 where
-  pub filling : Filling l.table (listed_in l) none template bytes answer (plain q end) vs a
+  pub filling : Filling l.table (listed_in l) None template bytes answer (plain q end) vs a
   pub spoken : (v : ℕ) → among v vs ≡ true → TermsOf l (assigned (a v))
 
 -- the answer where the rule is bound, by a template's instance
-unfoldable pub Measures : Language → List ℕ → List ℕ → List ℕ → ℕ → Applied → Type 0
+unfoldable pub Measures : Language → List ℕ → List ℕ → List ℕ → ℕ → Result Applied Refusal → Type 0
 Measures l template bytes answer n r = (q : Pattern) (vs : List ℕ) (a : Assignment) → Whole l template bytes answer q vs a
     → r ≡ measured l.table (result (spliced_in l (instance q a)) n)
 
 -- a look at input that passed its checks; where it is bound, the answer buffer is ready for the template
-unfoldable pub LooksInto : Language → List ℕ → List ℕ → List ℕ → ℕ → Applied → List ℕ → Type 0
+unfoldable pub LooksInto : Language → List ℕ → List ℕ → List ℕ → ℕ → Result Applied Refusal → List ℕ → Type 0
 LooksInto l rule template bytes allowance r answer = Classed l → (p q : Pattern) (t : Term) → Input l rule template bytes p q t
     → (r ≡ look_on l p q t allowance)
-    × (applied_number r ≡ 0 → (e : Env) × (first_answer (whole l p t).out ≡ some e) × Whole l template bytes answer q (free p) e.value)
+    × (applied_number r ≡ 0 → (e : Env) × (first_answer (whole l p t).out ≡ Some e) × Whole l template bytes answer q (free p) e.value)
 
-abbrev pub ShortWhereBound : List ℕ → Applied → Type 0
+abbrev pub ShortWhereBound : List ℕ → Result Applied Refusal → Type 0
 ShortWhereBound template r = applied_number r ≡ 0 → length template ≤ longest_pattern

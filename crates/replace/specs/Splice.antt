@@ -1,7 +1,6 @@
 -- "In edition 2 the result is spliced before it is measured", by the converter's splicing (splice/specs/Splicing). What `fill` puts, spliced on the
 -- way, is linked to it by proofs/Splices.
-use Rattle.std.specs.Prelude.{ℕ, List, cond}
-use Rattle.std.proofs.Math.Option.{Option, none}
+use Rattle.std.specs.Prelude.{ℕ, List, cond, Option, None}
 use Rattle.term.specs.Pattern.{Pattern, Children, name, symbol, complement, end, plain, run}
 use Rattle.term.specs.Term.{Term, Terms, node, nil, ◌::◌, ◌⧺◌}
 use Rattle.term.specs.declared.Code.TheVariants.{Symbol}
@@ -23,7 +22,7 @@ spliced_in l t = spliced_by l.edition l.classes l.table t
 
 -- what a symbol is as a list: its class, or no list; in edition 1 no list counts as one
 abbrev pub listed_by : Edition → List ℕ → List ℕ → ℕ → Option ℕ
-listed_by One classes table s = none
+listed_by One classes table s = None
 listed_by Two classes table s = list_class classes table (Symbol s)
 
 abbrev pub listed_in : Language → ℕ → Option ℕ

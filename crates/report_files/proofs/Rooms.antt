@@ -1,18 +1,22 @@
 -- The rooms of the files, and the report on what lies in them.
+use Rattle.std.specs.Prelude.{Result, Ok, Err, Option, None, Some, IfOk, IfSome, is_some}
+use Rattle.std.specs.Option.{unwrap_or}
+use Rattle.std.specs.Result.{result_ok}
+use Rattle.std.proofs.lemmas.Option.{IfSome_then}
 use Prim.Native.Nat.{ℕ, ◌+◌, ◌-◌, ◌≤◌}
 use native.Mathlib.Nat.{add-sub_cancel_left}
 use native.Mathlib.Omega.{arith}
 use mathlib.Core.Path.{◌≡◌, sym, ap, ◌∙◌}
-use mathlib.Core.List.{List}
+use mathlib.Core.List.{List, []}
 use mathlib.Core.Bool.{Bool}
 use lib.ListN.{length, take, drop, length-append, length-take, length-drop}
 use borrow.Rule.Slice.PartMut.{mid_of, put_mid, mid_len, take_put, drop_put}
-use Rattle.report_lines.specs.Report.{report, report_room, front}
+use Rattle.report_lines.specs.Report.{report, report_on, report_room, front}
 use Rattle.report_lines.specs.declared.File.{File}
 use Rattle.report_lines.specs.declared.File.TheVariants.{Table, Rules, States}
 use Rattle.report_lines.proofs.Rooms.{report_room_holds}
 use Rattle.report_lines.proofs.Cuts.{cut_report}
-use Rattle.report_files.specs.Files.{room_of, room_start, files_room, bytes_of}
+use Rattle.report_files.specs.Files.{room_of, room_start, files_room, bytes_of, in_room}
 use Rattle.report_files.specs.Loading.{LoadOf, Loads, Reported}
 use Rattle.report_files.specs.declared.Loaded.{Loaded}
 
@@ -35,7 +39,7 @@ room_loaded l f before part start room e r wide held same =
     let past : room_start f + room_of f ≡ start + room = omega arith in
     let after = put_mid start (start + room - start) before part in
     record {
-      held = record { named = held.named; within = omega (arith, held.within) };
+      held = record { named = held.named; within = IfSome_then l.size held.within (λ n p. omega arith) };
       before_stays =
           ap (λ (k : ℕ). take k after) (sym e) ∙ take_put start (start + room - start) before part (omega arith)
           ∙ ap (λ (k : ℕ). take k before) e;
@@ -44,11 +48,16 @@ room_loaded l f before part start room e r wide held same =
           ∙ ap (λ (k : ℕ). drop k before) (sym past);
     }
 
+-- what is read is within the buffer, if it could be read
+pub ok_within : {E : Type 0} (r : Result ℕ E) (room : ℕ) → IfOk r (λ n. n ≤ room) → IfSome (result_ok r) (λ n. n ≤ room)
+ok_within (Ok n) room h = h
+ok_within (Err e) room h = tt
+
 -- equal bytes have the same report
-pub on_bytes : (table_read rules_read states_read : Bool) (a b c x y z before after : List ℕ) (size : ℕ) → a ≡ x → b ≡ y → c ≡ z
-    → (size ≡ length (report table_read a rules_read b states_read c)) × (after ≡ front (report table_read a rules_read b states_read c) before)
-    → (size ≡ length (report table_read x rules_read y states_read z)) × (after ≡ front (report table_read x rules_read y states_read z) before)
-on_bytes table_read rules_read states_read a b c x y z before after size e f g p = rw (← e, ← f, ← g) p
+pub on_bytes : (a b c x y z : Option (List ℕ)) (before after : List ℕ) (size : ℕ) → a ≡ x → b ≡ y → c ≡ z
+    → (size ≡ length (report_on a b c)) × (after ≡ front (report_on a b c) before)
+    → (size ≡ length (report_on x y z)) × (after ≡ front (report_on x y z) before)
+on_bytes a b c x y z before after size e f g p = rw (← e, ← f, ← g) p
 
 take_short : (n : ℕ) (l : List ℕ) → length (take n l) ≤ n
 take_short n l = simp length-take (omega arith)
@@ -60,22 +69,26 @@ pub room_enough : (table_read : Bool) (table : List ℕ) (rules_read : Bool) (ru
 room_enough table_read table rules_read rules states_read states =
     cut_report table_read table rules_read rules states_read states (room_of Table) (room_of Rules) (room_of States) (omega arith) (omega arith) (omega arith)
 
+in_room_short : (f : File) (size : Option ℕ) (files : List ℕ) → IfSome size (λ n. n ≤ room_of f) → length (unwrap_or (in_room f size files) []) ≤ room_of f
+in_room_short f None files h = omega arith
+in_room_short f (Some n) files h = omega (arith, h, take_short n (drop (room_start f) files))
+
 -- the report on bytes in the rooms
-pub rooms_reported : (table_read rules_read states_read : Bool) (t r s : ℕ) (files before after : List ℕ) (size : ℕ)
-    → t ≤ room_of Table → r ≤ room_of Rules → s ≤ room_of States
-    → (size ≡ length (report table_read (bytes_of Table t files) rules_read (bytes_of Rules r files) states_read (bytes_of States s files)))
-    × (after ≡ front (report table_read (bytes_of Table t files) rules_read (bytes_of Rules r files) states_read (bytes_of States s files)) before)
+pub rooms_reported : (t r s : Option ℕ) (files before after : List ℕ) (size : ℕ)
+    → IfSome t (λ n. n ≤ room_of Table) → IfSome r (λ n. n ≤ room_of Rules) → IfSome s (λ n. n ≤ room_of States)
+    → (size ≡ length (report_on (in_room Table t files) (in_room Rules r files) (in_room States s files)))
+    × (after ≡ front (report_on (in_room Table t files) (in_room Rules r files) (in_room States s files)) before)
     → Reported size before after
-rooms_reported table_read rules_read states_read t r s files before after size a b c put = record {
-  table_read = table_read;
-  table = bytes_of Table t files;
-  rules_read = rules_read;
-  rules = bytes_of Rules r files;
-  states_read = states_read;
-  states = bytes_of States s files;
-  table_within = omega (arith, take_short t (drop (room_start Table) files));
-  rules_within = omega (arith, take_short r (drop (room_start Rules) files));
-  states_within = omega (arith, take_short s (drop (room_start States) files));
+rooms_reported t r s files before after size a b c put = record {
+  table_read = is_some (in_room Table t files);
+  table = unwrap_or (in_room Table t files) [];
+  rules_read = is_some (in_room Rules r files);
+  rules = unwrap_or (in_room Rules r files) [];
+  states_read = is_some (in_room States s files);
+  states = unwrap_or (in_room States s files) [];
+  table_within = in_room_short Table t files a;
+  rules_within = in_room_short Rules r files b;
+  states_within = in_room_short States s files c;
   sized = put.0;
   contents = put.1;
 }

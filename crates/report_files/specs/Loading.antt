@@ -1,15 +1,15 @@
 -- What is known of loading: which file, how many bytes at most, and what stays. What the bytes are no contract can say.
-use Rattle.std.specs.Prelude.{ℕ, ◌+◌, ◌≤◌, ◌≡◌, List, Bool, length, take, drop}
-use Rattle.report_lines.specs.Report.{report, front}
+use Rattle.std.specs.Prelude.{ℕ, ◌+◌, ◌≤◌, ◌≡◌, List, Bool, length, take, drop, IfSome}
+use Rattle.report_lines.specs.Report.{report, report_on, front}
 use Rattle.report_lines.specs.declared.File.{File}
 use Rattle.report_lines.specs.declared.File.TheVariants.{Table, Rules, States}
-use Rattle.report_files.specs.Files.{room_of, room_start, bytes_of}
+use Rattle.report_files.specs.Files.{room_of, room_start, in_room}
 use Rattle.report_files.specs.declared.Loaded.{Loaded}
 
--- it is this file, and at most so many bytes of it
+-- it is this file, and at most so many bytes of it, if it could be read
 pub record LoadOf (l : Loaded) (f : File) (room : ℕ) : Type 0 where
   pub named : l.file ≡ f
-  pub within : l.size ≤ room
+  pub within : IfSome l.size (λ n. n ≤ room)
 
 -- it is loaded into its own room, and the other rooms stay
 pub record Loads (l : Loaded) (f : File) (before after : List ℕ) : Type 0 where
@@ -20,7 +20,7 @@ pub record Loads (l : Loaded) (f : File) (before after : List ℕ) : Type 0 wher
 -- the report on three files that were loaded
 abbrev pub loaded_report : Loaded → Loaded → Loaded → List ℕ → List ℕ
 loaded_report t r s files =
-    report t.read (bytes_of Table t.size files) r.read (bytes_of Rules r.size files) s.read (bytes_of States s.size files)
+    report_on (in_room Table t.size files) (in_room Rules r.size files) (in_room States s.size files)
 
 -- a report on some files, of which at most as many bytes are read as there is room for
 pub record Reported (size : ℕ) (before after : List ℕ) : Type 0 where

@@ -2,9 +2,9 @@
 // contract can say.
 #![tactic(auto)]
 
-ghost use Rattle.std.specs.Prelude.{◌≡◌, ◌+◌, ◌≤◌, length, take};
+ghost use Rattle.std.specs.Prelude.{◌≡◌, ◌+◌, ◌≤◌, length, take, IfSome, option_copied};
 ghost use Rattle.report_lines.specs.Report.{front};
-ghost use Rattle.report_files.specs.Files.{room_of, room_start, name_of, bytes_of, files_room};
+ghost use Rattle.report_files.specs.Files.{room_of, room_start, name_of, in_room, files_room};
 ghost use Rattle.report_files.specs.Loading.{LoadOf, Loads, loaded_report, Reported};
 
 use report_lines::File;
@@ -20,12 +20,11 @@ const SHEET_ROOM: usize = sheet::LONGEST_SHEET + 1;
 // The room for all files.
 const FILES_ROOM: usize = TABLE_ROOM + SHEET_ROOM + SHEET_ROOM;
 
-// A file, whether it could be read, and how many bytes lie in its room.
-#[derive(Clone, Copy)]
+// A file, and how many bytes lie in its room; none where it could not be read.
+#[derive(Clone, Copy, Debug, PartialEq, Eq)]
 struct Loaded {
     file: File,
-    read: bool,
-    size: usize,
+    size: Option<usize>,
 }
 
 // The bytes that there is room for of each file.
@@ -34,8 +33,7 @@ fn room_of(file: File) -> usize
 {
     match file {
         File::Table => TABLE_ROOM,
-        File::Rules => SHEET_ROOM,
-        File::States => SHEET_ROOM,
+        File::Rules | File::States => SHEET_ROOM,
     }
 }
 
@@ -61,28 +59,13 @@ fn name_of<'a>(file: File, table: &'a [u8], rules: &'a [u8], states: &'a [u8]) -
     }
 }
 
-// A file that can't be read.
-fn unread(file: File) -> Loaded
-    ensures { LoadOf result file 0 }
-{
-    Loaded {
-        file: file,
-        read: false,
-        size: 0,
-    }
-}
-
 // Reads until the buffer is full or the file ends.
 fn read_all<R: Read>(file: File, reader: &mut R, buffer: &mut [u8]) -> Loaded
     ensures { LoadOf result file (length buffer.old) }
 {
-    match input::fill(reader, buffer) {
-        Ok(size) => Loaded {
-            file: file,
-            read: true,
-            size: size,
-        },
-        Err(_) => unread(file),
+    Loaded {
+        file,
+        size: input::fill(reader, buffer).ok(),
     }
 }
 
@@ -99,22 +82,22 @@ fn load<'a, R: Files>(
     ensures { Loads result file files.old files.new }
 {
     let Ok(mut reader) = input::open(rt, name_of(file, table, rules, states)) else {
-        return unread(file);
+        return Loaded { file, size: None };
     };
     let start = start_of(file);
     let end = start + room_of(file);
     read_all(file, &mut reader, &mut files[start..end])
 }
 
-// The first bytes in the room of a file.
-fn bytes_of(file: File, size: usize, files: &[u8]) -> &[u8]
-    requires size_bound { size ≤ room_of file }
+// The first bytes in the room of a file; none where it could not be read.
+fn bytes_of(file: File, size: Option<usize>, files: &[u8]) -> Option<&[u8]>
+    requires size_bound { IfSome size (λ n. n ≤ room_of file) }
     requires files_len { length files.now ≡ files_room }
-    ensures { result.now ≡ bytes_of file size files.now }
+    ensures { option_copied result ≡ in_room file size files.now }
 {
     let start = start_of(file);
-    let end = start + size;
-    &files[start..end]
+    let end = start + size?;
+    Some(&files[start..end])
 }
 
 // Puts the report on three files that were loaded, and answers its length.
@@ -133,11 +116,8 @@ fn put_loaded(
     ensures out_value { out.new ≡ front (loaded_report t r s files.now) out.old }
 {
     report_lines::put_report(
-        t.read,
         bytes_of(File::Table, t.size, files),
-        r.read,
         bytes_of(File::Rules, r.size, files),
-        s.read,
         bytes_of(File::States, s.size, files),
         out,
     )

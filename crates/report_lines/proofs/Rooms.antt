@@ -10,8 +10,6 @@ use lib.Dec.{ltb}
 use borrow.Author.Tests.{ltb-false, leb-true}
 use Rattle.answers.specs.Refusal.{number_of}
 use Rattle.answers.specs.declared.Refusal.{Refusal}
-use Rattle.answers.specs.declared.RuleAnswer.{RuleAnswer}
-use Rattle.byte_answers.specs.declared.Checked.TheVariants.{Accepted}
 use Rattle.term.specs.Term.{Term}
 use Rattle.term.specs.Pattern.{Pattern}
 use Rattle.reader.specs.Reading.{Parsed, refused, read, read_record}
@@ -37,13 +35,12 @@ use Rattle.report_lines.specs.Verdict.{verdict}
 use Rattle.report_lines.specs.Report.{allowance, state_line, lines_from, lines, report_by, report, most_states, line_room, report_room, front}
 use Rattle.report_lines.specs.declared.File.{File}
 use Rattle.report_lines.specs.declared.File.TheVariants.{Rules, States}
-use Rattle.report_lines.specs.declared.Verdict.{Verdict}
-use Rattle.report_lines.specs.declared.Verdict.TheVariants.{Lines}
+use Rattle.report_lines.specs.declared.FileFault.{FileFault}
 use Rattle.output.proofs.Decimals.{few_length, decimal_length}
 use Rattle.report_lines.proofs.Stores.{line_length}
 use Rattle.report_lines.proofs.Verdicts.{lines_accepted}
-use Rattle.sheet.specs.declared.Editions.TheVariants.{Any, Only}
-use mathlib.Core.Option.{none}
+use Rattle.std.specs.Prelude.{Result, Ok, Err, Some, None}
+use Rattle.answers.specs.Fault.{fault_at}
 
 -- a rule counts to the allowance at most
 
@@ -91,17 +88,17 @@ told_short k h (none_of n) s =
 told_short k h (spent_at i n) s =
     omega (arith, line_length (decimal k) (decimal i) spent_word (decimal n), few_length 3 20 k h, few_length 1 20 i (omega arith), few_length 6 20 n (omega arith))
 
-module _ (table rules : List ℕ) (m : ℕ) (p : check_rules table none rules ≡ Accepted m) where
+module _ (table rules : List ℕ) (m : ℕ) (p : check_rules table None rules ≡ Ok m) where
   rules_within : 0 + length (rules_of (language (edition_of rules) table []) (entries rules)) ≤ most_rules
   rules_within =
-      let c = contents_passed false Any table none rules m p in
+      let c = contents_passed false None table None rules m p in
       omega (arith, rules_few (language (edition_of rules) table []) (entries rules), entries_count rules m c.sheet, leb-true m most_rules c.not_many)
 
   line_short : (k : ℕ) → k < 10000 → (e : List ℕ) → length (state_line table rules k e) ≤ line_room
   unfolding state_line answer_of checks answer_line
-  line_short k h e = rw ((contents_passed false Any table none rules m p).tabled, p) (go (read_record (language (edition_of rules) table []) e))
+  line_short k h e = rw ((contents_passed false None table None rules m p).tabled, p) (go (read_record (language (edition_of rules) table []) e))
     where
-      go : (x : Parsed Term) → length (answer_line k (answer_by RuleAnswer.Refused
+      go : (x : Parsed Term) → length (answer_line k (answer_by (λ r i. Err (fault_at r i))
           (λ (y : List Pattern × Term). told (try_rules (language (edition_of rules) table []) y.0 y.1 allowance))
           (both (passed (rules_of (language (edition_of rules) table []) (entries rules))) (reading x)))) ≤ line_room
       go (refused r) = omega arith
@@ -121,7 +118,7 @@ follow_room : (s : List ℕ) (k i at : ℕ) → entries_follow s k i at ≡ true
 follow_room s zero i at h = omega (arith, follow_within s zero i at h)
 follow_room s (suc k) i at h = let a = follow_true s k i at h in omega (arith, follow_room s k (i + 1) (at + length_at s i) a.2, a.1)
 
-states_few : (s : List ℕ) (n : ℕ) → check_sheet s ≡ Accepted n → n ≤ most_states
+states_few : (s : List ℕ) (n : ℕ) → check_sheet s ≡ Ok n → n ≤ most_states
 states_few s n a = let d = accepted_directed s n a in omega (arith, d.short, follow_room s n 0 (2 + 4 * n) d.follow)
 
 pub refusal_short : (r : Refusal) (f : File) (i room : ℕ) → report_room ≤ room → length (refusal_line r f i) ≤ room
@@ -139,11 +136,11 @@ pub report_room_holds : (table_read : Bool) (table : List ℕ) (rules_read : Boo
 unfolding report lines header
 report_room_holds table_read table rules_read rules states_read states = go (verdict table_read table rules_read rules states_read states) refl
   where
-    go : (v : Verdict) → verdict table_read table rules_read rules states_read states ≡ v → length (report_by v table rules states) ≤ report_room
-    go (Verdict.Refused r f i) e = refusal_short r f i report_room (omega arith)
-    go (Lines n) e =
+    go : (v : Result ℕ FileFault) → verdict table_read table rules_read rules states_read states ≡ v → length (report_by v table rules states) ≤ report_room
+    go (Err f) e = refusal_short f.fault.refusal f.file f.fault.index report_room (omega arith)
+    go (Ok n) e =
         let a = lines_accepted table_read table rules_read rules states_read states n e in
-        let c = contents_passed true (Only (edition_of rules)) table none states n a.1 in
+        let c = contents_passed true (Some (edition_of rules)) table None states n a.1 in
         let counted = entries_count states n c.sheet in
         let few = states_few states n c.sheet in
         simp length-append (omega (arith, lines_short table rules a.0.0 a.0.1 0 (entries states) (omega arith)))

@@ -4,7 +4,6 @@ use native.Mathlib.Numerals.{add-one}
 use native.Mathlib.Omega.{arith}
 use mathlib.Core.Path.{◌≡◌, refl, sym, ap, ◌∙◌}
 use mathlib.Core.List.{List, [], ◌∷◌, ◌++◌}
-use mathlib.Core.Option.{none}
 use mathlib.Core.Bool.{true}
 use lib.ListN.{length, drop, length-append, drop_of_length-le}
 use lib.Seq.{sets, length-sets, drop-cons}
@@ -20,10 +19,11 @@ use Rattle.rules.specs.Call.{in_sheet, answer_of}
 use Rattle.report_lines.specs.Line.{header, answer_line}
 use Rattle.report_lines.specs.Verdict.{FilesAccepted}
 use Rattle.report_lines.specs.Report.{allowance, state_line, lines_from, lines, report, report_room}
-use Rattle.report_lines.specs.declared.Verdict.TheVariants.{Lines}
 use Rattle.report_lines.proofs.Verdicts.{report_by_holds}
 use Rattle.report_lines.proofs.States.{states_sheet, record_entry}
 use Rattle.report_lines.proofs.Rooms.{report_room_holds}
+use Rattle.std.specs.Prelude.{Result, Ok, None}
+use Rattle.answers.specs.declared.Fault.{Fault}
 
 -- the lines of the states from index k on
 abbrev pub lines_left : List ℕ → List ℕ → List ℕ → ℕ → List ℕ
@@ -47,7 +47,7 @@ module _ (table rules states : List ℕ) (n : ℕ) (v : FilesAccepted table rule
   state_counted k h = rw states_count (v, h)
 
   pub accepted_report : report true table true rules true states ≡ lines table rules states
-  accepted_report = sym (report_by_holds true table true rules true states (Lines n) v)
+  accepted_report = sym (report_by_holds true table true rules true states (Ok n) v)
 
   entries_left : (k : ℕ) → k < n → drop k (entries states) ≡ shown_entry states k ∷ drop (k + 1) (entries states)
   entries_left k h =
@@ -78,10 +78,10 @@ module _ (table rules states : List ℕ) (n : ℕ) (v : FilesAccepted table rule
     pub turn_same : length out ≡ length before
     turn_same = turn.same ∙ ap length header_stored.0 ∙ length-sets before 0 header
 
-    module _ (a : RuleAnswer) (h : state < n) (answers : a ≡ answer_of (in_sheet rules table none) rules (shown_entry states state) allowance answer_width) where
+    module _ (a : Result RuleAnswer Fault) (h : state < n) (answers : a ≡ answer_of (in_sheet rules table None) rules (shown_entry states state) allowance answer_width) where
       answer_next : lines_left table rules states state ≡ answer_line state a ++ lines_left table rules states (state + 1)
       unfolding state_line
-      answer_next = next_line state h ∙ ap (λ (b : RuleAnswer). answer_line state b ++ lines_left table rules states (state + 1)) (sym answers)
+      answer_next = next_line state h ∙ ap (λ (b : Result RuleAnswer Fault). answer_line state b ++ lines_left table rules states (state + 1)) (sym answers)
 
       pub turn_room : at + length (answer_line state a) ≤ length out
       turn_room =
@@ -106,7 +106,7 @@ module _ (table rules states : List ℕ) (n : ℕ) (v : FilesAccepted table rule
     pub turn_done : n ≤ state → (out ≡ sets before 0 (lines table rules states)) × (at ≡ length (lines table rules states))
     unfolding lines
     turn_done h =
-        let none = ap length (none_left state h) in
+        let rest = ap length (none_left state h) in
         let started = header_stored in (
           sym
               (sets_append before 0 header (lines_left table rules states 0) ∙ rw (← started.0, ← started.1)

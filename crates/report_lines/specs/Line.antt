@@ -1,5 +1,5 @@
 -- A line: four fields one blank apart, ended by byte 10.
-use Rattle.std.specs.Prelude.{ℕ, List, [], ◌∷◌, ◌++◌}
+use Rattle.std.specs.Prelude.{ℕ, List, [], ◌∷◌, ◌++◌, Result, Ok, Err}
 use Rattle.answers.specs.Refusal.{number_of}
 use Rattle.answers.specs.declared.Refusal.{Refusal}
 use Rattle.answers.specs.declared.RuleAnswer.{RuleAnswer}
@@ -8,6 +8,7 @@ use Rattle.output.specs.Decimal.{decimal}
 use Rattle.output.specs.Field.{field, refused_word}
 use Rattle.report_lines.specs.declared.File.{File}
 use Rattle.report_lines.specs.declared.File.TheVariants.{Rules, States}
+use Rattle.answers.specs.declared.Fault.{Fault}
 
 unfoldable pub line : List ℕ → List ℕ → List ℕ → List ℕ → List ℕ
 line a b c d = field a 32 ++ field b 32 ++ field c 32 ++ field d 10
@@ -35,11 +36,11 @@ dash = 45 ∷ []
 
 -- the line of the state of an index: state index, rule index (`-` for none), word, sum of counts. A refusal has no line: the states of an
 -- accepted sheet are not refused
-unfoldable pub answer_line : ℕ → RuleAnswer → List ℕ
-answer_line k (Bound i sum) = line (decimal k) (decimal i) bound_word (decimal sum)
-answer_line k (None sum) = line (decimal k) dash none_word (decimal sum)
-answer_line k (Spent i sum) = line (decimal k) (decimal i) spent_word (decimal sum)
-answer_line k (RuleAnswer.Refused r i) = []
+unfoldable pub answer_line : ℕ → Result RuleAnswer Fault → List ℕ
+answer_line k (Ok (Bound i sum)) = line (decimal k) (decimal i) bound_word (decimal sum)
+answer_line k (Ok (None sum)) = line (decimal k) dash none_word (decimal sum)
+answer_line k (Ok (Spent i sum)) = line (decimal k) (decimal i) spent_word (decimal sum)
+answer_line k (Err f) = []
 
 -- `table`, `rules`, `states`
 abbrev pub file_word : File → List ℕ

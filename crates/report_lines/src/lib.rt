@@ -1,23 +1,22 @@
 // The text of the report: which refusal or which lines, and the bytes of each.
 #![tactic(auto)]
 
-ghost use Rattle.std.specs.Prelude.{◌≡◌, ◌+◌, ◌≤◌, ◌<◌, length};
-ghost use Rattle.std.proofs.Math.Option.{none};
+ghost use Rattle.std.specs.Prelude.{◌≡◌, ◌+◌, ◌≤◌, ◌<◌, [], length, is_some, option_copied, None};
+ghost use Rattle.std.specs.Option.{unwrap_or};
 ghost use Rattle.std.proofs.lemmas.List.Edits.{sets};
 ghost use Rattle.output.specs.Decimal.{decimal};
-ghost use Rattle.output.specs.Field.{refused_word};
 ghost use Rattle.sheet.specs.Check.{entry_count};
 ghost use Rattle.sheet.specs.Entry.{shown_entry};
 ghost use Rattle.sheet.specs.Contents.{check_contents};
 ghost use Rattle.call.specs.Call.{answer_width};
 ghost use Rattle.rules.specs.Call.{in_sheet, answer_of};
-ghost use Rattle.report_lines.specs.Line.{line, none_word, dash, answer_line, refusal_line};
-ghost use Rattle.report_lines.specs.Verdict.{readable, verdict, FilesAccepted};
-ghost use Rattle.report_lines.specs.Report.{allowance, lines, report, report_room, front};
+ghost use Rattle.report_lines.specs.Line.{line, none_word, dash, answer_line, file_word, refusal_line};
+ghost use Rattle.report_lines.specs.Verdict.{readable, verdict_on, FilesAccepted};
+ghost use Rattle.report_lines.specs.Report.{allowance, lines, report_on, report_room, front};
 
-use answers::{Refusal, RuleAnswer};
-use byte_answers::Checked;
-use sheet::Editions;
+use answers::{Fault, Refusal, RuleAnswer, Shown};
+use reader::Brought;
+use term::Edition;
 
 // What the rules are allowed on each state.
 const ALLOWANCE: u32 = 100000;
@@ -31,57 +30,78 @@ const LINE_ROOM: usize = 22;
 pub const REPORT_ROOM: usize = MOST_LINES * LINE_ROOM;
 
 // The files of a report.
-#[derive(Clone, Copy)]
+#[derive(Clone, Copy, Debug, PartialEq, Eq)]
 pub enum File {
     Table,
     Rules,
     States,
 }
 
-// What the files' checks decide: the number of states, each of which has a line, or a refusal with its file and the index of the entry,
-// 0 where no entry is at fault.
-#[derive(Clone, Copy)]
-enum Verdict {
-    Lines(usize),
-    Refused(Refusal, File, usize),
+// A refusal, and the file that is at fault.
+#[derive(Clone, Copy, Debug, PartialEq, Eq)]
+struct FileFault {
+    file: File,
+    fault: Fault,
+}
+
+// The bytes of a file, of which there are none where it could not be read.
+fn bytes_in(file: Option<&[u8]>) -> &[u8]
+    ensures { result.now ≡ unwrap_or (option_copied file.entry) [] }
+{
+    match file {
+        Some(bytes) => bytes,
+        None => b"",
+    }
 }
 
 // Checks a sheet of records or of patterns: whether its file could be read, then what it holds.
-fn check_file(records: bool, read: bool, editions: Editions, table: &[u8], sheet: &[u8]) -> Checked
-    ensures { result ≡ readable read (check_contents records editions table.now none sheet.now) }
+fn check_file(
+    records: bool,
+    only: Option<Edition>,
+    table: &[u8],
+    sheet: Option<&[u8]>,
+) -> Result<usize, Fault>
+    ensures { result ≡ readable (is_some (option_copied sheet.entry)) (check_contents records only table.now None (unwrap_or (option_copied sheet.entry) [])) }
 {
-    if !read {
-        return Checked::Refused(Refusal::Unread, 0);
+    match sheet {
+        Some(bytes) => sheet::check_contents(records, only, &Brought::simply(table), bytes),
+        None => Err(Fault::at(Refusal::Unread, 0)),
     }
-    sheet::check_contents(records, editions, table, false, &table[..0], sheet)
 }
 
-// Checks the files in order, each with whether it could be read.
+// Checks the files in order: the number of states, each of which has a line, or the first refusal.
 fn check_files(
-    table_read: bool,
-    table: &[u8],
-    rules_read: bool,
-    rules: &[u8],
-    states_read: bool,
-    states: &[u8],
-) -> Verdict
-    ensures { result ≡ verdict table_read table.now rules_read rules.now states_read states.now }
+    table: Option<&[u8]>,
+    rules: Option<&[u8]>,
+    states: Option<&[u8]>,
+) -> Result<usize, FileFault>
+    ensures { result ≡ verdict_on (option_copied table.entry) (option_copied rules.entry) (option_copied states.entry) }
 {
-    if !table_read {
-        return Verdict::Refused(Refusal::Unread, File::Table, 0);
-    }
+    let Some(table) = table else {
+        return Err(FileFault {
+            file: File::Table,
+            fault: Fault::at(Refusal::Unread, 0),
+        });
+    };
     if !term::check_table(table) {
-        return Verdict::Refused(Refusal::Table, File::Table, 0);
+        return Err(FileFault {
+            file: File::Table,
+            fault: Fault::at(Refusal::Table, 0),
+        });
     }
-    let patterns = check_file(false, rules_read, Editions::Any, table, rules);
-    if let Checked::Refused(r, i) = patterns {
-        return Verdict::Refused(r, File::Rules, i);
+    if let Err(fault) = check_file(false, None, table, rules) {
+        return Err(FileFault {
+            file: File::Rules,
+            fault,
+        });
     }
-    let editions = Editions::Only(sheet::edition_of(rules));
-    let records = check_file(true, states_read, editions, table, states);
-    match records {
-        Checked::Accepted(n) => Verdict::Lines(n),
-        Checked::Refused(r, i) => Verdict::Refused(r, File::States, i),
+    let only = Some(sheet::edition_of(bytes_in(rules)));
+    match check_file(true, only, table, states) {
+        Ok(n) => Ok(n),
+        Err(fault) => Err(FileFault {
+            file: File::States,
+            fault,
+        }),
     }
 }
 
@@ -110,29 +130,31 @@ fn put_none(out: &mut [u8], at: usize, state: usize, sum: u64) -> usize
 }
 
 // Puts the line of a state by what the rules answer on it, and answers where it ends.
-fn put_answer(out: &mut [u8], at: usize, state: usize, answer: RuleAnswer) -> usize
+fn put_answer(out: &mut [u8], at: usize, state: usize, answer: Result<RuleAnswer, Fault>) -> usize
     requires { at + length (answer_line state answer) ≤ length out.old }
     ensures out_value { out.new ≡ sets out.old at (answer_line state answer) }
     ensures value { result ≡ at + length (answer_line state answer) }
 {
+    let Ok(answer) = answer else {
+        return at;
+    };
     match answer {
         RuleAnswer::Bound(rule, sum) => put_ruled(out, at, state, rule, b"bound", sum),
         RuleAnswer::None(sum) => put_none(out, at, state, sum),
         RuleAnswer::Spent(rule, sum) => put_ruled(out, at, state, rule, b"spent", sum),
-        RuleAnswer::Refused(_, _) => at,
     }
 }
 
 // What the rules answer on the state of an index, in files that were checked before.
-fn match_state(table: &[u8], rules: &[u8], states: &[u8], state: usize) -> RuleAnswer
+fn match_state(table: &[u8], rules: &[u8], states: &[u8], state: usize) -> Result<RuleAnswer, Fault>
     requires files_accepted { FilesAccepted table.now rules.now states.now (entry_count states.now) }
     requires state_bound { state < entry_count states.now }
-    ensures { result ≡ answer_of (in_sheet rules.now table.now none) rules.now (shown_entry states.now state) allowance answer_width }
+    ensures { result ≡ answer_of (in_sheet rules.now table.now None) rules.now (shown_entry states.now state) allowance answer_width }
 {
     let mut answer = [0u16; matcher::ANSWER_WIDTH];
     rules::match_rules_checked(
         table,
-        &table[..0],
+        b"",
         rules,
         sheet::part_at(states, state),
         ALLOWANCE,
@@ -148,57 +170,48 @@ fn put_lines(table: &[u8], rules: &[u8], states: &[u8], n: usize, out: &mut [u8]
     ensures value { result ≡ length (lines table.now rules.now states.now) }
 {
     let mut at = output::put_field(out, 0, b"state rule word count", b'\n');
-    let mut state: usize = 0;
-    while state < n {
+    for state in 0..n {
         let answer = match_state(table, rules, states, state);
         at = put_answer(out, at, state, answer);
-        state = state + 1;
     }
     at
 }
 
-// Puts the line of a refusal by its number and its file's word, and answers its length.
-fn put_refused(out: &mut [u8], number: u8, word: &[u8], index: usize) -> usize
-    requires { length (line refused_word (decimal number) word.now (decimal index)) ≤ length out.old }
-    ensures out_value { out.new ≡ sets out.old 0 (line refused_word (decimal number) word.now (decimal index)) }
-    ensures value { result ≡ length (line refused_word (decimal number) word.now (decimal index)) }
+// The word of a file.
+fn word_of(file: File) -> &'static [u8]
+    ensures { result.now ≡ file_word file }
 {
-    let mut end = output::put_field(out, 0, b"refused", b' ');
-    end = output::put_decimal(out, end, number as u64, b' ');
-    end = output::put_field(out, end, word, b' ');
-    output::put_decimal(out, end, index as u64, b'\n')
-}
-
-// Puts the line of a refusal, and answers its length.
-fn put_refusal(out: &mut [u8], refusal: Refusal, file: File, index: usize) -> usize
-    requires { length (refusal_line refusal file index) ≤ length out.old }
-    ensures out_value { out.new ≡ sets out.old 0 (refusal_line refusal file index) }
-    ensures value { result ≡ length (refusal_line refusal file index) }
-{
-    let number = refusal.number();
     match file {
-        File::Table => put_refused(out, number, b"table", index),
-        File::Rules => put_refused(out, number, b"rules", index),
-        File::States => put_refused(out, number, b"states", index),
+        File::Table => b"table",
+        File::Rules => b"rules",
+        File::States => b"states",
     }
 }
 
-// Puts the report on the bytes of three files, each with whether it could be read, to the front of the output, and answers its length.
+// Puts the line of a refusal, and answers its length.
+fn put_refusal(out: &mut [u8], refused: FileFault) -> usize
+    requires { length (refusal_line refused.fault.refusal refused.file refused.fault.index) ≤ length out.old }
+    ensures out_value { out.new ≡ sets out.old 0 (refusal_line refused.fault.refusal refused.file refused.fault.index) }
+    ensures value { result ≡ length (refusal_line refused.fault.refusal refused.file refused.fault.index) }
+{
+    let mut end = output::put_field(out, 0, b"refused", b' ');
+    end = output::put_decimal(out, end, u64::from(refused.fault.number()), b' ');
+    end = output::put_field(out, end, word_of(refused.file), b' ');
+    output::put_decimal(out, end, refused.fault.index as u64, b'\n')
+}
+
+// Puts the report on the bytes of three files, none where a file could not be read, to the front of the output, and answers its length.
 pub fn put_report(
-    table_read: bool,
-    table: &[u8],
-    rules_read: bool,
-    rules: &[u8],
-    states_read: bool,
-    states: &[u8],
+    table: Option<&[u8]>,
+    rules: Option<&[u8]>,
+    states: Option<&[u8]>,
     out: &mut [u8; REPORT_ROOM],
 ) -> usize
-    ensures size { result ≡ length (report table_read table.now rules_read rules.now states_read states.now) }
-    ensures contents { out.new ≡ front (report table_read table.now rules_read rules.now states_read states.now) out.old }
+    ensures size { result ≡ length (report_on (option_copied table.entry) (option_copied rules.entry) (option_copied states.entry)) }
+    ensures contents { out.new ≡ front (report_on (option_copied table.entry) (option_copied rules.entry) (option_copied states.entry)) out.old }
 {
-    let verdict = check_files(table_read, table, rules_read, rules, states_read, states);
-    match verdict {
-        Verdict::Lines(n) => put_lines(table, rules, states, n, out),
-        Verdict::Refused(r, file, i) => put_refusal(out, r, file, i),
+    match check_files(table, rules, states) {
+        Ok(n) => put_lines(bytes_in(table), bytes_in(rules), bytes_in(states), n, out),
+        Err(refused) => put_refusal(out, refused),
     }
 }

@@ -16,47 +16,25 @@ const STATED_ROOM: usize = 131072;
 fn block_end(stated: &[u8]) -> usize
     ensures { result ≤ length stated.now }
 {
-    let mut i: usize = 1;
-    while i < stated.len() {
-        if stated[i - 1] == b'\n' {
-            if stated[i] == b'\n' {
-                return i + 1;
-            }
+    for i in 1..stated.len() {
+        if stated[i - 1] == b'\n' && stated[i] == b'\n' {
+            return i + 1;
         }
-        i = i + 1;
     }
     stated.len()
 }
 
-// How many bytes a text and the end of a line after it take at the front of a block, 0 where it has others there.
-fn passed(block: &[u8], text: &[u8]) -> usize
-    ensures { result ≤ length block.now }
-{
-    let n = text.len();
-    if block.len() <= n {
-        return 0;
-    }
-    if !check::same(&block[0..n], text) {
-        return 0;
-    }
-    if block[n] != b'\n' {
-        return 0;
-    }
-    n + 1
+// What follows a text and the end of a line at the front of a block; `None` where the block has others there.
+fn rest_after<'a>(block: &'a [u8], text: &[u8]) -> Option<&'a [u8]> {
+    block.strip_prefix(text)?.strip_prefix(b"\n")
 }
 
 // Whether a block has this label and this text, and no more.
 fn agrees(block: &[u8], label: &[u8], text: &[u8]) -> bool {
-    let labelled = passed(block, label);
-    if labelled == 0 {
+    let Some(rest) = rest_after(block, label) else {
         return false;
-    }
-    let rest = &block[labelled..];
-    let told = passed(rest, text);
-    if told == 0 {
-        return false;
-    }
-    told == rest.len()
+    };
+    rest_after(rest, text).is_some_and(|left| left.is_empty())
 }
 
 // Writes whether a report is as stated, and both where it is not.
@@ -107,10 +85,10 @@ fn compare_all<R: Files + Env + Print>(rt: &R, stated: &[u8]) -> io::Result<()> 
         }
         let end = block_end(rest);
         if compare(rt, at, at + 1, at + 2, at + 3, &rest[..end])? {
-            agreed = agreed + 1;
+            agreed += 1;
         }
         rest = &rest[end..];
-        at = at + 4;
+        at += 4;
     }
     println!(rt; "{agreed} reports as stated")?;
     if 0 < rest.len() {

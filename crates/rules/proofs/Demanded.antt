@@ -5,7 +5,6 @@ use mathlib.Core.Path.{◌≡◌, refl, sym, ◌∙◌, ap, ap₂, subst}
 use mathlib.Core.Logic.{◌⊎◌, inl, inr}
 use mathlib.Core.List.{List, [], ◌∷◌, ◌++◌}
 use mathlib.Core.Bool.{true}
-use mathlib.Core.Option.{Option, none}
 use lib.ListN.{length, get_or, length-append}
 use lib.Seq.{get_or_at}
 use Rattle.answers.specs.Refusal.{number_of}
@@ -13,9 +12,7 @@ use Rattle.answers.specs.Answers.{answer_number, rule_number, rule_index, rule_c
 use Rattle.answers.specs.declared.Part.{Part}
 use Rattle.answers.specs.declared.Refusal.{Refusal}
 use Rattle.answers.specs.declared.RuleAnswer.{RuleAnswer}
-use Rattle.answers.specs.declared.RuleAnswer.TheVariants.{Bound, None, Spent, Refused}
-use Rattle.byte_answers.specs.declared.Checked.{Checked as SheetChecked}
-use Rattle.byte_answers.specs.declared.Checked.TheVariants.{Accepted}
+use Rattle.answers.specs.declared.RuleAnswer.TheVariants.{Bound, Spent}
 use Rattle.term.specs.Class.{Alike}
 use Rattle.term.specs.Term.{Term}
 use Rattle.term.specs.Pattern.{Pattern, name}
@@ -49,25 +46,28 @@ use Rattle.rules.proofs.Rules.{rule_at, rule_input, part_octets}
 use Rattle.rules.proofs.Checks.{reads, checked_exactly, check_failed, check_passed}
 use Rattle.rules.proofs.Endings.{Ends, ends_bound, ends_none, ends_spent, trial_none, trial_bound, trial_spent, trial_ends, larger_trial}
 use Rattle.rules.proofs.Turns.{bytes_answered}
+use Rattle.std.specs.Prelude.{Result, Ok, Err, Option, None}
+use Rattle.answers.specs.declared.Fault.{Fault}
+use Rattle.answers.specs.Fault.{fault_at}
 
 -- what is told shows which it is
 
-told_bound : (x : Trial) → rule_number (told x) ≡ 0 → told x ≡ Bound (rule_index (told x)) (rule_count (told x))
+told_bound : (x : Trial) → rule_number (told x) ≡ 0 → told x ≡ Ok (Bound (rule_index (told x)) (rule_count (told x)))
 told_bound (bound_at k ps n) h = refl
 told_bound (none_of n) h = absurd (omega arith)
 told_bound (spent_at k n) h = absurd (omega arith)
 
-told_none : (x : Trial) → rule_number (told x) ≡ 10 → told x ≡ None (rule_count (told x))
+told_none : (x : Trial) → rule_number (told x) ≡ 10 → told x ≡ Ok (RuleAnswer.None (rule_count (told x)))
 told_none (bound_at k ps n) h = absurd (omega arith)
 told_none (none_of n) h = refl
 told_none (spent_at k n) h = absurd (omega arith)
 
-told_spent : (x : Trial) → rule_number (told x) ≡ 11 → told x ≡ Spent (rule_index (told x)) (rule_count (told x))
+told_spent : (x : Trial) → rule_number (told x) ≡ 11 → told x ≡ Ok (Spent (rule_index (told x)) (rule_count (told x)))
 told_spent (bound_at k ps n) h = absurd (omega arith)
 told_spent (none_of n) h = absurd (omega arith)
 told_spent (spent_at k n) h = refl
 
-shows : {a b : RuleAnswer} → a ≡ b → ShownAs a (rule_number b) (rule_index b) (rule_count b)
+shows : {a b : (Result RuleAnswer Fault)} → a ≡ b → ShownAs a (rule_number b) (rule_index b) (rule_count b)
 shows e = (ap rule_number e, ap rule_index e, ap rule_count e)
 
 -- a refusal is no word, and shows no count
@@ -77,7 +77,7 @@ told_refused (bound_at k ps n) r e = word_or_refusal 0 refl r e
 told_refused (none_of n) r e = word_or_refusal 10 refl r e
 told_refused (spent_at k n) r e = word_or_refusal 11 refl r e
 
-told_unbound : (x : Trial) → (rule_number (told x) ≡ 0 → ⊥) → bound_parts x ≡ none
+told_unbound : (x : Trial) → (rule_number (told x) ≡ 0 → ⊥) → bound_parts x ≡ None
 told_unbound (bound_at k ps n) h = absurd (h refl)
 told_unbound (none_of n) h = refl
 told_unbound (spent_at k n) h = refl
@@ -102,7 +102,7 @@ module _ (l : Language) (qs : List Pattern) (t : Term) (allowance : ℕ) where
   reached_at {q = q} {sum = sum} e r = subst (λ (i : ℕ). Reached l qs t allowance i q sum) e r
 
 module _ (l : Language) (alike : Alike l.table l.classes) (qs : List Pattern) (t : Term) (of : TermOf l t) (allowance : ℕ) where
-  bound_there : (k n : ℕ) {x : Trial} → Ends l t allowance qs x → told x ≡ Bound k n → BoundAt l qs t allowance k n
+  bound_there : (k n : ℕ) {x : Trial} → Ends l t allowance qs x → told x ≡ Ok (Bound k n) → BoundAt l qs t allowance k n
   bound_there k n (ends_bound {k = j} {q = q} {sum = sum} {ps = ps} {n = m} r f) e =
       let z : j ≡ k = cc in
       let y : sum + m ≡ n = cc in
@@ -111,14 +111,14 @@ module _ (l : Language) (alike : Alike l.table l.classes) (qs : List Pattern) (t
   bound_there k n (ends_none h) e = let z : ◌≡◌ {A = ℕ} 0 1 = cc in absurd (omega arith)
   bound_there k n (ends_spent r f) e = let z : ◌≡◌ {A = ℕ} 0 1 = cc in absurd (omega arith)
 
-  bound_back : (k n : ℕ) → BoundAt l qs t allowance k n → told (try_rules l qs t allowance) ≡ Bound k n
+  bound_back : (k n : ℕ) → BoundAt l qs t allowance k n → told (try_rules l qs t allowance) ≡ Ok (Bound k n)
   bound_back k n b =
       let c = count_of l b.0 t in
       let ps = parts_at l.table b.0 t b.4.0 in
       let e = ((answer_exact l alike b.0 t of allowance).bound_exactly ps c).1 (refl, b.3, (b.4.0, b.4.1, refl)) in
-      ap told (trial_bound l alike t of allowance b.2 ps c e) ∙ ap (Bound k) (sym b.5)
+      ap told (trial_bound l alike t of allowance b.2 ps c e) ∙ ap (λ (m : ℕ). Ok (Bound k m)) (sym b.5)
 
-  spent_there : (k n : ℕ) {x : Trial} → Ends l t allowance qs x → told x ≡ Spent k n → SpentAt l qs t allowance k n
+  spent_there : (k n : ℕ) {x : Trial} → Ends l t allowance qs x → told x ≡ Ok (Spent k n) → SpentAt l qs t allowance k n
   spent_there k n (ends_spent {k = j} {q = q} {sum = sum} {n = m} r f) e =
       let z : j ≡ k = cc in
       let y : sum + m ≡ n = cc in
@@ -127,12 +127,12 @@ module _ (l : Language) (alike : Alike l.table l.classes) (qs : List Pattern) (t
   spent_there k n (ends_none h) e = let z : ◌≡◌ {A = ℕ} 0 1 = cc in absurd (omega arith)
   spent_there k n (ends_bound r f) e = let z : ◌≡◌ {A = ℕ} 0 1 = cc in absurd (omega arith)
 
-  spent_back : (k n : ℕ) → SpentAt l qs t allowance k n → told (try_rules l qs t allowance) ≡ Spent k n
+  spent_back : (k n : ℕ) → SpentAt l qs t allowance k n → told (try_rules l qs t allowance) ≡ Ok (Spent k n)
   spent_back k n b =
       let e = ((answer_exact l alike b.0 t of allowance).spent_exactly allowance).1 (refl, b.3) in
-      ap told (trial_spent l alike t of allowance b.2 allowance e) ∙ ap (Spent k) (sym b.4)
+      ap told (trial_spent l alike t of allowance b.2 allowance e) ∙ ap (λ (m : ℕ). Ok (Spent k m)) (sym b.4)
 
-  none_there : (n : ℕ) {x : Trial} → Ends l t allowance qs x → told x ≡ None n → EachNone l t allowance qs × (n ≡ counts l t qs)
+  none_there : (n : ℕ) {x : Trial} → Ends l t allowance qs x → told x ≡ Ok (RuleAnswer.None n) → EachNone l t allowance qs × (n ≡ counts l t qs)
   none_there n (ends_none h) e = (h, cc)
   none_there n (ends_bound r f) e = let z : ◌≡◌ {A = ℕ} 0 1 = cc in absurd (omega arith)
   none_there n (ends_spent r f) e = let z : ◌≡◌ {A = ℕ} 0 1 = cc in absurd (omega arith)
@@ -168,7 +168,7 @@ module _ (brought : Brought) (sheet bytes before : List ℕ) (allowance : ℕ) (
           part_octets brought sheet bytes qs t i sheet_octets k h,
         )
 
-    bound_shows : (k n : ℕ) {x : Trial} → Ends l t allowance qs x → told x ≡ Bound k n
+    bound_shows : (k n : ℕ) {x : Trial} → Ends l t allowance qs x → told x ≡ Ok (Bound k n)
         → (q : Pattern) × (sum : ℕ) × Reached l qs t allowance k q sum × ((y : Assignment) × First l q t y × Shows brought.table bytes q t y (written (bound_parts x) before))
     bound_shows k n (ends_bound {k = j} {q = q} {sum = sum} {ps = ps} {n = m} r f) e =
         let z : j ≡ k = cc in
@@ -189,16 +189,16 @@ module _ (brought : Brought) (sheet bytes before : List ℕ) (allowance : ℕ) (
     answered : Answered brought sheet bytes before allowance qs t (told trial) (written (bound_parts trial) before)
     answered = record {
       bound_exactly = λ k n. (
-        λ h. bound_there l alike qs t of allowance k n ends (told_bound trial h.0 ∙ ap₂ Bound h.1 h.2),
+        λ h. bound_there l alike qs t of allowance k n ends (told_bound trial h.0 ∙ ap₂ (λ (i m : ℕ). Ok (Bound i m)) h.1 h.2),
         λ b. shows (bound_back l alike qs t of allowance k n b),
       );
       spent_exactly = λ k n. (
-        λ h. spent_there l alike qs t of allowance k n ends (told_spent trial h.0 ∙ ap₂ Spent h.1 h.2),
+        λ h. spent_there l alike qs t of allowance k n ends (told_spent trial h.0 ∙ ap₂ (λ (i m : ℕ). Ok (Spent i m)) h.1 h.2),
         λ b. shows (spent_back l alike qs t of allowance k n b),
       );
       none_exactly = λ n. (
-        λ h. none_there l alike qs t of allowance n ends (told_none trial h.0 ∙ ap None h.2),
-        λ h. shows (ap told (trial_none l alike t of allowance qs h.0) ∙ ap None (sym h.1)),
+        λ h. none_there l alike qs t of allowance n ends (told_none trial h.0 ∙ ap (λ (m : ℕ). Ok (RuleAnswer.None m)) h.2),
+        λ h. shows (ap told (trial_none l alike t of allowance qs h.0) ∙ ap (λ (m : ℕ). Ok (RuleAnswer.None m)) (sym h.1)),
       );
       bound_shows = λ h. bound_shows _ _ ends (told_bound trial h);
       larger_allowance = λ more h k. same_call more (larger_trial l alike t of allowance more k qs h);
@@ -269,7 +269,7 @@ module _ (brought : Brought) (sheet bytes before : List ℕ) (allowance : ℕ) (
   abbrev work : List Pattern × Term → Trial
   work x = try_rules l x.0 x.1 allowance
 
-  abbrev tells : List Pattern × Term → RuleAnswer
+  abbrev tells : List Pattern × Term → Result RuleAnswer Fault
   tells x = told (work x)
 
   abbrev binds : List Pattern × Term → Option (List Part)
@@ -283,7 +283,7 @@ module _ (brought : Brought) (sheet bytes before : List ℕ) (allowance : ℕ) (
     answered = λ wide b qs t i. let z = same_call wide b qs t i allowance refl in rw (z.0, z.1) (answered wide b qs t i);
     published = λ wide b qs t i q n. let z = same_call wide b qs t i allowance refl in rw (z.0, z.1) (published wide b qs t i q n);
     bounded = λ wide b qs t i. rw (same_call wide b qs t i allowance refl).0 (bounded wide b qs t i);
-    handled = handled Refused tells binds before brought (trees brought sheet bytes) (AcceptedTrees brought sheet bytes) (λ x. ⊥)
+    handled = handled (λ r i. Err (fault_at r i)) tells binds before brought (trees brought sheet bytes) (AcceptedTrees brought sheet bytes) (λ x. ⊥)
         (reads brought sheet bytes sheet_octets record_octets like) rule_number rule_count
         (record {
           numbered = λ r i. refl;
@@ -295,23 +295,24 @@ module _ (brought : Brought) (sheet bytes before : List ℕ) (allowance : ℕ) (
   }
 
   -- where a check fails
-  pub fails_called : (r : Refusal) (i : ℕ) → SheetChecked.Refused r i ≡ check_of (checked brought sheet bytes (length before))
-      → Called brought sheet bytes before allowance (Refused r i) before
+  pub fails_called : {k : Result ℕ Fault} {f : Fault} → k ≡ check_of (checked brought sheet bytes (length before)) → k ≡ Err f
+      → Called brought sheet bytes before allowance (Err f) before
   unfolding answer_of buffer_of
-  fails_called r i e =
-      fails Refused tells binds before (checked brought sheet bytes (length before)) (Demanded brought sheet bytes before allowance) demanded_of r i
-      (check_failed (checked brought sheet bytes (length before)) r i e)
+  fails_called {k} {f} e is =
+      fails (λ r i. Err (fault_at r i)) tells binds before (checked brought sheet bytes (length before)) (Demanded brought sheet bytes before allowance) demanded_of f.refusal f.index
+      (check_failed (checked brought sheet bytes (length before)) f (sym is ∙ e))
 
-  -- where all pass, and the rules are tried with the class list that is brought, or an empty one
-  pub passes_called : (n : ℕ) → Accepted n ≡ check_of (checked brought sheet bytes (length before))
-      → (classes : List ℕ) → classes ≡ classes_of brought → (a : RuleAnswer) (after : List ℕ)
-      → (a ≡ answer_on_bytes brought.table classes sheet bytes allowance (length before)) × (after ≡ buffer_on_bytes brought.table classes sheet bytes allowance before)
+  -- where all pass, and the rules are tried in the language of the call
+  pub passes_called : {k : Result ℕ Fault} {n : ℕ} → k ≡ check_of (checked brought sheet bytes (length before)) → k ≡ Ok n
+      → (lang : Language) → lang ≡ language_of brought → (a : Result RuleAnswer Fault) (after : List ℕ)
+      → (a ≡ answer_on_bytes lang.table lang.classes sheet bytes allowance (length before))
+      × (after ≡ buffer_on_bytes lang.table lang.classes sheet bytes allowance before)
       → length after ≡ length before → Called brought sheet bytes before allowance a after
   unfolding answer_of buffer_of
-  passes_called n e classes same a after m =
-      let c = check_passed (checked brought sheet bytes (length before)) n e in
+  passes_called {k} {n} e is lang same a after m =
+      let c = check_passed (checked brought sheet bytes (length before)) n (sym is ∙ e) in
       let i = (checked_exactly brought sheet bytes sheet_octets record_octets like (length before) c.0 c.1).0 c.2 in
       let g = bytes_answered brought sheet bytes allowance before i.0 (brought_alike brought i.1) c.0 c.1 i.2 in
       let n = rw same at m in
-      passes Refused tells binds before (checked brought sheet bytes (length before)) (Demanded brought sheet bytes before allowance) demanded_of
+      passes (λ r i. Err (fault_at r i)) tells binds before (checked brought sheet bytes (length before)) (Demanded brought sheet bytes before allowance) demanded_of
       (c.0, c.1) c.2 a after (n.0 ∙ g.0) (n.1 ∙ g.1)

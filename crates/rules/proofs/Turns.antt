@@ -10,7 +10,7 @@ use borrow.Author.Tests.{lt-ltb, le-ltb}
 use Rattle.answers.specs.declared.Refusal.TheVariants.{Narrow}
 use Rattle.answers.specs.declared.Answer.{Answer}
 use Rattle.answers.specs.declared.RuleAnswer.{RuleAnswer}
-use Rattle.answers.specs.declared.RuleAnswer.TheVariants.{Bound, None, Spent, Refused}
+use Rattle.answers.specs.declared.RuleAnswer.TheVariants.{Bound, None, Spent}
 use Rattle.term.specs.Class.{Alike}
 use Rattle.term.specs.Term.{Term}
 use Rattle.term.specs.Pattern.{Pattern, name}
@@ -26,6 +26,10 @@ use Rattle.link.proofs.Linked.{linked}
 use Rattle.rules.specs.Trial.{Trial, none_of, try_one, try_each, try_rules}
 use Rattle.rules.specs.Call.{Input, told, bound_parts, parts_from, try_parts, answer_on_bytes, buffer_on_bytes}
 use Rattle.rules.proofs.Rules.{rule_at, input_directed, rule_input}
+use Rattle.std.specs.Prelude.{Result, Ok, Err}
+use Rattle.answers.specs.declared.Refusal.{Refusal}
+use Rattle.answers.specs.declared.Fault.{Fault}
+use Rattle.answers.specs.Fault.{fault_at}
 
 -- the parts of a sheet
 
@@ -69,16 +73,16 @@ module _ (table classes sheet bytes : List ℕ) (allowance : ℕ) where
 
   module _ (before : List ℕ) where
     -- answer and final buffer on any bytes
-    abbrev OnBytes : RuleAnswer → List ℕ → Type 0
+    abbrev OnBytes : Result RuleAnswer Fault → List ℕ → Type 0
     OnBytes a after =
         (a ≡ answer_on_bytes table classes sheet bytes allowance (length before)) × (after ≡ buffer_on_bytes table classes sheet bytes allowance before)
 
-    pub narrow_matched : length before < answer_width → OnBytes (Refused Narrow 0) before
+    pub narrow_matched : length before < answer_width → OnBytes (Err (fault_at Narrow 0)) before
     unfolding answer_on_bytes buffer_on_bytes
     narrow_matched h = rw (lt-ltb (length before) answer_width h) (refl, refl)
 
     -- by what trying the parts comes to
-    tried : answer_width ≤ length before → (x : Trial) → trial ≡ x → (a : RuleAnswer) (after : List ℕ) → a ≡ told x → after ≡ written (bound_parts x) before → OnBytes a after
+    tried : answer_width ≤ length before → (x : Trial) → trial ≡ x → (a : Result RuleAnswer Fault) (after : List ℕ) → a ≡ told x → after ≡ written (bound_parts x) before → OnBytes a after
     unfolding answer_on_bytes buffer_on_bytes
     tried wide x z a after e f =
         rw (le-ltb (length before) answer_width wide) (e ∙ ap told (sym z), f ∙ ap (λ (y : Trial). written (bound_parts y) before) (sym z))
@@ -94,30 +98,19 @@ module _ (table classes sheet bytes : List ℕ) (allowance : ℕ) where
       pub untouched : buffer ≡ before
       pub trying : trial ≡ try_each own k sum (drop k parts)
 
-    pub turn_starts : (rules : ℕ) → answer_width ≤ length before → rules ≡ entry_count sheet → rules ≤ 65535 → Turn rules before 0 0
-    turn_starts rules wide counted few = record {
-      wide = wide;
-      counted = counted;
-      few = few;
-      reached = omega arith;
-      fits = omega arith;
-      untouched = refl;
-      trying = refl;
-    }
-
 -- what the own answer of the part of index k comes to
-abbrev stop_of : ℕ → ℕ → Answer → RuleAnswer
-stop_of k sum (Answer.Bound n) = Bound k (sum + n)
-stop_of k sum (Answer.None n) = None (sum + n)
-stop_of k sum (Answer.Spent n) = Spent k (sum + n)
-stop_of k sum (Answer.Refused r) = Refused r k
+abbrev stop_of : ℕ → ℕ → Result Answer Refusal → Result RuleAnswer Fault
+stop_of k sum (Ok (Answer.Bound n)) = Ok (Bound k (sum + n))
+stop_of k sum (Ok (Answer.None n)) = Ok (None (sum + n))
+stop_of k sum (Ok (Answer.Spent n)) = Ok (Spent k (sum + n))
+stop_of k sum (Err r) = Err (fault_at r k)
 
 -- it is not none
-abbrev Stops : Answer → Type 0
-Stops (Answer.Bound n) = Unit {0}
-Stops (Answer.None n) = ⊥
-Stops (Answer.Spent n) = Unit {0}
-Stops (Answer.Refused r) = Unit {0}
+abbrev Stops : Result Answer Refusal → Type 0
+Stops (Ok (Answer.Bound n)) = Unit {0}
+Stops (Ok (Answer.None n)) = ⊥
+Stops (Ok (Answer.Spent n)) = Unit {0}
+Stops (Err r) = Unit {0}
 
 stop_told : (k sum : ℕ) (o : Matching) (next : ℕ → Trial) (before : List ℕ) → Stops (own_told o)
     → (stop_of k sum (own_told o) ≡ told (try_one k sum o next)) × (written (own_parts o) before ≡ written (bound_parts (try_one k sum o next)) before)
@@ -125,7 +118,7 @@ stop_told k sum (bound parts n) next before h = (refl, refl)
 stop_told k sum (nothing n) next before h = absurd h
 stop_told k sum (spent n) next before h = (refl, refl)
 
-none_told : (k sum : ℕ) (o : Matching) (next : ℕ → Trial) (n : ℕ) (before : List ℕ) → own_told o ≡ Answer.None n
+none_told : (k sum : ℕ) (o : Matching) (next : ℕ → Trial) (n : ℕ) (before : List ℕ) → own_told o ≡ Ok (Answer.None n)
     → (try_one k sum o next ≡ next (sum + n)) × (written (own_parts o) before ≡ before)
 none_told k sum (bound parts m) next n before e = let z : ◌≡◌ {A = ℕ} 0 1 = cc in absurd (omega arith)
 none_told k sum (nothing m) next n before e = let z : m ≡ n = cc in (ap (λ (x : ℕ). next (sum + x)) z, refl)
@@ -168,20 +161,16 @@ module _ {table classes sheet bytes : List ℕ} {allowance : ℕ} {before : List
   all_counted : length (parts table classes sheet bytes allowance) ≡ rules
   all_counted = parts_length sheet (entry_count sheet) 0 ∙ sym turn.counted
 
-  -- one count more is within 64 bits
-  pub turn_room : sum + 4294967295 < 18446744073709551616
-  turn_room = omega (arith, turn.fits, turn.reached, turn.few)
-
   -- past the last
-  pub turn_ends : rules ≤ k → OnBytes table classes sheet bytes allowance before (None sum) buffer
+  pub turn_ends : rules ≤ k → OnBytes table classes sheet bytes allowance before (Ok (None sum)) buffer
   unfolding try_each
   turn_ends h =
       tried table classes sheet bytes allowance before turn.wide (none_of sum)
       (turn.trying ∙ ap (try_each (own table classes sheet bytes allowance) k sum)
       (drop_of_length-le (parts table classes sheet bytes allowance) {i = k} (omega (arith, all_counted))))
-      (None sum) buffer refl turn.untouched
+      (Ok (None sum)) buffer refl turn.untouched
 
-  module _ (part : List ℕ) (is_part : part ≡ part_at sheet k) (a : Answer) (after : List ℕ)
+  module _ (part : List ℕ) (is_part : part ≡ part_at sheet k) (a : Result Answer Refusal) (after : List ℕ)
       (called : (a ≡ own_answer table classes part bytes allowance (length buffer)) × (after ≡ own_buffer table classes part bytes allowance buffer))
       (below : k < rules) where
     -- the own answer of the part, and the parts past it
@@ -206,7 +195,7 @@ module _ {table classes sheet bytes : List ℕ} {allowance : ℕ} {before : List
         turn.trying ∙ ap (try_each (own table classes sheet bytes allowance) k sum) d
 
     -- a part that is none
-    pub turn_next : (n : ℕ) → n ≤ 4294967295 → a ≡ Answer.None n → Turn table classes sheet bytes allowance before rules after (sum + n) (k + 1)
+    pub turn_next : (n : ℕ) → n ≤ 4294967295 → a ≡ Ok (Answer.None n) → Turn table classes sheet bytes allowance before rules after (sum + n) (k + 1)
     turn_next n small e =
         let z = none_told k sum outcome later n before (sym answers.0 ∙ e) in
         record {
@@ -220,7 +209,7 @@ module _ {table classes sheet bytes : List ℕ} {allowance : ℕ} {before : List
         }
 
     -- the first that is not
-    pub turn_stops : (b : Answer) → a ≡ b → Stops b → OnBytes table classes sheet bytes allowance before (stop_of k sum b) after
+    pub turn_stops : (b : Result Answer Refusal) → a ≡ b → Stops b → OnBytes table classes sheet bytes allowance before (stop_of k sum b) after
     turn_stops b e stops =
         let z = sym e ∙ answers.0 in
         let s = stop_told k sum outcome later before (rw z at stops) in

@@ -1,12 +1,9 @@
 -- The call: what a rule sheet against one record answers, and what it leaves in the answer buffer, on all inputs.
-use Rattle.std.specs.Prelude.{ℕ, zero, suc, ◌+◌, ◌≤◌, ◌≡◌, List, [], ◌∷◌, map, true, cond, length, ltb}
-use Rattle.std.proofs.Math.Option.{Option, none, some}
+use Rattle.std.specs.Prelude.{ℕ, zero, suc, ◌+◌, ◌≤◌, ◌≡◌, List, [], ◌∷◌, map, true, cond, length, ltb, Result, Ok, Err, Option, Some, None}
 use Rattle.answers.specs.declared.Part.{Part}
 use Rattle.answers.specs.declared.Refusal.TheVariants.{Narrow}
 use Rattle.answers.specs.declared.RuleAnswer.{RuleAnswer}
-use Rattle.answers.specs.declared.RuleAnswer.TheVariants.{Bound, None, Spent, Refused}
-use Rattle.byte_answers.specs.declared.Checked.{Checked as SheetChecked}
-use Rattle.byte_answers.specs.declared.Checked.TheVariants.{Accepted}
+use Rattle.answers.specs.declared.RuleAnswer.TheVariants.{Bound, Spent}
 use Rattle.term.specs.Language.{Language}
 use Rattle.term.specs.Table.{table_accepted}
 use Rattle.term.specs.Term.{Term, term_bytes}
@@ -22,6 +19,8 @@ use Rattle.sheet.specs.Entry.{entries, part_at}
 use Rattle.sheet.specs.Contents.{most_rules, check_rules}
 use Rattle.link.specs.OnBytes.{outcome_on_bytes}
 use Rattle.rules.specs.Trial.{Trial, bound_at, none_of, spent_at, try_each, try_rules}
+use Rattle.answers.specs.declared.Fault.{Fault}
+use Rattle.answers.specs.Fault.{fault_at}
 
 -- what the call brings: "A call without a sheet … is told the edition"; here the sheet tells it, for the record too
 abbrev pub in_sheet : List ℕ → List ℕ → Option (List ℕ) → Brought
@@ -63,9 +62,9 @@ rules_of l [] = []
 rules_of l (e ∷ es) = with_rule (read_pattern l e) (rules_of l es)
 
 -- they are read where the sheet passes its checks
-abbrev pub rules_by : SheetChecked → List Pattern → Verdict (List Pattern)
-rules_by (SheetChecked.Refused r i) qs = fault r i
-rules_by (Accepted n) qs = passed qs
+abbrev pub rules_by : Result ℕ Fault → List Pattern → Verdict (List Pattern)
+rules_by (Err f) qs = fault f.refusal f.index
+rules_by (Ok n) qs = passed qs
 
 abbrev pub trees : Brought → List ℕ → List ℕ → Verdict (List Pattern × Term)
 trees brought sheet bytes = both (rules_by (check_rules brought.table brought.list sheet) (rules_of (language_of brought) (entries sheet))) (reading (read_record (language_of brought) bytes))
@@ -74,27 +73,27 @@ abbrev pub checked : Brought → List ℕ → List ℕ → ℕ → Verdict (List
 checked brought sheet bytes width = checks brought width (trees brought sheet bytes)
 
 -- the number of rules, or the refusal
-abbrev pub check_of : Verdict (List Pattern × Term) → SheetChecked
-check_of (fault r i) = SheetChecked.Refused r i
-check_of (passed x) = Accepted (length x.0)
+abbrev pub check_of : Verdict (List Pattern × Term) → Result ℕ Fault
+check_of (fault r i) = Err (fault_at r i)
+check_of (passed x) = Ok (length x.0)
 
 -- The answer
 
-abbrev pub told : Trial → RuleAnswer
-told (bound_at i parts sum) = Bound i sum
-told (none_of sum) = None sum
-told (spent_at i sum) = Spent i sum
+abbrev pub told : Trial → Result RuleAnswer Fault
+told (bound_at i parts sum) = Ok (Bound i sum)
+told (none_of sum) = Ok (RuleAnswer.None sum)
+told (spent_at i sum) = Ok (Spent i sum)
 
-unfoldable pub answer_of : Brought → List ℕ → List ℕ → ℕ → ℕ → RuleAnswer
+unfoldable pub answer_of : Brought → List ℕ → List ℕ → ℕ → ℕ → Result RuleAnswer Fault
 answer_of brought sheet bytes allowance width =
-    answer_by Refused (λ x. told (try_rules (language_of brought) x.0 x.1 allowance)) (checked brought sheet bytes width)
+    answer_by (λ r i. Err (fault_at r i)) (λ x. told (try_rules (language_of brought) x.0 x.1 allowance)) (checked brought sheet bytes width)
 
 -- The answer buffer, by the part of each variable of the rule that is bound
 
 abbrev pub bound_parts : Trial → Option (List Part)
-bound_parts (bound_at i parts sum) = some parts
-bound_parts (none_of sum) = none
-bound_parts (spent_at i sum) = none
+bound_parts (bound_at i parts sum) = Some parts
+bound_parts (none_of sum) = None
+bound_parts (spent_at i sum) = None
 
 unfoldable pub buffer_of : Brought → List ℕ → List ℕ → ℕ → List ℕ → List ℕ
 buffer_of brought sheet bytes allowance before =
@@ -112,9 +111,9 @@ abbrev pub try_parts : List ℕ → List ℕ → List ℕ → List ℕ → ℕ �
 try_parts table classes sheet bytes allowance =
     try_each (λ part. outcome_on_bytes table classes part bytes allowance) 0 0 (parts_from sheet (entry_count sheet) 0)
 
-unfoldable pub answer_on_bytes : List ℕ → List ℕ → List ℕ → List ℕ → ℕ → ℕ → RuleAnswer
+unfoldable pub answer_on_bytes : List ℕ → List ℕ → List ℕ → List ℕ → ℕ → ℕ → Result RuleAnswer Fault
 answer_on_bytes table classes sheet bytes allowance width =
-    cond (ltb width answer_width) (Refused Narrow 0) (told (try_parts table classes sheet bytes allowance))
+    cond (ltb width answer_width) (Err (fault_at Narrow 0)) (told (try_parts table classes sheet bytes allowance))
 
 unfoldable pub buffer_on_bytes : List ℕ → List ℕ → List ℕ → List ℕ → ℕ → List ℕ → List ℕ
 buffer_on_bytes table classes sheet bytes allowance before =

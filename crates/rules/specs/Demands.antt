@@ -1,5 +1,5 @@
 -- What is demanded of the call: its answer `a` and the final buffer `after`, where the buffer held `before`.
-use Rattle.std.specs.Prelude.{ℕ, ◌+◌, ◌<◌, ◌≤◌, ◌≡◌, ◌⊎◌, ◌↔◌, List, [], ◌∷◌, ◌++◌, true, length}
+use Rattle.std.specs.Prelude.{ℕ, ◌+◌, ◌<◌, ◌≤◌, ◌≡◌, ◌⊎◌, ◌↔◌, List, [], ◌∷◌, ◌++◌, true, length, Result}
 use Rattle.answers.specs.Answers.{rule_number, rule_index, rule_count}
 use Rattle.answers.specs.declared.RuleAnswer.{RuleAnswer}
 use Rattle.term.specs.Term.{Term}
@@ -16,9 +16,10 @@ use Rattle.call.specs.Call.{answer_width}
 use Rattle.call.specs.Demands.{Handled}
 use Rattle.matcher.specs.Demands.{Shows}
 use Rattle.rules.specs.Call.{Input, AcceptedTrees, answer_of, buffer_of}
+use Rattle.answers.specs.declared.Fault.{Fault}
 
 -- an answer shows this number, index and count
-abbrev pub ShownAs : RuleAnswer → ℕ → ℕ → ℕ → Type 0
+abbrev pub ShownAs : Result RuleAnswer Fault → ℕ → ℕ → ℕ → Type 0
 ShownAs a number index count = (rule_number a ≡ number) × (rule_index a ≡ index) × (rule_count a ≡ count)
 
 module _ (l : Language) where
@@ -55,7 +56,7 @@ module _ (brought : Brought) where
   l = language_of brought
 
   -- Demand 3 for each rule, for the trees of accepted input
-  pub record Answered (sheet bytes before : List ℕ) (allowance : ℕ) (qs : List Pattern) (t : Term) (a : RuleAnswer) (after : List ℕ) : Type 0 where
+  pub record Answered (sheet bytes before : List ℕ) (allowance : ℕ) (qs : List Pattern) (t : Term) (a : Result RuleAnswer Fault) (after : List ℕ) : Type 0 where
     -- bound at a rule exactly when those before it are none and an assignment satisfies it; it shows the sum of their counts and its own
     pub bound_exactly : (k n : ℕ)
         → ShownAs a 0 k n
@@ -75,7 +76,7 @@ module _ (brought : Brought) where
         → (answer_of brought sheet bytes more (length before) ≡ a) × (buffer_of brought sheet bytes more before ≡ after)
 
   -- Demand 2, for each rule q without run names, by the published definition
-  pub record Published (bytes : List ℕ) (allowance : ℕ) (qs : List Pattern) (t : Term) (a : RuleAnswer) (after : List ℕ) (q : Pattern) (n : NoRuns q) : Type 0 where
+  pub record Published (bytes : List ℕ) (allowance : ℕ) (qs : List Pattern) (t : Term) (a : Result RuleAnswer Fault) (after : List ℕ) (q : Pattern) (n : NoRuns q) : Type 0 where
     -- it is none, within the allowance, exactly when it has no solution
     pub none_exactly : IsNone l t allowance q ↔ ((count_of l q t ≤ allowance) × ((σ : Substitution) → Solution l (anti q n) t σ → ⊥))
     -- where it is reached it is bound exactly when it has one, and then the buffer shows it
@@ -87,7 +88,7 @@ module _ (brought : Brought) where
     pub only_one : (σ ρ : Substitution) → Solution l (anti q n) t σ → Solution l (anti q n) t ρ → CountAsOne l (assignment σ) (assignment ρ)
 
   -- What a rule can cost at most (document 02, L14)
-  pub record Bounded (allowance : ℕ) (qs : List Pattern) (t : Term) (a : RuleAnswer) : Type 0 where
+  pub record Bounded (allowance : ℕ) (qs : List Pattern) (t : Term) (a : Result RuleAnswer Fault) : Type 0 where
     -- such an allowance "is never spent" on a rule without run names
     pub never_spent : (q : Pattern) → NoRuns q → Enough q allowance → (k sum : ℕ) → Reached l qs t allowance k q sum
         → rule_number a ≡ 11 → rule_index a ≡ k → ⊥
@@ -95,7 +96,7 @@ module _ (brought : Brought) where
     pub bound_or_none : EachEnough allowance qs → (rule_number a ≡ 0) ⊎ (rule_number a ≡ 10)
 
 -- All three, and what a rule can cost at most; accepted input is always answered
-pub record Demanded (brought : Brought) (sheet bytes before : List ℕ) (allowance : ℕ) (a : RuleAnswer)
+pub record Demanded (brought : Brought) (sheet bytes before : List ℕ) (allowance : ℕ) (a : Result RuleAnswer Fault)
     (after : List ℕ) : Type 0 where
   pub handled : Handled brought (AcceptedTrees brought sheet bytes) (λ x. ⊥) before (rule_number a) (rule_count a) after
   pub published : answer_width ≤ length before → brought_accepted brought ≡ true → (qs : List Pattern) (t : Term) → Input brought sheet bytes qs t
@@ -106,7 +107,7 @@ pub record Demanded (brought : Brought) (sheet bytes before : List ℕ) (allowan
       → Bounded brought allowance qs t a
 
 -- Answer, final buffer and demands in one, which only a private function's contract cites
-abbrev pub Called : Brought → List ℕ → List ℕ → List ℕ → ℕ → RuleAnswer → List ℕ → Type 0
+abbrev pub Called : Brought → List ℕ → List ℕ → List ℕ → ℕ → Result RuleAnswer Fault → List ℕ → Type 0
 Called brought sheet bytes before allowance a after =
     (a ≡ answer_of brought sheet bytes allowance (length before))
     × ((after ≡ buffer_of brought sheet bytes allowance before) × Demanded brought sheet bytes before allowance a after)

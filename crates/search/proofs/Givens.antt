@@ -4,6 +4,7 @@ use Prim.Native.Nat.{ℕ, zero, suc, ◌+◌, ◌-◌, ◌^◌, ◌<◌, ◌≤�
 use native.Mathlib.Omega.{arith}
 use mathlib.Core.Path.{◌≡◌, refl, sym, ap, subst, ◌∙◌, ap₂}
 use mathlib.Core.List.{List}
+use Rattle.std.proofs.Common.{Option, Some, None}
 use mathlib.Core.Bool.{true, false, cond, true≢false}
 use lib.Bits.{bit_or}
 use lib.ListN.{length, get_or, take, drop, set}
@@ -16,7 +17,7 @@ use Rattle.term.specs.Extent.{span_of, extent_of}
 use Rattle.search.specs.State.{State, turns, place_past, walked, walk_of}
 use Rattle.search.specs.Level.{Reply, spent_at, tried, complements_of, level_of, levels}
 use Rattle.search.specs.Given.{Pass, ends, resumed_by, or_further, further_of, given_length_of, given_by, after_given, given_of}
-use Rattle.search.specs.Inner.GivenReplies.{resuming, resumed_as, pass_by, pass_in, given_in, FurtherIs, GivenFollows, GivenIs}
+use Rattle.search.specs.Inner.GivenReplies.{resumed_as, pass_by, pass_in, given_in, FurtherIs, GivenFollows, GivenIs}
 use Rattle.parts.specs.Packed.{bit, packed}
 use Rattle.search.specs.Inner.Memory.{Kept}
 use Rattle.search.specs.Inner.Lent.{Handed, Lent, lent_of, ◌⇒◌, Held, Keeps, levels_in, level_in}
@@ -30,9 +31,8 @@ use Rattle.steps.specs.declared.Stop.TheVariants.{Failure, NoAllowance, NoPair, 
 use Rattle.search.specs.declared.walk.Stopped.{Stopped}
 use Rattle.search.specs.declared.Finding.{Finding}
 use Rattle.search.specs.declared.Finding.TheVariants.{Found, Failed, Spent}
-use Rattle.search.specs.declared.Known.{Known}
-use Rattle.search.specs.declared.Known.TheVariants.{Ended, Unknown}
 use Rattle.parts.proofs.Masks.{bit_still}
+use Rattle.search.proofs.Findings.{resuming}
 use Rattle.search.proofs.Kept.{kept_all, restored, past, past_holds, given_holds}
 use Rattle.search.proofs.Moved.{HeldAt, kept_again, moved_keeps}
 use Rattle.search.proofs.Held.{kept_part}
@@ -101,7 +101,7 @@ unfolding given_of after_given
 given_stops zero table classes pattern bytes g s left stop l end x h e f = absurd (omega arith)
 given_stops (suc n) table classes pattern bytes g s left stop l end x h e f = let z : suc n - 1 ≡ n = omega arith in rw e (f ∙ rw z)
 
-pub given_follows : {inp : Handed} (g : List ℕ) {was got : Lent} {m : Marks} {p : Place} {r : Stopped} {parts stack : List ℕ} {x : Known}
+pub given_follows : {inp : Handed} (g : List ℕ) {was got : Lent} {m : Marks} {p : Place} {r : Stopped} {parts stack : List ℕ} {x : Option Finding}
     → HeldAt inp was m p → Walks inp was m p parts stack r
     → GivenFollows inp g (lent_of r.assigned r.left parts stack ⇒ got) r.stop r.marks r.place x → GivenIs inp g (was ⇒ got) m p x
 given_follows g {was} {got} {r = r} {x = x} holding walks follows = record {
@@ -120,7 +120,7 @@ resumed_by_holds Spent left assigned parts = refl
 
 -- with no pair left, what comes of a level from there
 pub given_ends : {inp : Handed} (g : List ℕ) {was got : Lent} {m : Marks} {p : Place} {r : Stopped} {parts stack : List ℕ}
-    → HeldAt inp was m p → Walks inp was m p parts stack r → r.stop ≡ NoPair → (x : Known) {o : Finding} → x ≡ resumed_as o
+    → HeldAt inp was m p → Walks inp was m p parts stack r → r.stop ≡ NoPair → (x : Option Finding) {o : Finding} → x ≡ resumed_as o
     → RestIs inp (lent_of r.assigned r.left parts stack ⇒ got) r.marks r.place o → GivenIs inp g (was ⇒ got) m p x
 given_ends {inp} g {was} {got} {r = r} holding walks e x {o} is rest = record {
   replies = λ s h k l.
@@ -128,7 +128,7 @@ given_ends {inp} g {was} {got} {r = r} holding walks e x {o} is rest = record {
       let i : walk_of turns inp.table inp.classes inp.pattern inp.bytes s was.left ≡ walked NoPair r.left w.end =
       w.so ∙ ap (λ (y : Stop). walked y r.left w.end) e in
       given_stops k _ _ _ _ g s was.left NoPair r.left w.end (pass_in x got) (omega arith) i
-      (ap (λ (y : Known). pass_in y got) is ∙ resumed_by_holds o got.left got.assigned got.parts
+      (ap (λ (y : Option Finding). pass_in y got) is ∙ resumed_by_holds o got.left got.assigned got.parts
       ∙ ap (λ (y : Reply). resumed_by y.outcome y.left) (rest.replies w.end w.moved.holds k (omega (arith, w.moved.further, l))
       ∙ sym (level_stops k _ _ _ _ w.end r.left NoPair r.left w.end
       (complements_of (levels_in inp (k - 1)) inp.pattern w.end.parts w.end.waiting r.left) (omega arith)
@@ -137,25 +137,25 @@ given_ends {inp} g {was} {got} {r = r} holding walks e x {o} is rest = record {
 }
 
 module _ (inp : Handed) (g : List ℕ) (was : Lent) (m : Marks) (p : Place) where
-  pub given_fails : (stop : Stop) → stop ≡ Failure → GivenFollows inp g (was ⇒ was) stop m p Unknown
+  pub given_fails : (stop : Stop) → stop ≡ Failure → GivenFollows inp g (was ⇒ was) stop m p None
   given_fails stop e = rw e (record { replies = λ s h k l. refl; kept = kept_all })
 
-  pub given_spent : (stop : Stop) → stop ≡ NoAllowance → GivenFollows inp g (was ⇒ was) stop m p (Ended Spent)
+  pub given_spent : (stop : Stop) → stop ≡ NoAllowance → GivenFollows inp g (was ⇒ was) stop m p (Some Spent)
   given_spent stop e = rw e (record { replies = λ s h k l. refl; kept = kept_all })
 
   -- an unassigned run name
 
-  pub given_run : (stop : Stop) (v w : ℕ) → stop ≡ RunName v → w ≡ v → {x : Known} {got : Lent}
+  pub given_run : (stop : Stop) (v w : ℕ) → stop ≡ RunName v → w ≡ v → {x : Option Finding} {got : Lent}
       → GivenFollows inp g (was ⇒ got) (RunName w) m p x → GivenFollows inp g (was ⇒ got) stop m p x
   given_run stop v w e f {x} {got} r =
       subst (λ (y : Stop). GivenFollows inp g (was ⇒ got) y m p x) (ap (λ (i : ℕ). RunName i) f ∙ sym e) r
 
-  pub given_none : (v : ℕ) → was.left ≡ 0 → GivenFollows inp g (was ⇒ was) (RunName v) m p (Ended Spent)
+  pub given_none : (v : ℕ) → was.left ≡ 0 → GivenFollows inp g (was ⇒ was) (RunName v) m p (Some Spent)
   unfolding given_length_of
   given_none v z = record { replies = λ s h k l. rw (eq-eqb was.left 0 z); kept = kept_all }
 
   pub given_unfit : (v : ℕ) → (was.left ≡ 0 → ⊥) → p.elements < get_or g v 0 → (left : ℕ)
-      → GivenFollows inp g (was ⇒ lent_of was.assigned left was.parts was.stack) (RunName v) m p Unknown
+      → GivenFollows inp g (was ⇒ lent_of was.assigned left was.parts was.stack) (RunName v) m p None
   unfolding given_length_of
   given_unfit v z i left = record {
     replies = λ s h k l.
@@ -171,19 +171,19 @@ given_fits : (gl : State → ℕ → Pass) (lv : State → ℕ → Reply) (table
 unfolding given_length_of
 given_fits gl lv table bytes n v s left z i = rw (ne_eqb left 0 z, le-ltb s.place.elements n i)
 
-stays : (x : Known) (left assigned : ℕ) (parts : List ℕ) (f : ℕ → Reply) → resuming x ≡ false
+stays : (x : Option Finding) (left assigned : ℕ) (parts : List ℕ) (f : ℕ → Reply) → resuming x ≡ false
     → pass_by x left assigned parts ≡ or_further (pass_by x left assigned parts) f
-stays (Ended Found) left assigned parts f h = refl
-stays (Ended Failed) left assigned parts f h = absurd (true≢false h)
-stays (Ended Spent) left assigned parts f h = refl
-stays Unknown left assigned parts f h = refl
+stays (Some Found) left assigned parts f h = refl
+stays (Some Failed) left assigned parts f h = absurd (true≢false h)
+stays (Some Spent) left assigned parts f h = refl
+stays None left assigned parts f h = refl
 
-goes_on : (x : Known) (left assigned : ℕ) (parts : List ℕ) (f : ℕ → Reply) → resuming x ≡ true
+goes_on : (x : Option Finding) (left assigned : ℕ) (parts : List ℕ) (f : ℕ → Reply) → resuming x ≡ true
     → or_further (pass_by x left assigned parts) f ≡ ends (f left)
-goes_on (Ended Found) left assigned parts f h = absurd (true≢false (sym h))
-goes_on (Ended Failed) left assigned parts f h = refl
-goes_on (Ended Spent) left assigned parts f h = absurd (true≢false (sym h))
-goes_on Unknown left assigned parts f h = absurd (true≢false (sym h))
+goes_on (Some Found) left assigned parts f h = absurd (true≢false (sym h))
+goes_on (Some Failed) left assigned parts f h = refl
+goes_on (Some Spent) left assigned parts f h = absurd (true≢false (sym h))
+goes_on None left assigned parts f h = absurd (true≢false (sym h))
 
 module _ (inp : Handed) (g : List ℕ) (was : Lent) (v n node : ℕ) (m : Marks) (p : Place) where
   -- the given length is taken, up to a byte, and the variable's part is written
@@ -232,7 +232,7 @@ module _ (inp : Handed) (g : List ℕ) (was : Lent) (v n node : ℕ) (m : Marks)
     taken_holding = record { state = tried t.holding.state v n size; holds = taken_holds t.holding.state t.holding.holds }
 
     -- what the rest of the level makes of it
-    module _ {x : Known} {got : Lent} (rest : GivenIs inp g (given ⇒ got) m q x) where
+    module _ {x : Option Finding} {got : Lent} (rest : GivenIs inp g (given ⇒ got) m q x) where
       taken_is : (s : State) → Starts s → (k : ℕ) → levels inp.pattern p.at - 1 ≤ k
           → pass_in x got ≡ given_in inp g k (tried s v n size) (was.left - 1)
       taken_is s h k l =
@@ -269,7 +269,7 @@ module _ (inp : Handed) (g : List ℕ) (was : Lent) (v n node : ℕ) (m : Marks)
 
       pub given_goes_on : resuming x ≡ true → {o : Finding} {got' : Lent}
           → FurtherIs inp (lent_of was.assigned got.left got.parts got.stack ⇒ got') v n size m p o
-          → GivenFollows inp g (was ⇒ got') (RunName v) m p (Ended o)
+          → GivenFollows inp g (was ⇒ got') (RunName v) m p (Some o)
       given_goes_on f r = record {
         replies = λ s h k l.
             ap ends (r.replies s (restored taken_kept h) k l) ∙ sym (goes_on x got.left got.assigned got.parts (λ i. after s k i) f)
@@ -280,7 +280,7 @@ module _ (inp : Handed) (g : List ℕ) (was : Lent) (v n node : ℕ) (m : Marks)
 -- pairs that fail
 pub given_unknown : {inp : Handed} (g : List ℕ) {was : Lent} {m : Marks} {p : Place} {r : Stopped} {parts stack : List ℕ} (assigned left : ℕ)
     → HeldAt inp was m p → PairsAre inp was m p parts stack r → r.stop ≡ Failure
-    → GivenIs inp g (was ⇒ lent_of assigned left parts stack) m p Unknown
+    → GivenIs inp g (was ⇒ lent_of assigned left parts stack) m p None
 given_unknown {inp} g {was} {m} {stack = stack} assigned left holding pairs e =
     let f = met_fails pairs ∙ ap failure e in
     let x =

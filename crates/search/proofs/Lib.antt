@@ -19,3 +19,4 @@ pub mod Spreads
 pub mod Nexts
 pub mod Lefts
 pub mod Shown
+pub mod Findings

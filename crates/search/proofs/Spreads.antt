@@ -4,7 +4,7 @@ use Prim.Native.Nat.{ℕ, zero, suc, ◌+◌, ◌-◌, ◌^◌, ◌<◌, ◌≤�
 use native.Mathlib.Omega.{arith}
 use mathlib.Core.Path.{◌≡◌, refl, sym, ap, subst, ◌∙◌, ap₂}
 use mathlib.Core.List.{List, [], ◌∷◌}
-use mathlib.Core.Bool.{Bool, true, false, cond}
+use mathlib.Core.Bool.{Bool, true, false, cond, true≢false}
 use lib.Bits.{bit_or}
 use lib.ListN.{length, get_or, take, drop, set, drop_of_length-le}
 use lib.Seq.{drop-drop}
@@ -83,31 +83,30 @@ module _ (table s : List ℕ) (c : Code) (is_code : c ≡ decode_of (get_or s 0 
   past_complement e x f w = (f ∙ sym (past_is ∙ ap (λ (y : Code). past_by y table s) e), omega arith)
 
 module _ (table pattern given out₀ : List ℕ) where
-  pub record Spreading (at seen n : ℕ) (out : List ℕ) : Type 0 where
-    pub few : n ≤ length given
-    pub many : length (free_in table pattern) ≡ n + length (unseen seen (runs_from table (drop at pattern) 0))
-    pub same : spread_to (free_in table pattern) given out₀ ≡ spread_to (unseen seen (runs_from table (drop at pattern) 0)) (drop n given) out
+  -- the run names that are left, and the lengths for them
+  pub record Spreading (at seen : ℕ) (rest out : List ℕ) : Type 0 where
+    pub many : length given + length (unseen seen (runs_from table (drop at pattern) 0)) ≡ length (free_in table pattern) + length rest
+    pub same : spread_to (free_in table pattern) given out₀ ≡ spread_to (unseen seen (runs_from table (drop at pattern) 0)) rest out
 
-  pub spread_first : Spreading 0 0 0 out₀
-  spread_first = record { few = omega arith; many = omega arith; same = refl }
+  pub spread_first : Spreading 0 0 given out₀
+  spread_first = record { many = omega arith; same = refl }
 
-  module _ {at seen n : ℕ} {out : List ℕ} (s : Spreading at seen n out) where
-    pub spread_end : length pattern ≤ at → (r : Bool) → r ≡ eqb n (length given) → SpreadIs table pattern given out₀ out r
+  module _ {at seen : ℕ} {rest out : List ℕ} (s : Spreading at seen rest out) where
+    pub spread_end : length pattern ≤ at → (r : Bool) → r ≡ eqb (length rest) 0 → SpreadIs table pattern given out₀ out r
     unfolding runs_from unseen spread_to
     spread_end h r e =
         let z = drop_of_length-le pattern h in
         let x : unseen seen (runs_from table (drop at pattern) 0) ≡ [] = ap (λ (l : List ℕ). unseen seen (runs_from table l 0)) z in
-        let m : n ≡ length (free_in table pattern) = omega (arith, s.many, ap length x) in record {
-          even = e ∙ swap n (length given) ∙ ap (eqb (length given)) m;
-          put = λ t. sym (s.same ∙ ap (λ (vs : List ℕ). spread_to vs (drop n given) out) x);
+        let m : length given ≡ length (free_in table pattern) + length rest = omega (arith, s.many, ap length x) in record {
+          even = e ∙ none (eqb (length rest) 0) refl m;
+          put = λ t. sym (s.same ∙ ap (λ (vs : List ℕ). spread_to vs rest out) x);
         }
       where
-        swap : (a b : ℕ) → eqb a b ≡ eqb b a
-        swap a b = go (eqb b a) refl
-          where
-            go : (m : Bool) → eqb b a ≡ m → eqb a b ≡ m
-            go true e = eq-eqb a b (sym (eqb-true b a e))
-            go false e = ne_eqb a b (λ x. eqb-false b a e (sym x))
+        none : (b : Bool) → eqb (length rest) 0 ≡ b → length given ≡ length (free_in table pattern) + length rest
+            → eqb (length rest) 0 ≡ eqb (length given) (length (free_in table pattern))
+        none true f m = f ∙ sym (eq-eqb (length given) (length (free_in table pattern)) (omega (arith, m, eqb-true (length rest) 0 f)))
+        none false f m =
+            f ∙ sym (ne_eqb (length given) (length (free_in table pattern)) (λ y. eqb-false (length rest) 0 f (omega (arith, m, y))))
 
     module _ (l : at < length pattern) (r : ℕ) (is_r : r ≡ past_of table (take (length pattern - at) (drop at pattern))) where
       abbrev next : ℕ
@@ -124,57 +123,45 @@ module _ (table pattern given out₀ : List ℕ) where
           runs_at table pattern at l
           ∙ ap₂ (λ (x : Code) (k : ℕ). run_here x (runs_from table (drop k pattern) 0)) (sym e) (sym is_next)
 
+      goes_on : unseen seen (runs_from table (drop at pattern) 0) ≡ unseen seen (runs_from table (drop next pattern) 0) → Spreading (at + r) seen rest out
+      goes_on x = record {
+        many = omega (arith, s.many, ap length x);
+        same = s.same ∙ ap (λ (vs : List ℕ). spread_to vs rest out) x;
+      }
+
       -- nothing to put here
-      pub spread_past : (c : Code) → c ≡ decode_of (get_or pattern at 0) → ((vs : List ℕ) → run_here c vs ≡ vs) → Spreading (at + r) seen n out
-      spread_past c e f =
-          let x = left_is c e ∙ f (runs_from table (drop next pattern) 0) in record {
-            few = s.few;
-            many = s.many ∙ ap (λ (vs : List ℕ). n + length (unseen seen vs)) x;
-            same = s.same ∙ ap (λ (vs : List ℕ). spread_to (unseen seen vs) (drop n given) out) x;
-          }
+      pub spread_past : (c : Code) → c ≡ decode_of (get_or pattern at 0) → ((vs : List ℕ) → run_here c vs ≡ vs) → Spreading (at + r) seen rest out
+      spread_past c e f = goes_on (ap (unseen seen) (left_is c e ∙ f (runs_from table (drop next pattern) 0)))
 
       module _ (c : Code) (is_code : c ≡ decode_of (get_or pattern at 0)) (v : ℕ) (is_run : c ≡ Run v) where
         run_left : runs_from table (drop at pattern) 0 ≡ v ∷ runs_from table (drop next pattern) 0
         run_left = left_is c is_code ∙ ap (λ (x : Code). run_here x (runs_from table (drop next pattern) 0)) is_run
 
-        seen_left : bit seen v ≡ true → unseen seen (runs_from table (drop at pattern) 0) ≡ unseen seen (runs_from table (drop next pattern) 0)
+        pub spread_seen : bit seen v ≡ true → Spreading (at + r) seen rest out
         unfolding unseen
-        seen_left b = ap (unseen seen) run_left ∙ rw b
+        spread_seen b = goes_on (ap (unseen seen) run_left ∙ rw b)
 
         new_left : bit seen v ≡ false
             → unseen seen (runs_from table (drop at pattern) 0) ≡ v ∷ unseen (bit_or seen (2 ^ v)) (runs_from table (drop next pattern) 0)
         unfolding unseen
         new_left b = ap (unseen seen) run_left ∙ rw b
 
-        pub spread_seen : bit seen v ≡ true → Spreading (at + r) seen n out
-        spread_seen b = record {
-          few = s.few;
-          many = s.many ∙ ap (λ (vs : List ℕ). n + length vs) (seen_left b);
-          same = s.same ∙ ap (λ (vs : List ℕ). spread_to vs (drop n given) out) (seen_left b);
-        }
-
-        pub spread_short : bit seen v ≡ false → length given ≤ n → SpreadIs table pattern given out₀ out false
+        pub spread_short : bit seen v ≡ false → length rest ≡ 0 → SpreadIs table pattern given out₀ out false
         spread_short b h =
             let x = ap length (new_left b) in record {
-              even = sym (ne_eqb (length given) (length (free_in table pattern)) (λ z. omega (arith, z, s.many, x)));
-              put = λ t. absurd (absurd_false t);
+              even = sym (ne_eqb (length given) (length (free_in table pattern)) (λ z. omega (arith, z, s.many, h, x)));
+              put = λ t. absurd (true≢false (sym t));
             }
-          where
-            absurd_false : false ≡ true → ⊥
-            absurd_false t = let z : ◌≡◌ {A = ℕ} 0 1 = cc in omega arith
 
-        pub spread_new : bit seen v ≡ false → n < length given → (seen' i : ℕ) → seen' ≡ bit_or seen (2 ^ i) → i ≡ v
-            → Spreading (at + r) seen' (n + 1) (set out i (get_or given n 0))
+        pub spread_new : bit seen v ≡ false → (first : ℕ) (others : List ℕ) → rest ≡ first ∷ others → (seen' i : ℕ) → seen' ≡ bit_or seen (2 ^ i) → i ≡ v
+            → Spreading (at + r) seen' others (set out i first)
         unfolding spread_to
-        spread_new b h seen' i g f =
+        spread_new b first others y seen' i g f =
             let e : seen' ≡ bit_or seen (2 ^ v) = g ∙ ap (λ (k : ℕ). bit_or seen (2 ^ k)) f in
-            let x = new_left b in
-            let y = next_at given n h in
-            let m : length (unseen seen (runs_from table (drop at pattern) 0)) ≡ suc (length (unseen seen' (runs_from table (drop next pattern) 0))) =
-            ap length x ∙ ap (λ (k : ℕ). suc (length (unseen k (runs_from table (drop next pattern) 0)))) (sym e) in record {
-              few = omega arith;
-              many = omega (arith, s.many, m);
+            let x : unseen seen (runs_from table (drop at pattern) 0) ≡ v ∷ unseen seen' (runs_from table (drop next pattern) 0) =
+            new_left b ∙ ap (λ (k : ℕ). v ∷ unseen k (runs_from table (drop next pattern) 0)) (sym e) in record {
+              many = omega (arith, s.many, ap length x, ap length y);
               same = s.same
                   ∙ ap₂ (λ (vs ns : List ℕ). spread_to vs ns out) x y
-                  ∙ ap₂ (λ (k j : ℕ). spread_to (unseen k (runs_from table (drop next pattern) 0)) (drop (n + 1) given) (set out j (get_or given n 0))) (sym e) (sym f);
+                  ∙ ap (λ (j : ℕ). spread_to (unseen seen' (runs_from table (drop next pattern) 0)) others (set out j first)) (sym f);
             }

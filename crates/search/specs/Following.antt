@@ -1,5 +1,5 @@
 -- The answer after a given one, on bytes: "where the given lengths are not one for each free run name" it is unknown before any search.
-use Rattle.std.specs.Prelude.{ℕ, List, cond, ◌&&◌, length, replicate, leb, eqb}
+use Rattle.std.specs.Prelude.{ℕ, List, Option, Some, None, cond, ◌&&◌, length, replicate, leb, eqb}
 use Rattle.answers.specs.declared.Part.{Part}
 use Rattle.term.specs.Code.{variables}
 use Rattle.term.specs.Limits.{longest_record, longest_pattern}
@@ -7,8 +7,7 @@ use Rattle.search.specs.Given.{Pass, ends, unknown, pass_of}
 use Rattle.search.specs.Shown.{shown_by, shown_in}
 use Rattle.search.specs.Spread.{free_in, spread_to}
 use Rattle.search.specs.declared.Followed.{Followed}
-use Rattle.search.specs.declared.Known.{Known}
-use Rattle.search.specs.declared.Known.TheVariants.{Ended, Unknown}
+use Rattle.search.specs.declared.Finding.{Finding}
 
 unfoldable pub next_pass : List ℕ → List ℕ → List ℕ → List ℕ → List ℕ → ℕ → Pass
 next_pass table classes pattern bytes given allowance =
@@ -18,18 +17,18 @@ next_pass table classes pattern bytes given allowance =
     unknown
 
 -- how it ends, with what is left of the allowance: all of it where the lengths are unknown, which count nothing
-abbrev pub followed : Known → ℕ → Followed
+abbrev pub followed : Option Finding → ℕ → Followed
 followed known left = record { known = known; left = left }
 
 abbrev pub followed_of : ℕ → Pass → Followed
-followed_of allowance (ends r) = followed (Ended r.outcome) r.left
-followed_of allowance unknown = followed Unknown allowance
+followed_of allowance (ends r) = followed (Some r.outcome) r.left
+followed_of allowance unknown = followed None allowance
 
 -- what it shows in the answer buffer
 abbrev pub shown_pass : Pass → List ℕ → List ℕ
 shown_pass (ends r) before = shown_in r before
 shown_pass unknown before = before
 
-abbrev pub shown_known : Known → List Part → List ℕ → List ℕ
-shown_known (Ended outcome) parts before = shown_by outcome parts before
-shown_known Unknown parts before = before
+abbrev pub shown_known : Option Finding → List Part → List ℕ → List ℕ
+shown_known (Some outcome) parts before = shown_by outcome parts before
+shown_known None parts before = before

@@ -6,14 +6,8 @@ use parts::{PARTS, part_of};
 use steps::stands;
 use term::{Code, decode, entry_of, same_symbol};
 
-// How the search of a level ends, where its first pair alone decides that.
-#[derive(Clone, Copy)]
-pub enum FirstPair {
-    Decided(Finding),
-    Unsure,
-}
-
-// A level's first pair decides it where the pattern has a symbol that is not the record's, or one without children that is.
+// How the search of a level ends, where its first pair alone decides that: where the pattern has a symbol that is not the record's, or one without
+// children that is.
 pub(crate) fn first_pair(
     table: &[u8],
     classes: &[u8],
@@ -21,29 +15,22 @@ pub(crate) fn first_pair(
     record: &[u8],
     node: usize,
     left: u32,
-) -> FirstPair
+) -> Option<Finding>
     ensures { Decides table.now classes.now pattern.now «record».now node left result }
 {
-    if left == 0 {
-        return FirstPair::Unsure;
+    if left == 0 || pattern.len() == 0 || record.len() <= node {
+        return None;
     }
-    if pattern.len() == 0 {
-        return FirstPair::Unsure;
-    }
-    if record.len() <= node {
-        return FirstPair::Unsure;
-    }
-    let code = decode(pattern[0]);
-    let Code::Symbol(b) = code else {
-        return FirstPair::Unsure;
+    let Code::Symbol(b) = decode(pattern[0]) else {
+        return None;
     };
     if !same_symbol(classes, b, record[node]) {
-        return FirstPair::Decided(Finding::Failed);
+        return Some(Finding::Failed);
     }
     if entry_of(table, b) == 0 {
-        return FirstPair::Decided(Finding::Found);
+        return Some(Finding::Found);
     }
-    FirstPair::Unsure
+    None
 }
 
 // So does a name, where a complement drops what it is assigned: an unassigned one takes the node, an assigned one must equal it.
@@ -56,33 +43,26 @@ fn name_pair(
     assigned: u64,
     node: usize,
     left: u32,
-) -> FirstPair
+) -> Option<Finding>
     ensures { DecidesInside table.now classes.now pattern.now «record».now assigned parts.now node left result }
 {
-    if left == 0 {
-        return FirstPair::Unsure;
+    if left == 0 || pattern.len() == 0 || record.len() <= node {
+        return None;
     }
-    if pattern.len() == 0 {
-        return FirstPair::Unsure;
-    }
-    if record.len() <= node {
-        return FirstPair::Unsure;
-    }
-    let code = decode(pattern[0]);
-    let Code::Name(v) = code else {
-        return FirstPair::Unsure;
+    let Code::Name(v) = decode(pattern[0]) else {
+        return None;
     };
     let part = part_of(parts, assigned, v);
     if part.is_absent() {
-        return FirstPair::Decided(Finding::Found);
+        return Some(Finding::Found);
     }
     if part.elements != 1 {
-        return FirstPair::Unsure;
+        return None;
     }
     if stands(table, classes, record, part, &record[node..]) {
-        return FirstPair::Decided(Finding::Found);
+        return Some(Finding::Found);
     }
-    FirstPair::Decided(Finding::Failed)
+    Some(Finding::Failed)
 }
 
 // How the inside of a complement ends, where its first pair alone decides that.
@@ -95,12 +75,10 @@ pub(crate) fn at_once(
     assigned: u64,
     node: usize,
     left: u32,
-) -> FirstPair
+) -> Option<Finding>
     ensures { DecidesInside table.now classes.now pattern.now «record».now assigned parts.now node left result }
 {
-    let first = first_pair(table, classes, pattern, record, node, left);
-    if let FirstPair::Decided(outcome) = first {
-        return FirstPair::Decided(outcome);
-    }
-    name_pair(table, classes, pattern, record, parts, assigned, node, left)
+    first_pair(table, classes, pattern, record, node, left).or_else(|| name_pair(
+        table, classes, pattern, record, parts, assigned, node, left,
+    ))
 }

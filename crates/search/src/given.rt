@@ -6,50 +6,38 @@ ghost use Rattle.parts.specs.Packed.{bit};
 ghost use Rattle.search.specs.Inner.Memory.{Holding};
 ghost use Rattle.search.specs.Inner.Lent.{input, lent, handed};
 ghost use Rattle.search.specs.Spread.{past_of};
-ghost use Rattle.search.specs.Inner.GivenReplies.{resuming, resumed_as, left_by, FurtherIs, GivenFollows, GivenIs, SpreadIs};
+ghost use Rattle.search.specs.Inner.GivenReplies.{resumed_as, left_by, FurtherIs, GivenFollows, GivenIs, SpreadIs};
 ghost use Rattle.search.specs.Inner.Bounds.{Short, Ready};
 ghost use Rattle.search.specs.Inner.Halts.{PairsAre};
 
+use crate::Finding;
 use crate::halt::reported;
 use crate::level::{MOST_ELEMENTS, level, start_level};
 use crate::marks::{Marks, STACK};
 use crate::place::Place;
-use crate::skip::{ANYTHING, wanted};
-use crate::walk::{Stopped, also, wide};
-use crate::{Finding, Known, is_failed};
+use crate::skip::{Want, wanted};
+use crate::walk::{Stopped, also};
 use answers::Part;
 use parts::{PARTS, is_assigned, packed};
 use steps::Stop;
 use term::{Code, LIST, VARIABLES, decode, entry_of, extent, extents};
 
-fn is_resumed(known: Known) -> bool
-    ensures { result ≡ resuming known }
-{
-    match known {
-        Known::Ended(outcome) => is_failed(outcome),
-        Known::Unknown => false,
-    }
-}
-
 // The given answer is known where the complements put by hold; the search goes on as after a failure.
-fn resumed(outcome: Finding) -> Known
+fn resumed(outcome: Finding) -> Option<Finding>
     ensures { result ≡ resumed_as outcome }
 {
     match outcome {
-        Finding::Found => Known::Ended(Finding::Failed),
-        Finding::Failed => Known::Unknown,
-        Finding::Spent => Known::Ended(Finding::Spent),
+        Finding::Found => Some(Finding::Failed),
+        Finding::Failed => None,
+        Finding::Spent => Some(Finding::Spent),
     }
 }
 
 // Unknown lengths count nothing.
-pub(crate) fn left_of(known: Known, left: u32, allowance: u32) -> u32
+pub(crate) fn left_of(known: Option<Finding>, left: u32, allowance: u32) -> u32
     ensures { result ≡ left_by known left allowance }
 {
-    match known {
-        Known::Ended(_) => left,
-        Known::Unknown => allowance,
-    }
+    if known.is_some() { left } else { allowance }
 }
 
 // The bytes of the pattern node at the start of s, and of a complement those of its inside too.
@@ -84,28 +72,25 @@ pub(crate) fn spread(
 {
     let mut at: usize = 0;
     let mut seen: u64 = 0;
-    let mut n: usize = 0;
+    let mut rest = given;
     while at < pattern.len() {
         let code = decode(pattern[at]);
-        let next = at + past(table, &pattern[at..]);
+        at += past(table, &pattern[at..]);
         let Code::Run(v) = code else {
-            at = next;
             continue;
         };
         if is_assigned(seen, v) {
-            at = next;
             continue;
         }
-        if given.len() <= n {
+        let Some((&first, others)) = rest.split_first() else {
             return false;
-        }
-        let i = wide(v);
+        };
+        let i = usize::from(v);
         seen = also(seen, i);
-        lengths[i] = given[n];
-        n = n + 1;
-        at = next;
+        lengths[i] = first;
+        rest = others;
     }
-    n == given.len()
+    rest.is_empty()
 }
 
 // The byte behind so many elements.
@@ -144,7 +129,7 @@ fn further(
     if *left == 0 {
         return Finding::Spent;
     }
-    *left = *left - 1;
+    *left -= 1;
     let end = node + extent(table, &record[node..]);
     let next = place.passed(n + 1, 1, end - place.node);
     parts[v] = packed(Part::bound(place.node, end - place.node, n + 1));
@@ -199,7 +184,7 @@ fn pairs(
         VARIABLES,
         true,
         MOST_ELEMENTS,
-        ANYTHING,
+        Want::Anything,
         marks.nodes(),
         marks.queue(),
         start.remaining(),
@@ -223,7 +208,7 @@ pub(crate) fn given_rest(
     left: &mut u32,
     marks: Marks,
     start: Place,
-) -> Known
+) -> Option<Finding>
     requires holding { Holding (length pattern.now) (length «record».now) assigned.old parts.old stack.old marks start }
     requires short { Short pattern.now «record».now }
     ensures { GivenIs (input table classes pattern «record») given.now (lent assigned left parts stack) marks start result }
@@ -237,8 +222,8 @@ pub(crate) fn given_rest(
     *left = walked.left;
     *assigned = walked.assigned;
     match stop {
-        Stop::Failure => Known::Unknown,
-        Stop::NoAllowance => Known::Ended(Finding::Spent),
+        Stop::Failure => None,
+        Stop::NoAllowance => Some(Finding::Spent),
         Stop::NoPair => resumed(start_level(
             table, classes, pattern, record, parts, stack, assigned, left, ends, end,
         )),
@@ -252,7 +237,7 @@ pub(crate) fn given_rest(
             stack,
             assigned,
             left,
-            wide(v),
+            usize::from(v),
             ends,
             end,
         ),
@@ -274,19 +259,19 @@ fn given_length(
     v: usize,
     marks: Marks,
     place: Place,
-) -> Known
+) -> Option<Finding>
     requires holding { Holding (length pattern.now) (length «record».now) assigned.old parts.old stack.old marks place }
     requires ready { Ready (length pattern.now) v place × (bit assigned.old v ≡ false) }
     requires short { Short pattern.now «record».now }
     ensures { GivenFollows (input table classes pattern «record») given.now (lent assigned left parts stack) (Stop.RunName v) marks place result }
 {
     if *left == 0 {
-        return Known::Ended(Finding::Spent);
+        return Some(Finding::Spent);
     }
-    *left = *left - 1;
+    *left -= 1;
     let length = given[v];
     if (place.elements as u16) < length {
-        return Known::Unknown;
+        return None;
     }
     let n = (length % 256) as u8;
     let node = behind(table, record, place.node, n);
@@ -297,11 +282,11 @@ fn given_length(
     let x = given_rest(
         table, classes, pattern, record, given, parts, stack, assigned, left, marks, past,
     );
-    if !is_resumed(x) {
+    if x != Some(Finding::Failed) {
         return x;
     }
     *assigned = before;
-    Known::Ended(further(
+    Some(further(
         table, classes, pattern, record, parts, stack, assigned, left, v, n, node, marks, place,
     ))
 }

@@ -5,7 +5,7 @@ ghost use Rattle.search.specs.Inner.Halts.{halted_as, run_of, stop_in, reported_
 use crate::Finding;
 use crate::marks::Marks;
 use crate::place::Place;
-use crate::walk::{Stopped, wide};
+use crate::walk::Stopped;
 use answers::Part;
 use parts::{PARTS, packed, unpacked};
 use steps::Stop;
@@ -18,24 +18,21 @@ fn halted(stop: Stop) -> Finding
     match stop {
         Stop::Failure => Finding::Failed,
         Stop::NoAllowance => Finding::Spent,
-        Stop::NoPair => Finding::Found,
-        Stop::RunName(_) => Finding::Found,
+        Stop::NoPair | Stop::RunName(_) => Finding::Found,
     }
 }
 
-// The run name of a stop, or `VARIABLES` for none.
+// The run name of a stop, or `VARIABLES` for none: a number, as it stands in a part.
 fn run_of(stop: Stop) -> usize
     ensures { result ≡ run_of stop }
 {
     match stop {
-        Stop::Failure => VARIABLES,
-        Stop::NoAllowance => VARIABLES,
-        Stop::NoPair => VARIABLES,
-        Stop::RunName(v) => wide(v),
+        Stop::Failure | Stop::NoAllowance | Stop::NoPair => VARIABLES,
+        Stop::RunName(v) => usize::from(v),
     }
 }
 
-// Where a level halts, as the numbers of three parts.
+// Where a level halts, as the numbers of three parts: a buffer that each level has, where a struct would be one more argument of all of them.
 pub(crate) fn report(parts: &mut [u64; PARTS], stop: Stop, marks: Marks, place: Place) -> Finding
     ensures { Reports parts.old stop marks place result parts.new }
 {
@@ -77,7 +74,7 @@ pub(crate) fn reported(
     let marks = Marks {
         inner: open.offset as usize,
         frames: open.length as usize,
-        first: first,
+        first,
         waiting: put_by.offset as usize,
     };
     let place = Place {
@@ -86,11 +83,11 @@ pub(crate) fn reported(
         at: here.length as usize,
         node: here.offset as usize,
     };
-    Stopped::of(
-        stop_of(outcome, put_by.length),
+    Stopped {
+        stop: stop_of(outcome, put_by.length),
         left,
         assigned,
         marks,
         place,
-    )
+    }
 }

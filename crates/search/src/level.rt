@@ -3,16 +3,16 @@ ghost use Rattle.std.specs.Prelude.{◌≡◌, length};
 ghost use Rattle.search.specs.Inner.Memory.{put_by_in, Holding};
 ghost use Rattle.search.specs.Inner.Lent.{input, lent};
 ghost use Rattle.search.specs.Inner.Bounds.{Short, StopsAt, Unassigned};
-ghost use Rattle.search.specs.Inner.Replies.{failure, Resting, Testable, RestIs, FollowIs, ComplementIs, ComplementsAre};
+ghost use Rattle.search.specs.Inner.Replies.{Resting, Testable, RestIs, FollowIs, ComplementIs, ComplementsAre};
 ghost use Rattle.search.specs.Inner.Halts.{RestBy, BegunAt, LevelsAt};
 
-use crate::first::{FirstPair, at_once};
+use crate::first::at_once;
 use crate::halt::report;
 use crate::marks::{LAST, Marks, Nodes, Queue, STACK};
 use crate::place::{Next, Place, Remaining};
-use crate::skip::{ANYTHING, lengthen, skip_where, wanted};
-use crate::walk::{also, onward, wide};
-use crate::{Finding, is_failed, is_found, opposite};
+use crate::skip::{Want, lengthen, skip_where, wanted};
+use crate::walk::{also, onward};
+use crate::{Finding, opposite};
 use answers::Part;
 use parts::{PARTS, packed};
 use steps::Stop;
@@ -21,19 +21,9 @@ use term::VARIABLES;
 // No node has more elements.
 pub(crate) const MOST_ELEMENTS: u8 = 255;
 
-fn is_failure(stop: Stop) -> bool
-    ensures { result ≡ failure stop }
-{
-    match stop {
-        Stop::Failure => true,
-        Stop::NoAllowance => false,
-        Stop::NoPair => false,
-        Stop::RunName(_) => false,
-    }
-}
-
 // The variable v has a part of the elements before the place, and is given one element more while the rest of the level fails and more than `least`
-// are left. At a level's start v is `VARIABLES`, for none, and `least` `MOST_ELEMENTS`. A level that halts only reports where its pairs stop.
+// are left. At a level's start v is `VARIABLES`, for none, and `least` `MOST_ELEMENTS`: the number is a bit that no variable has, where an Option
+// would be one more case of each fact about a level. A level that halts only reports where its pairs stop.
 #[cycle(complement_complements_follow_lengths_level_rest_start_level)]
 pub(crate) fn level(
     table: &[u8],
@@ -47,7 +37,7 @@ pub(crate) fn level(
     v: usize,
     halts: bool,
     least: u8,
-    want: u8,
+    want: Want,
     nodes: Nodes,
     queue: Queue,
     remaining: Remaining,
@@ -62,19 +52,19 @@ pub(crate) fn level(
     let outside = *assigned;
     let seen = also(outside, v);
     let mut place = start;
-    let outcome = loop {
+    loop {
         *assigned = seen;
         let x = rest(
             table, classes, pattern, record, parts, stack, assigned, left, halts, marks, place,
         );
         if place.elements <= least {
-            break x;
+            return x;
         }
-        if !is_failed(x) {
-            break x;
+        if x != Finding::Failed {
+            return x;
         }
         if *left == 0 {
-            break Finding::Spent;
+            return Finding::Spent;
         }
         let k = lengthen(
             table,
@@ -90,11 +80,10 @@ pub(crate) fn level(
         );
         *left = k.left;
         if k.over {
-            break Finding::Failed;
+            return Finding::Failed;
         }
         place = k.place;
-    };
-    outcome
+    }
 }
 
 // A level from a place, with these marks in use. (A function stores the slices that it hands on when it starts; the search calls `level` from
@@ -128,7 +117,7 @@ pub(crate) fn start_level(
         VARIABLES,
         false,
         MOST_ELEMENTS,
-        ANYTHING,
+        Want::Anything,
         marks.nodes(),
         marks.queue(),
         start.remaining(),
@@ -162,7 +151,7 @@ fn rest(
     let ends = w.marks;
     let end = w.place;
     *left = w.left;
-    if is_failure(stop) {
+    if let Stop::Failure = stop {
         return Finding::Failed;
     }
     *assigned = w.assigned;
@@ -247,7 +236,7 @@ fn lengths(
         return Finding::Failed;
     }
     let first = past.behind(k.lengths, k.node);
-    let i = wide(v);
+    let i = usize::from(v);
     parts[i] = packed(Part::bound(place.node, k.node - place.node, k.lengths));
     level(
         table,
@@ -294,8 +283,8 @@ fn complement(
     let first = at_once(
         table, classes, inside, record, parts, *assigned, node, *left,
     );
-    if let FirstPair::Decided(outcome) = first {
-        *left = *left - 1;
+    if let Some(outcome) = first {
+        *left -= 1;
         return opposite(outcome);
     }
     opposite(start_level(
@@ -330,18 +319,15 @@ fn complements(
     ensures { ComplementsAre (input table classes pattern «record») (lent assigned left parts stack) marks result }
 {
     let outside = *assigned;
-    let end = marks.waiting;
-    let mut i = marks.first;
-    while i < end {
+    for i in marks.first..marks.waiting {
         let c = stack[LAST - i];
         let x = complement(
             table, classes, pattern, record, parts, stack, assigned, left, c, marks,
         );
         *assigned = outside;
-        if !is_found(x) {
+        if x != Finding::Found {
             return x;
         }
-        i = i + 1;
     }
     Finding::Found
 }

@@ -16,12 +16,12 @@ mod skip;
 mod walk;
 
 ghost use Rattle.std.specs.Prelude.{◌≡◌};
-ghost use Rattle.search.specs.Level.{failed, end_of, search_of};
+ghost use Rattle.search.specs.Level.{end_of, search_of};
 ghost use Rattle.search.specs.Following.{next_pass, followed_of, shown_pass};
 ghost use Rattle.search.specs.Shown.{shown_in};
-ghost use Rattle.search.specs.Inner.Replies.{found, turned};
+ghost use Rattle.search.specs.Inner.Replies.{turned};
 
-use crate::first::{FirstPair, first_pair};
+use crate::first::first_pair;
 use crate::given::{given_rest, left_of, spread};
 use crate::level::start_level;
 use crate::marks::{Marks, STACK};
@@ -31,7 +31,7 @@ use parts::PARTS;
 use term::{LONGEST_PATTERN, LONGEST_RECORD, VARIABLES};
 
 // How a search ended.
-#[derive(Clone, Copy)]
+#[derive(Clone, Copy, PartialEq, Eq)]
 pub enum Finding {
     Found,
     Failed,
@@ -45,38 +45,11 @@ pub struct Ended {
     pub left: u32,
 }
 
-// The search after a given answer ends; or the lengths given belong to no answer.
-#[derive(Clone, Copy)]
-pub enum Known {
-    Ended(Finding),
-    Unknown,
-}
-
-// How the search after a given answer ends, and what is left of the allowance.
+// How the search after a given answer ends, unknown where the lengths given belong to no answer; and what is left of the allowance.
 #[derive(Clone, Copy)]
 pub struct Followed {
-    pub known: Known,
+    pub known: Option<Finding>,
     pub left: u32,
-}
-
-fn is_failed(outcome: Finding) -> bool
-    ensures { result ≡ failed outcome }
-{
-    match outcome {
-        Finding::Found => false,
-        Finding::Failed => true,
-        Finding::Spent => false,
-    }
-}
-
-fn is_found(outcome: Finding) -> bool
-    ensures { result ≡ found outcome }
-{
-    match outcome {
-        Finding::Found => true,
-        Finding::Failed => false,
-        Finding::Spent => false,
-    }
 }
 
 // A complement holds where the search of its inside fails.
@@ -115,11 +88,10 @@ pub fn search(
         };
     }
     // No buffer is made where the first pair decides: most rules of a sheet fail there.
-    let first = first_pair(table, classes, pattern, record, 0, allowance);
-    if let FirstPair::Decided(outcome) = first {
+    if let Some(outcome) = first_pair(table, classes, pattern, record, 0, allowance) {
         show_unassigned(outcome, answer);
         return Ended {
-            outcome: outcome,
+            outcome,
             left: allowance - 1,
         };
     }
@@ -140,10 +112,7 @@ pub fn search(
         Place::start(0),
     );
     show_found(outcome, &parts, assigned, answer);
-    Ended {
-        outcome: outcome,
-        left: left,
-    }
+    Ended { outcome, left }
 }
 
 // The answer after the one with the given run lengths, in order of the free run names; unknown where there is none of these lengths, or not one
@@ -162,27 +131,27 @@ pub fn search_next(
 {
     if LONGEST_PATTERN < pattern.len() {
         return Followed {
-            known: Known::Unknown,
+            known: None,
             left: allowance,
         };
     }
     if LONGEST_RECORD < record.len() {
         return Followed {
-            known: Known::Unknown,
+            known: None,
             left: allowance,
         };
     }
     let mut lengths = [0u16; VARIABLES];
     if !spread(table, pattern, given, &mut lengths) {
         return Followed {
-            known: Known::Unknown,
+            known: None,
             left: allowance,
         };
     }
     let mut parts = [0u64; PARTS];
     let mut stack = [0u32; STACK];
     let mut assigned: u64 = 0;
-    let mut left: u32 = allowance;
+    let mut left = allowance;
     let known = given_rest(
         table,
         classes,
@@ -198,7 +167,7 @@ pub fn search_next(
     );
     show_known(known, &parts, assigned, answer);
     Followed {
-        known: known,
+        known,
         left: left_of(known, left, allowance),
     }
 }

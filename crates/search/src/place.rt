@@ -51,8 +51,8 @@ impl Place {
         ensures { result ≡ entered self children elements width }
     {
         Place {
-            children: children,
-            elements: elements,
+            children,
+            elements,
             at: self.at + width,
             node: self.node + width,
         }
@@ -94,7 +94,7 @@ impl Place {
             children: 1,
             elements: 1,
             at: 0,
-            node: node,
+            node,
         }
     }
 
@@ -137,7 +137,7 @@ impl Place {
             children: self.children,
             elements: self.elements - elements,
             at: self.at,
-            node: node,
+            node,
         }
     }
 }

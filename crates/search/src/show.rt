@@ -6,14 +6,14 @@ ghost use Rattle.parts.specs.Packed.{parts_in};
 ghost use Rattle.search.specs.Following.{shown_known};
 ghost use Rattle.search.specs.Shown.{shown_by};
 
-use crate::{Finding, Known, is_found};
+use crate::Finding;
 use parts::{PARTS, show, show_absent};
 
 // What is found is shown, with all that is assigned or with nothing.
 pub(crate) fn show_found(outcome: Finding, parts: &[u64; PARTS], assigned: u64, answer: &mut [u16])
     ensures { answer.new ≡ shown_by outcome (parts_in assigned parts.now 0 variables) answer.old }
 {
-    if is_found(outcome) {
+    if outcome == Finding::Found {
         show(parts, assigned, answer);
     }
 }
@@ -21,16 +21,21 @@ pub(crate) fn show_found(outcome: Finding, parts: &[u64; PARTS], assigned: u64, 
 pub(crate) fn show_unassigned(outcome: Finding, answer: &mut [u16])
     ensures { answer.new ≡ shown_by outcome (replicate variables absent) answer.old }
 {
-    if is_found(outcome) {
+    if outcome == Finding::Found {
         show_absent(answer);
     }
 }
 
 // What the search after a given answer finds is shown as that of the first.
-pub(crate) fn show_known(known: Known, parts: &[u64; PARTS], assigned: u64, answer: &mut [u16])
+pub(crate) fn show_known(
+    known: Option<Finding>,
+    parts: &[u64; PARTS],
+    assigned: u64,
+    answer: &mut [u16],
+)
     ensures { answer.new ≡ shown_known known (parts_in assigned parts.now 0 variables) answer.old }
 {
-    if let Known::Ended(outcome) = known {
+    if let Some(outcome) = known {
         show_found(outcome, parts, assigned, answer);
     }
 }

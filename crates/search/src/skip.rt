@@ -10,13 +10,17 @@ use parts::{PARTS, part_of};
 use skips::{affordable, chain, seek};
 use term::{Code, bytes_of, decode, extent, same_symbol};
 
-// No code of a pattern: the next child pattern tells nothing of the elements that it can hold of.
-pub(crate) const ANYTHING: u8 = 255;
-
-// Nor this: the next child pattern starts with a chain of symbols, so that it may fail behind the first.
-const CHAIN: u8 = 254;
+// What the next child pattern tells of the elements that it can hold of: nothing; that it may fail behind the first symbol, as it starts with a
+// chain of them; or the code that it starts with.
+#[derive(Clone, Copy)]
+pub enum Want {
+    Anything,
+    Chain,
+    Code(u8),
+}
 
 // Lengths of a run name that are passed over, the byte behind the last of their elements, whether those after them fail too, and what is counted.
+// (No Option in place of `over`: the other fields are read either way.)
 #[derive(Clone, Copy)]
 pub struct Skipped {
     pub lengths: u8,
@@ -32,7 +36,7 @@ impl Skipped {
     {
         Skipped {
             lengths: 0,
-            node: node,
+            node,
             over: false,
             count: 0,
         }
@@ -96,10 +100,7 @@ fn skip(
     requires { (node ≤ length «record».now) × (length «record».now ≤ longest_record) }
     ensures { Skips table.now classes.now pattern.now «record».now assigned parts.now (place children elements at node) left result }
 {
-    if children == 0 {
-        return Skipped::none(node);
-    }
-    if pattern.len() <= at {
+    if children == 0 || pattern.len() <= at {
         return Skipped::none(node);
     }
     let code = decode(pattern[at]);
@@ -137,12 +138,11 @@ fn skip(
             node,
             left,
         ),
-        Code::Complement => Skipped::none(node),
-        Code::Refused => Skipped::none(node),
+        Code::Complement | Code::Refused => Skipped::none(node),
     }
 }
 
-// The code of the next child pattern where it tells which elements it can hold of: a symbol, or a name or run name that is assigned some bytes.
+// What the next child pattern tells of its elements, by its code where it is a symbol, or a name or run name that is assigned some bytes.
 pub(crate) fn wanted(
     table: &[u8],
     pattern: &[u8],
@@ -150,12 +150,9 @@ pub(crate) fn wanted(
     assigned: u64,
     children: u8,
     at: usize,
-) -> u8 {
-    if children == 0 {
-        return ANYTHING;
-    }
-    if pattern.len() <= at {
-        return ANYTHING;
+) -> Want {
+    if children == 0 || pattern.len() <= at {
+        return Want::Anything;
     }
     let b = pattern[at];
     let code = decode(b);
@@ -163,37 +160,31 @@ pub(crate) fn wanted(
         Code::Symbol(_) => wanted_symbol(chain(table, &pattern[at..]), b),
         Code::Name(v) => wanted_part(part_of(parts, assigned, v), b),
         Code::Run(v) => wanted_part(part_of(parts, assigned, v), b),
-        Code::Complement => ANYTHING,
-        Code::Refused => ANYTHING,
+        Code::Complement | Code::Refused => Want::Anything,
     }
 }
 
-fn wanted_symbol(symbols: u8, b: u8) -> u8 {
+fn wanted_symbol(symbols: u8, b: u8) -> Want {
     if 1 < symbols {
-        return CHAIN;
+        return Want::Chain;
     }
-    b
+    Want::Code(b)
 }
 
-fn wanted_part(part: Part, b: u8) -> u8 {
+fn wanted_part(part: Part, b: u8) -> Want {
     if part.length == 0 {
-        return ANYTHING;
+        return Want::Anything;
     }
-    b
+    Want::Code(b)
 }
 
 // Whether it is worth to look for lengths that fail at once: not where the symbol wanted stands at the node.
-fn scans(classes: &[u8], record: &[u8], want: u8, node: usize) -> bool {
-    if want == ANYTHING {
-        return false;
+fn scans(classes: &[u8], record: &[u8], want: Want, node: usize) -> bool {
+    match want {
+        Want::Anything => false,
+        Want::Chain => true,
+        Want::Code(b) => record.len() <= node || !same_symbol(classes, b, record[node]),
     }
-    if want == CHAIN {
-        return true;
-    }
-    if record.len() <= node {
-        return true;
-    }
-    !same_symbol(classes, want, record[node])
 }
 
 // The lengths that fail at once, where it is worth to look for them.
@@ -204,7 +195,7 @@ pub(crate) fn skip_where(
     record: &[u8],
     parts: &[u64; PARTS],
     assigned: u64,
-    want: u8,
+    want: Want,
     place: Place,
     left: u32,
 ) -> Skipped
@@ -246,7 +237,7 @@ pub(crate) fn lengthen(
     parts: &mut [u64; PARTS],
     assigned: u64,
     v: usize,
-    want: u8,
+    want: Want,
     place: Place,
     left: u32,
 ) -> Lengthening

@@ -6,7 +6,7 @@ ghost use Rattle.term.specs.Code.{variables};
 ghost use Rattle.parts.specs.Packed.{packed};
 ghost use Rattle.search.specs.Inner.Memory.{Holding};
 ghost use Rattle.search.specs.Inner.Lent.{input, handed};
-ghost use Rattle.search.specs.Inner.Bounds.{Short, Walks, stopped};
+ghost use Rattle.search.specs.Inner.Bounds.{Short, Walks};
 ghost use Rattle.search.specs.Inner.Onward.{Onward};
 
 use crate::marks::{Marks, STACK, push_complement, push_frame};
@@ -24,26 +24,6 @@ pub struct Stopped {
     pub assigned: u64,
     pub marks: Marks,
     pub place: Place,
-}
-
-impl Stopped {
-    pub(crate) fn of(stop: Stop, left: u32, assigned: u64, marks: Marks, place: Place) -> Stopped
-        ensures { result ≡ stopped stop left assigned marks place }
-    {
-        Stopped {
-            stop: stop,
-            left: left,
-            assigned: assigned,
-            marks: marks,
-            place: place,
-        }
-    }
-}
-
-pub(crate) fn wide(b: u8) -> usize
-    ensures { result ≡ b }
-{
-    b as usize
 }
 
 // The variable v is assigned too.
@@ -66,7 +46,7 @@ fn bind(
     requires { v < variables }
     ensures { (result ≡ bit_or assigned (2 ^ v)) × (parts.new ≡ set parts.old v (packed (bound_part node size elements))) }
 {
-    let i = wide(v);
+    let i = usize::from(v);
     parts[i] = packed(Part::bound(node, size, elements));
     also(assigned, i)
 }
@@ -106,7 +86,7 @@ fn walk(
         match step {
             Step::Stops(stop) => break stop,
             Step::Fails => {
-                left = left - 1;
+                left -= 1;
                 break Stop::Failure;
             }
             Step::Closes => {
@@ -115,27 +95,33 @@ fn walk(
                 marks = marks.closed(f);
             }
             Step::Opens(children, elements, width) => {
-                left = left - 1;
+                left -= 1;
                 marks = push_frame(stack, marks, place);
                 place = place.entered(children, elements, width);
             }
             Step::Passes(elements, size) => {
-                left = left - 1;
+                left -= 1;
                 place = place.passed(elements, 1, size);
             }
             Step::Binds(v, size) => {
-                left = left - 1;
+                left -= 1;
                 assigned = bind(parts, assigned, v, place.node, size, 1);
                 place = place.passed(1, 1, size);
             }
             Step::PutsBy(codes, size) => {
-                left = left - 1;
+                left -= 1;
                 marks = push_complement(stack, marks, place, codes);
                 place = place.passed(1, codes, size);
             }
         }
     };
-    Stopped::of(stop, left, assigned, marks, place)
+    Stopped {
+        stop,
+        left,
+        assigned,
+        marks,
+        place,
+    }
 }
 
 // The pairs of a level up to a run name that leaves a choice. One that is the last child pattern of its node takes all elements left: each shorter
@@ -161,21 +147,21 @@ pub(crate) fn onward(
         let w = walk(
             table, classes, pattern, record, parts, stack, assigned, left, marks, place,
         );
-        let stop = w.stop;
         let end = w.place;
-        let Stop::RunName(v) = stop else {
+        let Stop::RunName(v) = w.stop else {
             return w;
         };
-        if halts {
-            return w;
-        }
-        if end.children != 1 {
+        if halts || end.children != 1 {
             return w;
         }
         let node = end.node;
         let n = end.elements;
         if w.left <= n as u32 {
-            return Stopped::of(Stop::NoAllowance, 0, w.assigned, w.marks, end);
+            return Stopped {
+                stop: Stop::NoAllowance,
+                left: 0,
+                ..w
+            };
         }
         let size = extents(table, &record[node..], n);
         left = w.left - 1 - n as u32;

@@ -8,10 +8,10 @@ use lib.ListN.{length}
 use lib.Dec.{leb, ltb, eqb}
 use borrow.Author.Tests.{le-leb, lt-leb, lt-ltb, le-ltb, eq-eqb, ne_eqb, leb-true, ltb-true, eqb-true}
 use Rattle.answers.specs.declared.Refusal.TheVariants.{Long, Directory}
-use Rattle.byte_answers.specs.declared.Checked.{Checked}
-use Rattle.byte_answers.specs.declared.Checked.TheVariants.{Accepted}
 use Rattle.sheet.specs.Sheet.{past_pairs}
 use Rattle.sheet.specs.Check.{longest_sheet, entry_count, offset_at, length_at, entries_follow, directory_accepted, check_sheet}
+use Rattle.std.specs.Prelude.{Ok, Err}
+use Rattle.answers.specs.Fault.{fault_at}
 
 -- the pairs from index i on, of n
 
@@ -38,16 +38,16 @@ module _ (s : List ℕ) (n i at : ℕ) where
 -- the whole sheet
 
 module _ (s : List ℕ) where
-  pub sheet_long : longest_sheet < length s → check_sheet s ≡ Checked.Refused Long 0
+  pub sheet_long : longest_sheet < length s → check_sheet s ≡ Err (fault_at Long 0)
   unfolding check_sheet
   sheet_long h = rw (lt-leb (length s) longest_sheet h)
 
-  pub sheet_outside : length s ≤ longest_sheet → length s < past_pairs (entry_count s) → check_sheet s ≡ Checked.Refused Directory 0
+  pub sheet_outside : length s ≤ longest_sheet → length s < past_pairs (entry_count s) → check_sheet s ≡ Err (fault_at Directory 0)
   unfolding check_sheet directory_accepted
   sheet_outside l h = rw (le-leb (length s) longest_sheet l, lt-leb (past_pairs (entry_count s)) (length s) h)
 
   pub sheet_followed : (n : ℕ) (b : Bool) → length s ≤ longest_sheet → entry_count s ≡ n → past_pairs n ≤ length s → entries_follow s n 0 (past_pairs n) ≡ b
-      → check_sheet s ≡ cond b (Accepted n) (Checked.Refused Directory 0)
+      → check_sheet s ≡ cond b (Ok n) (Err (fault_at Directory 0))
   unfolding check_sheet directory_accepted
   sheet_followed n b l c h f = rw (le-leb (length s) longest_sheet l, c, le-leb (past_pairs n) (length s) h, f)
 
@@ -60,7 +60,7 @@ pub record Directed (s : List ℕ) (n : ℕ) : Type 0 where
   pub follow : entries_follow s n 0 (past_pairs n) ≡ true
 
 module _ (s : List ℕ) (n : ℕ) where
-  pub accepted_directed : check_sheet s ≡ Accepted n → Directed s n
+  pub accepted_directed : check_sheet s ≡ Ok n → Directed s n
   unfolding check_sheet directory_accepted
   accepted_directed h = go (leb (length s) longest_sheet) refl (directory_accepted s) refl
     where
@@ -77,7 +77,7 @@ module _ (s : List ℕ) (n : ℕ) where
             follow = rw (← c) a.1;
           }
 
-  pub directed_accepted : Directed s n → check_sheet s ≡ Accepted n
+  pub directed_accepted : Directed s n → check_sheet s ≡ Ok n
   directed_accepted d = sheet_followed s n true d.short d.counted d.within d.follow
 
 -- the entries of such a sheet lie within it

@@ -10,19 +10,19 @@ use lib.Seq.{get_or-drop}
 use lib.Dec.{ltb}
 use denote.Ref.{Bor}
 use borrow.Author.Tests.{le-leb, lt-leb, lt-ltb, le-ltb, ltb-true, ltb-false}
-use Rattle.answers.specs.declared.Refusal.{Refusal}
 use Rattle.answers.specs.declared.Refusal.TheVariants.{Directory}
-use Rattle.byte_answers.specs.Answers.{checked_number, checked_count, place_offset}
-use Rattle.byte_answers.specs.declared.Checked.{Checked}
-use Rattle.byte_answers.specs.declared.Checked.TheVariants.{Accepted}
-use Rattle.byte_answers.specs.declared.EntryPlace.{EntryPlace}
-use Rattle.byte_answers.specs.declared.EntryPlace.TheVariants.{At}
+use Rattle.answers.specs.Shown.{fault_number, size_told}
+use Rattle.byte_answers.specs.Answers.{place_offset}
 use Rattle.term.specs.Limits.{Octets}
 use Rattle.sheet.specs.Sheet.{past_pairs}
 use Rattle.sheet.specs.Check.{entry_count, offset_at, length_at, check_sheet}
 use Rattle.sheet.specs.Entry.{entry_at, entries_from, entries, check_entry, place_of, shown_entry, pair_within, part_at, part_offset, points_into}
 use Rattle.byte_answers.proofs.Numbers.{accepted_number}
 use Rattle.sheet.proofs.Checks.{Directed, accepted_directed, entry_within}
+use Rattle.std.specs.Prelude.{Result, Ok, Err}
+use Rattle.answers.specs.declared.Fault.{Fault}
+use Rattle.answers.specs.Fault.{fault_at}
+use Rattle.byte_answers.specs.Answers.{place_at}
 
 -- the pair of an index, of any bytes
 
@@ -72,63 +72,63 @@ pub part_entry : (s : List ℕ) (n i : ℕ) → Directed s n → i < n → part_
 unfolding part_at
 part_entry s n i d h = rw (pair_entry s n i d h)
 
-entry_accepted_holds : (s : List ℕ) (n i : ℕ) → check_sheet s ≡ Accepted n → i < n → shown_entry s i ≡ entry_at s i
+entry_accepted_holds : (s : List ℕ) (n i : ℕ) → check_sheet s ≡ Ok n → i < n → shown_entry s i ≡ entry_at s i
 unfolding shown_entry place_of check_entry entry_at
 entry_accepted_holds s n i a h = rw (a, lt-ltb i n h)
 
 -- what is read without the checks is the entry
-pub part_is_entry : (s : List ℕ) (n i : ℕ) → check_sheet s ≡ Accepted n → i < n → part_at s i ≡ shown_entry s i
+pub part_is_entry : (s : List ℕ) (n i : ℕ) → check_sheet s ≡ Ok n → i < n → part_at s i ≡ shown_entry s i
 part_is_entry s n i a h = part_entry s n i (accepted_directed s n a) h ∙ sym (entry_accepted_holds s n i a h)
 
 -- the check of an index
 
 module _ (s : List ℕ) (i : ℕ) where
-  pub index_of_refused : (r : Refusal) (j : ℕ) → check_sheet s ≡ Checked.Refused r j → check_entry s i ≡ Checked.Refused r j
+  pub index_of_refused : (f : Fault) → check_sheet s ≡ Err f → check_entry s i ≡ Err f
   unfolding check_entry
-  index_of_refused r j e = rw e
+  index_of_refused f e = rw e
 
-  pub index_below : (n : ℕ) → check_sheet s ≡ Accepted n → i < n → check_entry s i ≡ Accepted n
+  pub index_below : (n : ℕ) → check_sheet s ≡ Ok n → i < n → check_entry s i ≡ Ok n
   unfolding check_entry
   index_below n e h = rw (e, lt-ltb i n h)
 
-  pub index_past : (n : ℕ) → check_sheet s ≡ Accepted n → n ≤ i → check_entry s i ≡ Checked.Refused Directory 0
+  pub index_past : (n : ℕ) → check_sheet s ≡ Ok n → n ≤ i → check_entry s i ≡ Err (fault_at Directory 0)
   unfolding check_entry
   index_past n e h = rw (e, le-ltb i n h)
 
   -- what passes it
-  pub index_passed : (n : ℕ) → check_entry s i ≡ Accepted n → (check_sheet s ≡ Accepted n) × (i < n)
+  pub index_passed : (n : ℕ) → check_entry s i ≡ Ok n → (check_sheet s ≡ Ok n) × (i < n)
   index_passed n e = go (check_sheet s) refl
     where
-      go : (x : Checked) → check_sheet s ≡ x → (check_sheet s ≡ Accepted n) × (i < n)
-      go (Checked.Refused r j) f = let z : ◌≡◌ {A = ℕ} 0 1 = cc (index_of_refused r j f) in absurd (omega arith)
-      go (Accepted m) f = pick (ltb i m) refl
+      go : (x : Result ℕ Fault) → check_sheet s ≡ x → (check_sheet s ≡ Ok n) × (i < n)
+      go (Err f) d = let z : ◌≡◌ {A = ℕ} 0 1 = cc (index_of_refused f d) in absurd (omega arith)
+      go (Ok m) d = pick (ltb i m) refl
         where
-          pick : (b : Bool) → ltb i m ≡ b → (check_sheet s ≡ Accepted n) × (i < n)
-          pick false g = let z : ◌≡◌ {A = ℕ} 0 1 = cc (index_past m f (ltb-false i m g)) in absurd (omega arith)
+          pick : (b : Bool) → ltb i m ≡ b → (check_sheet s ≡ Ok n) × (i < n)
+          pick false g = let z : ◌≡◌ {A = ℕ} 0 1 = cc (index_past m d (ltb-false i m g)) in absurd (omega arith)
           pick true g =
               let h = ltb-true i m g in
-              let k : m ≡ n = cc (index_below m f h) in
-              (f ∙ ap Accepted k, omega arith)
+              let k : m ≡ n = cc (index_below m d h) in
+              (d ∙ ap Ok k, omega arith)
 
   -- the pair of an index that passes lies within the sheet
-  pub pair_within_holds : (n : ℕ) → check_entry s i ≡ Accepted n → past_pairs (i + 1) ≤ length s
+  pub pair_within_holds : (n : ℕ) → check_entry s i ≡ Ok n → past_pairs (i + 1) ≤ length s
   pair_within_holds n e = let a = index_passed n e in omega (arith, (accepted_directed s n a.0).within, a.1)
 
   -- where the entry lies
 
-  pub place_passed : (n : ℕ) → check_entry s i ≡ Accepted n → place_of s i ≡ At (offset_at s i) (length_at s i)
+  pub place_passed : (n : ℕ) → check_entry s i ≡ Ok n → place_of s i ≡ Ok (place_at (offset_at s i) (length_at s i))
   unfolding place_of
   place_passed n e = rw e
 
-  pub place_refused : (r : Refusal) (j : ℕ) → check_entry s i ≡ Checked.Refused r j → place_of s i ≡ EntryPlace.Refused r
+  pub place_refused : (f : Fault) → check_entry s i ≡ Err f → place_of s i ≡ Err f.refusal
   unfolding place_of
-  place_refused r j e = rw e
+  place_refused f e = rw e
 
   -- the part that the pair tells is the entry, and lies where the entry lies
-  pub part_lies : checked_number (check_entry s i) ≡ 0 → (part_at s i ≡ shown_entry s i) × (part_offset s i ≡ place_offset (place_of s i))
+  pub part_lies : fault_number (check_entry s i) ≡ 0 → (part_at s i ≡ shown_entry s i) × (part_offset s i ≡ place_offset (place_of s i))
   unfolding part_offset
   part_lies z =
-      let n = checked_count (check_entry s i) in
+      let n = size_told (check_entry s i) in
       let e = accepted_number (check_entry s i) z in
       let a = index_passed n e in
       (part_is_entry s n i a.0 a.1, rw (pair_entry s n i (accepted_directed s n a.0) a.1, place_passed n e))
@@ -136,11 +136,11 @@ module _ (s : List ℕ) (i : ℕ) where
 -- reading an entry of a slice
 
 module _ (x : Bor (List ℕ)) (i : ℕ) where
-  pub no_entry : (r : Refusal) (j : ℕ) → check_entry x.now i ≡ Checked.Refused r j → IsEntry x i [] x.ref_ptr
+  pub no_entry : (f : Fault) → check_entry x.now i ≡ Err f → IsEntry x i [] x.ref_ptr
   unfolding shown_entry place_of
-  no_entry r j e = (rw e, rw e (at_start x i))
+  no_entry f e = (rw e, rw e (at_start x i))
 
-  pub entry_of_part : checked_number (check_entry x.now i) ≡ 0 → (bytes : List ℕ) (place : ℕ × ℕ) → IsPart x i bytes place → IsEntry x i bytes place
+  pub entry_of_part : fault_number (check_entry x.now i) ≡ 0 → (bytes : List ℕ) (place : ℕ × ℕ) → IsPart x i bytes place → IsEntry x i bytes place
   entry_of_part z bytes place p =
       let a = part_lies x.now i z in
       (p.0 ∙ a.0, p.1 ∙ ap (points_into x) a.1)
@@ -158,7 +158,7 @@ entries_at s zero i j h = absurd (omega arith)
 entries_at s (suc k) i zero h = let e : i + zero ≡ i = omega arith in rw e
 entries_at s (suc k) i (suc j) h = let e : i + suc j ≡ i + 1 + j = omega arith in rw e (entries_at s k (i + 1) j (omega arith))
 
-module _ (s : List ℕ) (n : ℕ) (a : check_sheet s ≡ Accepted n) where
+module _ (s : List ℕ) (n : ℕ) (a : check_sheet s ≡ Ok n) where
   pub entries_count : length (entries s) ≡ n
   unfolding entries
   entries_count = entries_length s (entry_count s) 0 ∙ (accepted_directed s n a).counted

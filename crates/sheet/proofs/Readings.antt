@@ -7,7 +7,6 @@ use mathlib.Core.Bool.{true}
 use lib.ListN.{length, take, drop, length-append, length-drop, take-append-drop, drop_of_length-le, length-map}
 use lib.Seq.{drop-drop, take_at, drop_at, length-take-le}
 use borrow.Author.Tests.{eq-eqb, lt-ltb, eqb-true}
-use Rattle.byte_answers.specs.declared.Checked.TheVariants.{Accepted}
 use Rattle.term.specs.Limits.{Octets}
 use Rattle.term.specs.declared.Edition.{Edition}
 use Rattle.sheet.specs.Word.{word_bytes, word, word_at}
@@ -18,6 +17,7 @@ use Rattle.sheet.specs.Demands.{Reading}
 use Rattle.sheet.proofs.Words.{word_back, word_past, word_forth, word_told, told_word}
 use Rattle.sheet.proofs.Entries.{entries_length}
 use Rattle.sheet.proofs.Checks.{Directed, directed_accepted, follow_true, follow_within}
+use Rattle.std.specs.Prelude.{Ok}
 
 -- from the bytes to the entries
 
@@ -175,6 +175,6 @@ module _ (edition : Edition) (s : List ℕ) (n : ℕ) (es : List (List ℕ)) (r 
   pub reading_few : length es < edition_mark
   reading_few = omega (arith, written_length edition es, ap length r.bytes, r.short)
 
-  pub reading_accepted : check_sheet s ≡ Accepted n
+  pub reading_accepted : check_sheet s ≡ Ok n
   reading_accepted =
       rw (← r.bytes, ← r.counted) (directed_accepted (sheet_bytes edition es) (length es) (written_directed edition es r.none_empty (rw r.bytes r.short)))

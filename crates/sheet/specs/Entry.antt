@@ -1,14 +1,15 @@
 -- The entries of a sheet: parts of it, at the directory's offset and length.
-use Rattle.std.specs.Prelude.{ℕ, zero, suc, ◌+◌, List, [], ◌∷◌, Bool, cond, ◌&&◌, length, take, drop, leb, ltb}
+use Rattle.std.specs.Prelude.{ℕ, zero, suc, ◌+◌, List, [], ◌∷◌, Bool, cond, ◌&&◌, length, take, drop, leb, ltb, Result, Ok, Err}
 use Rattle.std.specs.Borrow.{Bor}
 use Rattle.answers.specs.declared.Refusal.TheVariants.{Directory}
 use Rattle.byte_answers.specs.Answers.{place_offset, place_length}
-use Rattle.byte_answers.specs.declared.Checked.{Checked}
-use Rattle.byte_answers.specs.declared.Checked.TheVariants.{Accepted}
-use Rattle.byte_answers.specs.declared.EntryPlace.{EntryPlace}
-use Rattle.byte_answers.specs.declared.EntryPlace.TheVariants.{At}
+use Rattle.byte_answers.specs.declared.Place.{Place}
 use Rattle.sheet.specs.Sheet.{past_pairs}
 use Rattle.sheet.specs.Check.{entry_count, offset_at, length_at, check_sheet, and_then}
+use Rattle.answers.specs.declared.Refusal.{Refusal}
+use Rattle.answers.specs.declared.Fault.{Fault}
+use Rattle.answers.specs.Fault.{fault_at}
+use Rattle.byte_answers.specs.Answers.{place_at}
 
 unfoldable pub entry_at : List ℕ → ℕ → List ℕ
 entry_at s i = take (length_at s i) (drop (offset_at s i) s)
@@ -22,15 +23,15 @@ unfoldable pub entries : List ℕ → List (List ℕ)
 entries s = entries_from s (entry_count s) 0
 
 -- the check of a sheet and an index: 9 also where there is no such entry
-unfoldable pub check_entry : List ℕ → ℕ → Checked
-check_entry s i = and_then (check_sheet s) (λ n. cond (ltb i n) (Accepted n) (Checked.Refused Directory 0))
+unfoldable pub check_entry : List ℕ → ℕ → Result ℕ Fault
+check_entry s i = and_then (check_sheet s) (λ n. cond (ltb i n) (Ok n) (Err (fault_at Directory 0)))
 
 -- where an entry lies: the directory's offset and length where the check passes, or why it does not
-abbrev pub place_by : Checked → ℕ → ℕ → EntryPlace
-place_by (Accepted n) offset length = At offset length
-place_by (Checked.Refused r i) offset length = EntryPlace.Refused r
+abbrev pub place_by : Result ℕ Fault → ℕ → ℕ → Result Place Refusal
+place_by (Ok n) offset length = Ok (place_at offset length)
+place_by (Err f) offset length = Err f.refusal
 
-unfoldable pub place_of : List ℕ → ℕ → EntryPlace
+unfoldable pub place_of : List ℕ → ℕ → Result Place Refusal
 place_of s i = place_by (check_entry s i) (offset_at s i) (length_at s i)
 
 -- reading an entry: the part at its place, and an empty part where the check gives 6 or 9

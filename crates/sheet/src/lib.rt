@@ -2,20 +2,21 @@
 #![tactic(auto)]
 
 ghost use Rattle.std.specs.Prelude.{◌≡◌, true, ◌+◌, ◌≤◌, ◌<◌, length};
-ghost use Rattle.std.proofs.Math.Option.{none, some};
-ghost use Rattle.byte_answers.specs.Answers.{checked_number, checked_count, place_offset};
-ghost use Rattle.term.specs.Language.{language};
-ghost use Rattle.reader.specs.Brought.{list_if};
+ghost use Rattle.answers.specs.Shown.{fault_number, size_told};
+ghost use Rattle.byte_answers.specs.Answers.{place_offset};
+ghost use Rattle.term.specs.Lent.{language_by};
+ghost use Rattle.reader.specs.Lent.{brought_of};
 ghost use Rattle.sheet.specs.Word.{word_at};
 ghost use Rattle.sheet.specs.Sheet.{past_pairs};
-ghost use Rattle.sheet.specs.Check.{entry_count, edition_of, offset_at, length_at, entries_follow, check_sheet, same_edition, allowed, check_among};
+ghost use Rattle.sheet.specs.Check.{entry_count, edition_of, offset_at, length_at, entries_follow, check_sheet, allowed, check_among};
 ghost use Rattle.sheet.specs.Entry.{entries, check_entry, place_of, shown_entry, part_at, part_offset, points_into};
 ghost use Rattle.sheet.specs.Contents.{read_entry, check_each, few, check_contents, check_states, check_rules};
 ghost use Rattle.sheet.specs.Demands.{OneReading};
 
-use answers::Refusal;
-use byte_answers::{Checked, EntryPlace, Read};
-use term::Edition;
+use answers::{Fault, Refusal};
+use byte_answers::Place;
+use reader::Brought;
+use term::{Edition, Language};
 
 // The most bytes of a sheet.
 pub const LONGEST_SHEET: usize = 32768;
@@ -25,13 +26,6 @@ const MOST_RULES: usize = 64;
 
 // A sheet of edition 2 adds this to its count.
 pub const EDITION_MARK: u16 = 32768;
-
-// Which editions a sheet may have: any, or only that of the sheets before it.
-#[derive(Clone, Copy)]
-pub enum Editions {
-    Any,
-    Only(Edition),
-}
 
 // The bytes of a 16-bit number.
 pub const WORD: usize = 2;
@@ -44,30 +38,25 @@ fn word_at(s: &[u8], at: usize) -> u16
     requires { at + 1 < length s.now }
     ensures { result ≡ word_at s.now at }
 {
-    (s[at] as u16) + 256 * (s[at + 1] as u16)
+    u16::from(s[at]) + 256 * u16::from(s[at + 1])
 }
 
 // The number of entries that a sheet tells, be it accepted or not.
 pub fn count(sheet: &[u8]) -> u16
     ensures { result ≡ entry_count sheet.now }
 {
-    if sheet.len() == 0 {
-        return 0;
+    match sheet {
+        [] => 0,
+        [only] => u16::from(*only),
+        _ => word_at(sheet, 0) % EDITION_MARK,
     }
-    if sheet.len() == 1 {
-        return sheet[0] as u16;
-    }
-    word_at(sheet, 0) % EDITION_MARK
 }
 
 // The edition that a sheet tells, be it accepted or not.
 pub fn edition_of(sheet: &[u8]) -> Edition
     ensures { result ≡ edition_of sheet.now }
 {
-    if sheet.len() < WORD {
-        return Edition::One;
-    }
-    if word_at(sheet, 0) < EDITION_MARK {
+    if sheet.len() < WORD || word_at(sheet, 0) < EDITION_MARK {
         return Edition::One;
     }
     Edition::Two
@@ -94,40 +83,38 @@ fn entries_follow(sheet: &[u8], n: usize) -> bool
     ensures { result ≡ entries_follow sheet.now n 0 (past_pairs n) }
 {
     let mut at = WORD + PAIR * n;
-    let mut i: usize = 0;
-    while i < n {
-        if offset_at(sheet, i) as usize != at {
+    for i in 0..n {
+        if usize::from(offset_at(sheet, i)) != at {
             return false;
         }
-        let length = length_at(sheet, i) as usize;
+        let length = usize::from(length_at(sheet, i));
         if length == 0 {
             return false;
         }
-        at = at + length;
-        i = i + 1;
+        at += length;
     }
     at == sheet.len()
 }
 
 // Checks a sheet of any entries.
-pub fn check_sheet(sheet: &[u8]) -> Checked
+pub fn check_sheet(sheet: &[u8]) -> Result<usize, Fault>
     ensures is { result ≡ check_sheet sheet.now }
-    ensures demand { OneReading sheet.now (checked_number result) (checked_count result) }
+    ensures demand { OneReading sheet.now (fault_number result) (size_told result) }
 {
     if LONGEST_SHEET < sheet.len() {
-        return Checked::Refused(Refusal::Long, 0);
+        return Err(Fault::at(Refusal::Long, 0));
     }
     if sheet.len() < WORD {
-        return Checked::Refused(Refusal::Directory, 0);
+        return Err(Fault::at(Refusal::Directory, 0));
     }
-    let n = count(sheet) as usize;
+    let n = usize::from(count(sheet));
     if sheet.len() < WORD + PAIR * n {
-        return Checked::Refused(Refusal::Directory, 0);
+        return Err(Fault::at(Refusal::Directory, 0));
     }
     if entries_follow(sheet, n) {
-        return Checked::Accepted(n);
+        return Ok(n);
     }
-    Checked::Refused(Refusal::Directory, 0)
+    Err(Fault::at(Refusal::Directory, 0))
 }
 
 // The part that the pair of an index tells, without the other checks: for callers that checked the sheet before.
@@ -135,14 +122,11 @@ pub fn part_at(sheet: &[u8], index: usize) -> &[u8]
     ensures bytes { result.now ≡ part_at sheet.now index }
     ensures place { result.ref_ptr ≡ points_into sheet.entry (part_offset sheet.now index) }
 {
-    if sheet.len() < WORD {
+    if sheet.len() < WORD || (sheet.len() - WORD) / PAIR <= index {
         return &sheet[..0];
     }
-    if (sheet.len() - WORD) / PAIR <= index {
-        return &sheet[..0];
-    }
-    let start = offset_at(sheet, index) as usize;
-    let end = start + length_at(sheet, index) as usize;
+    let start = usize::from(offset_at(sheet, index));
+    let end = start + usize::from(length_at(sheet, index));
     if sheet.len() < end {
         return &sheet[..0];
     }
@@ -150,17 +134,14 @@ pub fn part_at(sheet: &[u8], index: usize) -> &[u8]
 }
 
 // Checks a sheet and an index.
-pub fn check_entry(sheet: &[u8], index: usize) -> Checked
+pub fn check_entry(sheet: &[u8], index: usize) -> Result<usize, Fault>
     ensures { result ≡ check_entry sheet.now index }
 {
-    let checked = check_sheet(sheet);
-    let Checked::Accepted(n) = checked else {
-        return checked;
-    };
+    let n = check_sheet(sheet)?;
     if index < n {
-        return checked;
+        return Ok(n);
     }
-    Checked::Refused(Refusal::Directory, 0)
+    Err(Fault::at(Refusal::Directory, 0))
 }
 
 // An entry as a part of the sheet, or an empty part where the check of sheet and index refuses.
@@ -168,168 +149,128 @@ pub fn entry(sheet: &[u8], index: usize) -> &[u8]
     ensures bytes { result.now ≡ shown_entry sheet.now index }
     ensures place { result.ref_ptr ≡ points_into sheet.entry (place_offset (place_of sheet.now index)) }
 {
-    let checked = check_entry(sheet, index);
-    let Checked::Accepted(_) = checked else {
-        return &sheet[..0];
-    };
-    part_at(sheet, index)
+    match check_entry(sheet, index) {
+        Ok(_) => part_at(sheet, index),
+        Err(_) => &sheet[..0],
+    }
 }
 
 // Where an entry lies, or the refusal of the check of sheet and index.
-pub fn place_of(sheet: &[u8], index: usize) -> EntryPlace
+pub fn place_of(sheet: &[u8], index: usize) -> Result<Place, Refusal>
     ensures { result ≡ place_of sheet.now index }
 {
-    let checked = check_entry(sheet, index);
-    match checked {
-        Checked::Accepted(_) => EntryPlace::At(offset_at(sheet, index), length_at(sheet, index)),
-        Checked::Refused(r, _) => EntryPlace::Refused(r),
+    match check_entry(sheet, index) {
+        Ok(_) => Ok(Place::at(offset_at(sheet, index), length_at(sheet, index))),
+        Err(fault) => Err(fault.refusal),
     }
 }
 
-fn is_one(edition: Edition) -> bool
-    ensures { result ≡ same_edition Edition.One edition }
+// Whether a sheet may be of this edition: of any, or only of that of the sheets before it.
+fn allows(only: Option<Edition>, edition: Edition) -> bool
+    ensures { result ≡ allowed only edition }
 {
-    match edition {
-        Edition::One => true,
-        Edition::Two => false,
+    match only {
+        Some(wanted) => wanted == edition,
+        None => true,
     }
 }
 
-fn is_two(edition: Edition) -> bool
-    ensures { result ≡ same_edition Edition.Two edition }
+// Checks a sheet of any entries, of any edition or only of this one.
+pub fn check_among(only: Option<Edition>, sheet: &[u8]) -> Result<usize, Fault>
+    ensures { result ≡ check_among only sheet.now }
 {
-    match edition {
-        Edition::One => false,
-        Edition::Two => true,
+    let n = check_sheet(sheet)?;
+    if allows(only, edition_of(sheet)) {
+        return Ok(n);
     }
+    Err(Fault::at(Refusal::Directory, 0))
 }
 
-// Whether two editions are the same.
-fn same_edition(a: Edition, b: Edition) -> bool
-    ensures { result ≡ same_edition a b }
-{
-    match a {
-        Edition::One => is_one(b),
-        Edition::Two => is_two(b),
-    }
-}
-
-fn allows(editions: Editions, edition: Edition) -> bool
-    ensures { result ≡ allowed editions edition }
-{
-    match editions {
-        Editions::Any => true,
-        Editions::Only(wanted) => same_edition(wanted, edition),
-    }
-}
-
-// Checks a sheet of any entries, of one of these editions.
-pub fn check_among(editions: Editions, sheet: &[u8]) -> Checked
-    ensures { result ≡ check_among editions sheet.now }
-{
-    let checked = check_sheet(sheet);
-    let Checked::Accepted(_) = checked else {
-        return checked;
-    };
-    if allows(editions, edition_of(sheet)) {
-        return checked;
-    }
-    Checked::Refused(Refusal::Directory, 0)
-}
-
-fn read_entry(records: bool, edition: Edition, table: &[u8], classes: &[u8], bytes: &[u8]) -> Read
-    ensures { result ≡ read_entry records (language edition table.now classes.now) bytes.now }
+fn read_entry(records: bool, language: &Language<'_>, bytes: &[u8]) -> Result<usize, Refusal>
+    ensures { result ≡ read_entry records (language_by language.now) bytes.now }
 {
     if records {
-        return reader::read_record_in(edition, table, classes, bytes);
+        return reader::read_record_in(language, bytes);
     }
-    reader::read_pattern_in(edition, table, classes, bytes)
+    reader::read_pattern_in(language, bytes)
 }
 
 // Each of the n entries of a checked sheet, in order.
 fn check_entries(
     records: bool,
-    edition: Edition,
-    table: &[u8],
-    classes: &[u8],
+    language: &Language<'_>,
     sheet: &[u8],
     n: usize,
-) -> Checked
-    requires { check_sheet sheet.now ≡ Checked.Accepted n }
-    ensures { result ≡ check_each records (language edition table.now classes.now) 0 (entries sheet.now) }
+) -> Result<usize, Fault>
+    requires { check_sheet sheet.now ≡ Ok n }
+    ensures { result ≡ check_each records (language_by language.now) 0 (entries sheet.now) }
 {
-    let mut i: usize = 0;
-    while i < n {
-        let read = read_entry(records, edition, table, classes, part_at(sheet, i));
-        if let Read::Refused(r) = read {
-            return Checked::Refused(r, i);
+    for i in 0..n {
+        if let Err(r) = read_entry(records, language, part_at(sheet, i)) {
+            return Err(Fault::at(r, i));
         }
-        i = i + 1;
     }
-    Checked::Accepted(i)
+    Ok(n)
 }
 
 // Whether a sheet may hold so many entries.
 fn few(records: bool, n: usize) -> bool
     ensures { result ≡ few records n }
 {
-    if records {
-        return true;
-    }
-    n <= MOST_RULES
+    records || n <= MOST_RULES
 }
 
-// Checks what a sheet holds; `classes` counts if the call brings a class list.
+// Checks what a sheet holds, in the language that the call brings; its edition is the sheet's own.
 pub fn check_contents(
     records: bool,
-    editions: Editions,
-    table: &[u8],
-    brings: bool,
-    classes: &[u8],
+    only: Option<Edition>,
+    brought: &Brought<'_>,
     sheet: &[u8],
-) -> Checked
-    ensures { result ≡ check_contents records editions table.now (list_if brings classes.now) sheet.now }
+) -> Result<usize, Fault>
+    ensures { result ≡ check_contents records only (brought_of brought.now).table (brought_of brought.now).list sheet.now }
 {
-    if !term::check_table(table) {
-        return Checked::Refused(Refusal::Table, 0);
+    if !term::check_table(brought.table) {
+        return Err(Fault::at(Refusal::Table, 0));
     }
-    if !reader::accepts_list(table, brings, classes) {
-        return Checked::Refused(Refusal::Class, 0);
+    if !brought.accepts_list() {
+        return Err(Fault::at(Refusal::Class, 0));
     }
-    let checked = check_among(editions, sheet);
-    let Checked::Accepted(n) = checked else {
-        return checked;
-    };
+    let n = check_among(only, sheet)?;
     if !few(records, n) {
-        return Checked::Refused(Refusal::Long, 0);
+        return Err(Fault::at(Refusal::Long, 0));
     }
-    let list = reader::brought_list(brings, classes);
-    check_entries(records, edition_of(sheet), table, list, sheet, n)
+    let language = Language {
+        edition: edition_of(sheet),
+        ..brought.language()
+    };
+    check_entries(records, &language, sheet, n)
 }
 
 // Checks a sheet of records.
-pub fn check_states(table: &[u8], sheet: &[u8]) -> Checked
-    ensures { result ≡ check_states table.now none sheet.now }
+pub fn check_states(table: &[u8], sheet: &[u8]) -> Result<usize, Fault>
+    ensures { result ≡ check_states table.now None sheet.now }
 {
-    check_contents(true, Editions::Any, table, false, &table[..0], sheet)
+    check_contents(true, None, &Brought::simply(table), sheet)
 }
 
 // Checks a sheet of at most 64 patterns.
-pub fn check_rules(table: &[u8], sheet: &[u8]) -> Checked
-    ensures { result ≡ check_rules table.now none sheet.now }
+pub fn check_rules(table: &[u8], sheet: &[u8]) -> Result<usize, Fault>
+    ensures { result ≡ check_rules table.now None sheet.now }
 {
-    check_contents(false, Editions::Any, table, false, &table[..0], sheet)
+    check_contents(false, None, &Brought::simply(table), sheet)
 }
 
 // The same with a class list.
-pub fn check_states_in(table: &[u8], classes: &[u8], sheet: &[u8]) -> Checked
-    ensures { result ≡ check_states table.now (some classes.now) sheet.now }
+pub fn check_states_in(table: &[u8], classes: &[u8], sheet: &[u8]) -> Result<usize, Fault>
+    ensures { result ≡ check_states table.now (Some classes.now) sheet.now }
 {
-    check_contents(true, Editions::Any, table, true, classes, sheet)
+    let brought = Brought::bringing(edition_of(sheet), table, classes);
+    check_contents(true, None, &brought, sheet)
 }
 
-pub fn check_rules_in(table: &[u8], classes: &[u8], sheet: &[u8]) -> Checked
-    ensures { result ≡ check_rules table.now (some classes.now) sheet.now }
+pub fn check_rules_in(table: &[u8], classes: &[u8], sheet: &[u8]) -> Result<usize, Fault>
+    ensures { result ≡ check_rules table.now (Some classes.now) sheet.now }
 {
-    check_contents(false, Editions::Any, table, true, classes, sheet)
+    let brought = Brought::bringing(edition_of(sheet), table, classes);
+    check_contents(false, None, &brought, sheet)
 }

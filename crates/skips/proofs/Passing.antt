@@ -267,9 +267,13 @@ module _ (table classes : List ℕ) (symbols : ℕ) (x : List ℕ) where
         sym (t.same ∙ ap (before n at count) e
         ∙ passed_is (before n at count (passed_over 0 0 0)) (passed_over n at count) (omega arith) (omega arith) (omega arith))
 
-    pub seek_last : most ≤ n → passed_over n at count ≡ passed_of table classes symbols x r most
+    -- as many as there may be, with their count by any equal term
+    pub seek_last : most ≤ n → (c : ℕ) → c ≡ count → passed_over most at c ≡ passed_of table classes symbols x r most
     unfolding passed_of
-    seek_last h = let z : most - n ≡ 0 = omega (arith, t.few) in done (ap (passing (drop at r)) z)
+    seek_last h c e =
+        let all : most ≡ n = omega (arith, t.few) in
+        let z : most - n ≡ 0 = omega (arith, t.few) in
+        passed_is (passed_over most at c) (passed_over n at count) all refl e ∙ done (ap (passing (drop at r)) z)
 
     pub seek_out : length r ≤ at → passed_over n at count ≡ passed_of table classes symbols x r most
     seek_out h =

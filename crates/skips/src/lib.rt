@@ -25,17 +25,11 @@ impl Passed {
         ensures { result ≡ passed_over elements size (2 * elements) }
     {
         Passed {
-            elements: elements,
-            size: size,
+            elements,
+            size,
             count: 2 * elements as u32,
         }
     }
-}
-
-fn wide(b: u8) -> usize
-    ensures { result ≡ b }
-{
-    b as usize
 }
 
 // The number of bytes of the term at the start of s; most elements are symbols without children.
@@ -43,10 +37,8 @@ fn element(table: &[u8], s: &[u8]) -> usize
     ensures is { result ≡ extent_of table.now s.now }
     ensures within { result ≤ length s.now }
 {
-    if 0 < s.len() {
-        if entry_of(table, s[0]) == 0 {
-            return 1;
-        }
+    if 0 < s.len() && entry_of(table, s[0]) == 0 {
+        return 1;
     }
     extent(table, s)
 }
@@ -55,10 +47,7 @@ fn element(table: &[u8], s: &[u8]) -> usize
 fn leaf(table: &[u8], s: &[u8], i: usize) -> bool
     ensures { result ≡ leaf_at table.now s.now i }
 {
-    if s.len() <= i {
-        return false;
-    }
-    entry_of(table, s[i]) == 0
+    i < s.len() && entry_of(table, s[i]) == 0
 }
 
 // The same as `element`, where most have none or up to two children, which have none. (With two callers, neither would be compiled into its own.)
@@ -71,17 +60,11 @@ fn small_element(table: &[u8], s: &[u8]) -> usize
         if entry == 0 {
             return 1;
         }
-        if entry == 1 {
-            if leaf(table, s, 1) {
-                return 2;
-            }
+        if entry == 1 && leaf(table, s, 1) {
+            return 2;
         }
-        if entry == 2 {
-            if leaf(table, s, 1) {
-                if leaf(table, s, 2) {
-                    return 3;
-                }
-            }
+        if entry == 2 && leaf(table, s, 1) && leaf(table, s, 2) {
+            return 3;
         }
     }
     extent(table, s)
@@ -90,14 +73,7 @@ fn small_element(table: &[u8], s: &[u8]) -> usize
 fn is_symbol(b: u8) -> bool
     ensures { result ≡ is_symbol (decode_of b) }
 {
-    let code = decode(b);
-    match code {
-        Code::Symbol(_) => true,
-        Code::Name(_) => false,
-        Code::Run(_) => false,
-        Code::Complement => false,
-        Code::Refused => false,
-    }
+    matches!(decode(b), Code::Symbol(_))
 }
 
 // Whether no symbol after b is of its chain: b has no children, or is a list.
@@ -112,40 +88,30 @@ fn ends(table: &[u8], b: u8) -> bool
 pub fn chain(table: &[u8], q: &[u8]) -> u8
     ensures { result ≡ chain_of table.now most_symbols q.now }
 {
-    let mut n: u8 = 0;
-    while n < MOST_SYMBOLS {
-        let i = wide(n);
-        if q.len() <= i {
+    for n in 0..MOST_SYMBOLS {
+        let i = usize::from(n);
+        if q.len() <= i || !is_symbol(q[i]) {
             return n;
         }
-        if !is_symbol(q[i]) {
-            return n;
-        }
-        n = n + 1;
         if ends(table, q[i]) {
-            return n;
+            return n + 1;
         }
     }
-    n
+    MOST_SYMBOLS
 }
 
 // The pairs counted where y is set against so many symbols of x, a chain: up to and with the first that differs, 0 where none does.
 fn differs(classes: &[u8], symbols: u8, x: &[u8], y: &[u8]) -> u8
     ensures { result ≡ differs_at classes.now symbols x.now y.now }
 {
-    let mut n: u8 = 0;
-    while n < symbols {
-        let i = wide(n);
-        if x.len() <= i {
-            return 0;
-        }
-        if y.len() <= i {
+    for n in 0..symbols {
+        let i = usize::from(n);
+        if x.len() <= i || y.len() <= i {
             return 0;
         }
         if !same_symbol(classes, x[i], y[i]) {
             return n + 1;
         }
-        n = n + 1;
     }
     0
 }
@@ -174,47 +140,53 @@ fn seek_part(table: &[u8], classes: &[u8], x: &[u8], r: &[u8], most: u8) -> Pass
     }
     let first = class_of(classes, x[0]);
     let last = class_of(classes, x[size - 1]);
-    let mut n: u8 = 0;
     let mut at: usize = 0;
-    while n < most {
+    for n in 0..most {
         if r.len() <= at {
             return Passed::at_one_pair(n, at);
         }
-        if alike(classes, first, last, size, &r[at..]) {
-            if same(table, classes, x, &r[at..at + size]) {
-                return Passed::at_one_pair(n, at);
-            }
+        if alike(classes, first, last, size, &r[at..])
+            && same(table, classes, x, &r[at..at + size])
+        {
+            return Passed::at_one_pair(n, at);
         }
-        at = at + small_element(table, &r[at..]);
-        n = n + 1;
+        at += small_element(table, &r[at..]);
     }
-    Passed::at_one_pair(n, at)
+    Passed::at_one_pair(most, at)
 }
 
-// The elements at the start of r, at most so many, that all differ from so many symbols of x, a chain.
+// The elements at the start of r, at most so many, that all differ from so many symbols of x, a chain. (With one loop for both, three run names take
+// 17 % more instructions.)
 fn seek_chain(table: &[u8], classes: &[u8], symbols: u8, x: &[u8], r: &[u8], most: u8) -> Passed
     requires { 0 < symbols }
     ensures { result ≡ passed_of table.now classes.now symbols x.now r.now most }
 {
-    let mut n: u8 = 0;
-    let mut at: usize = 0;
+    let mut size: usize = 0;
     let mut count: u32 = 0;
-    while n < most {
-        if r.len() <= at {
-            break;
+    for elements in 0..most {
+        if r.len() <= size {
+            return Passed {
+                elements,
+                size,
+                count,
+            };
         }
-        let pairs = differs(classes, symbols, x, &r[at..]);
+        let rest = &r[size..];
+        let pairs = differs(classes, symbols, x, rest);
         if pairs == 0 {
-            break;
+            return Passed {
+                elements,
+                size,
+                count,
+            };
         }
-        count = count + 1 + pairs as u32;
-        at = at + element(table, &r[at..]);
-        n = n + 1;
+        count += 1 + pairs as u32;
+        size += element(table, rest);
     }
     Passed {
-        elements: n,
-        size: at,
-        count: count,
+        elements: most,
+        size,
+        count,
     }
 }
 
@@ -228,10 +200,8 @@ pub fn seek(table: &[u8], classes: &[u8], symbols: u8, x: &[u8], r: &[u8], most:
     if symbols == 0 {
         return seek_part(table, classes, x, r, most);
     }
-    if symbols == 1 {
-        if 0 < x.len() {
-            return seek_part(table, classes, &x[..1], r, most);
-        }
+    if symbols == 1 && 0 < x.len() {
+        return seek_part(table, classes, &x[..1], r, most);
     }
     seek_chain(table, classes, symbols, x, r, most)
 }

@@ -4,13 +4,13 @@ use Prim.Native.Nat.{ℕ, ◌≤◌}
 use mathlib.Core.Path.{◌≡◌}
 use mathlib.Core.List.{List}
 use mathlib.Core.Bool.{false}
-use mathlib.Core.Option.{Option, none}
 use lib.ListN.{get_or}
 use Rattle.term.specs.Class.{class_of}
 use Rattle.term.specs.Tree.{Tree, Trees, branch, empty, more}
 use Rattle.term.specs.declared.Code.{Code}
 use Rattle.splice.specs.Splicing.{list_class, same_list}
 use Rattle.term.specs.declared.Code.TheVariants.{Symbol, Name, Run, Complement}
+use Rattle.std.specs.Prelude.{Option, None}
 
 -- of an accepted class list: no entry is above its own index, an entry is its own class, and table bytes are alike within a class
 pub record Classes (table classes : List ℕ) : Type 0 where
@@ -50,4 +50,4 @@ unfoldable mutual
 
 -- a root stands in no list
 abbrev pub Spliced : List ℕ → List ℕ → Tree → Type 0
-Spliced classes table t = SplicedIn classes table none t
+Spliced classes table t = SplicedIn classes table None t

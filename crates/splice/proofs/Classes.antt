@@ -5,16 +5,15 @@ use mathlib.Core.Path.{◌≡◌, refl, sym, ap, ap₂, ◌∙◌}
 use mathlib.Core.Logic.{◌⊎◌, inl, inr}
 use mathlib.Core.List.{List, []}
 use mathlib.Core.Bool.{Bool, true, false, cond}
-use mathlib.Core.Option.{Option, some}
 use Rattle.term.specs.Table.{is_list}
 use Rattle.term.specs.Tree.{Tree, Trees, branch, empty, more}
 use Rattle.term.specs.declared.Code.{Code}
 use Rattle.term.specs.declared.Code.TheVariants.{Symbol, Name, Run, Complement}
 use Rattle.term.specs.Class.{class_of}
-use Rattle.term.specs.declared.Stand.TheVariants.{InList, Elsewhere}
 use Rattle.splice.proofs.ByClass.{Classes, class_code, classed, classed_all, UpToClass}
 use Rattle.splice.specs.Splicing.{◌⊕◌, class_in, list_class, same_list, placed, splice, splice_all}
 use Rattle.splice.proofs.ByClass.{SplicedIn, AllSplicedIn}
+use Rattle.std.specs.Prelude.{Some, None, Option}
 
 -- without a class list each symbol is its own class
 pub no_classes : (table : List ℕ) → Classes table []
@@ -32,8 +31,8 @@ module _ (classes table : List ℕ) (ok : Classes table classes) where
   unfolding list_class class_code
   class_list (Symbol s) = rw (ok.alike s) (go (is_list table s))
     where
-      go : (b : Bool) → class_in classes (cond b (InList (class_of classes s)) Elsewhere) ≡ class_in classes (cond b (InList s) Elsewhere)
-      go true = ap some (ok.own s)
+      go : (b : Bool) → class_in classes (cond b (Some (class_of classes s)) None) ≡ class_in classes (cond b (Some s) None)
+      go true = ap Some (ok.own s)
       go false = refl
   class_list (Name v) = refl
   class_list (Run v) = refl

@@ -4,7 +4,6 @@ use native.Mathlib.Omega.{arith}
 use mathlib.Core.Path.{◌≡◌, refl, sym, ap, subst, ◌∙◌}
 use mathlib.Core.List.{List, [], ◌++◌}
 use mathlib.Core.Bool.{Bool, true, false, cond, ◌&&◌}
-use mathlib.Core.Option.{Option, none}
 use lib.ListN.{length, drop}
 use lib.Seq.{sets, sets-eq}
 use lib.Dec.{leb}
@@ -14,8 +13,6 @@ use Rattle.term.specs.Tree.{Tree, Trees, empty, more, number, encode, encodes}
 use Rattle.term.specs.Language.{simple}
 use Rattle.term.specs.Limits.{FitAll, longest, longest_record, Octets, Accepted}
 use Rattle.reader.specs.Reading.{read, shown, read_whole}
-use Rattle.byte_answers.specs.declared.Read.{Read}
-use Rattle.byte_answers.specs.declared.Read.TheVariants.{Ends}
 use Rattle.answers.specs.declared.Refusal.{Refusal}
 use Rattle.answers.specs.declared.Refusal.TheVariants.{Table, Class, Long, Full}
 use Rattle.reader.proofs.Answers.{Got, refused_shown, ends_shown}
@@ -25,9 +22,9 @@ use Rattle.splice.specs.Splicing.{splice, splice_all}
 use Rattle.splice.specs.Converting.{narrow, all_narrow, kept, written, splicing, converted, output_after}
 use Rattle.splice.proofs.Converting.{placed_none}
 use Rattle.splice.specs.Call.{call, shown_of}
-use Rattle.byte_answers.specs.declared.Move.TheVariants.{Written}
 use Rattle.splice.specs.Pass.{Standing, Puts, Stores}
 use Rattle.splice.specs.declared.Put.{Put}
+use Rattle.std.specs.Prelude.{Some, Ok, Err, Option, None}
 
 table_small : (table : List ℕ) → table_accepted table ≡ true → length table ≤ largest_table
 unfolding table_accepted
@@ -43,11 +40,11 @@ longest_of_holds false = omega arith
 
 module _ (records : Bool) (table classes s : List ℕ) where
   module _ (ok : table_accepted table ≡ true) where
-    pub call_refused : (room : ℕ) (r : Refusal) → shown (read_whole records (simple table) s) ≡ Read.Refused r → converted records classes table room s ≡ kept r
+    pub call_refused : (room : ℕ) (r : Refusal) → shown (read_whole records (simple table) s) ≡ Err r → converted records classes table room s ≡ kept r
     unfolding converted splicing
     call_refused room r e = rw (refused_shown (read_whole records (simple table) s) r e)
 
-    module _ (octets : Octets s) (n : ℕ) (ends : shown (read_whole records (simple table) s) ≡ Ends n) where
+    module _ (octets : Octets s) (n : ℕ) (ends : shown (read_whole records (simple table) s) ≡ Ok n) where
       tree : Tree
       tree = (ends_shown (read_whole records (simple table) s) n ends).0
 
@@ -62,7 +59,7 @@ module _ (records : Bool) (table classes s : List ℕ) where
       pub not_long : length s ≤ longest_record
       not_long = let h : length (encode table tree []) ≤ longest records = got.1.short in omega (arith, ap length got.0, longest_of_holds records)
 
-      stand : Standing table s 1 none (more tree empty)
+      stand : Standing table s 1 None (more tree empty)
       unfolding encode number FitAll
       stand = record {
         small = table_small table ok;
@@ -74,7 +71,7 @@ module _ (records : Bool) (table classes s : List ℕ) where
         fits = (got.1.fits, tt);
       }
 
-      one : splice_all classes table none (more tree empty) ≡ more (splice classes table tree) empty
+      one : splice_all classes table None (more tree empty) ≡ more (splice classes table tree) empty
       unfolding splice
       one = placed_none classes table (splice classes table tree) empty
 
@@ -90,45 +87,43 @@ module _ (records : Bool) (table classes s : List ℕ) where
       unfolding encode
       bytes_one t = refl
 
-      module _ (plan : Put) (puts : Puts table classes s 1 none plan) where
-        plan_narrow : plan.narrow ≡ narrow table (splice classes table tree)
+      pub call_long : (room : ℕ) → Puts table classes s 1 None None → converted records classes table room s ≡ kept Long
+      unfolding converted splicing Puts
+      call_long room puts =
+          rw (is_read, sym (narrow_one (splice classes table tree)) ∙ sym (ap (all_narrow table) one) ∙ puts (more tree empty) stand)
+
+      module _ (plan : Put) (puts : Puts table classes s 1 None (Some plan)) where
+        thin : narrow table (splice classes table tree) ≡ true
         unfolding Puts
-        plan_narrow = (puts (more tree empty) stand).narrow ∙ ap (all_narrow table) one ∙ narrow_one (splice classes table tree)
+        thin = sym (narrow_one (splice classes table tree)) ∙ sym (ap (all_narrow table) one) ∙ (puts (more tree empty) stand).narrow
 
         plan_put : plan.put ≡ length (encode table (splice classes table tree) [])
         unfolding Puts
         plan_put = (puts (more tree empty) stand).put ∙ ap (λ (x : Trees). length (encodes table x [])) one ∙ ap length (bytes_one (splice classes table tree))
 
-        pub call_long : (room : ℕ) → plan.narrow ≡ false → converted records classes table room s ≡ kept Long
+        pub call_full : (room : ℕ) → room < plan.put → converted records classes table room s ≡ kept Full
         unfolding converted splicing
-        call_long room e = rw (is_read, sym plan_narrow ∙ e)
+        call_full room h = rw (is_read, thin, lt-leb (length (encode table (splice classes table tree) [])) room (omega (arith, plan_put)))
 
-        module _ (thin : plan.narrow ≡ true) where
-          pub call_full : (room : ℕ) → room < plan.put → converted records classes table room s ≡ kept Full
-          unfolding converted splicing
-          call_full room h =
-              rw (is_read, sym plan_narrow ∙ thin, lt-leb (length (encode table (splice classes table tree) [])) room (omega (arith, plan_put)))
+        call_written : (room : ℕ) → plan.put ≤ room → converted records classes table room s ≡ written (encode table (splice classes table tree) [])
+        unfolding converted splicing
+        call_written room h = rw (is_read, thin, le-leb (length (encode table (splice classes table tree) [])) room (omega (arith, plan_put)))
 
-          call_written : (room : ℕ) → plan.put ≤ room → converted records classes table room s ≡ written (encode table (splice classes table tree) [])
-          unfolding converted splicing
-          call_written room h =
-              rw (is_read, sym plan_narrow ∙ thin, le-leb (length (encode table (splice classes table tree) [])) room (omega (arith, plan_put)))
+        -- what is shown, and the output
+        pub written_shown : (room : ℕ) → plan.put ≤ room → Ok plan.put ≡ shown_of (converted records classes table room s)
+        written_shown room h = rw (call_written room h) (ap Ok plan_put)
 
-          -- what is shown, and the output
-          pub written_shown : (room : ℕ) → plan.put ≤ room → Written plan.put ≡ shown_of (converted records classes table room s)
-          written_shown room h = rw (call_written room h) (ap Written plan_put)
-
-          pub written_output : (out after : List ℕ) → plan.put ≤ length out → Stores table classes s 1 none 0 out after
-              → after ≡ output_after out (converted records classes table (length out) s)
-          unfolding Stores
-          written_output out after h w =
-              let bs : List ℕ = encode table (splice classes table tree) [] in
-              let e : after ≡ sets out 0 bs =
-              w (more tree empty) stand (ap (all_narrow table) one ∙ narrow_one (splice classes table tree) ∙ sym plan_narrow ∙ thin)
-              ∙ ap (λ (x : Trees). sets out 0 (encodes table x [])) one
-              ∙ ap (sets out 0) (bytes_one (splice classes table tree)) in
-              let z : 0 + length bs ≡ length bs = omega arith in
-              rw (call_written (length out) h) (e ∙ sets-eq bs out 0 (omega (arith, plan_put)) ∙ ap (λ (k : ℕ). bs ++ drop k out) z)
+        pub written_output : (out after : List ℕ) → plan.put ≤ length out → Stores table classes s 1 None 0 out after
+            → after ≡ output_after out (converted records classes table (length out) s)
+        unfolding Stores
+        written_output out after h w =
+            let bs : List ℕ = encode table (splice classes table tree) [] in
+            let e : after ≡ sets out 0 bs =
+            w (more tree empty) stand (ap (all_narrow table) one ∙ narrow_one (splice classes table tree) ∙ thin)
+            ∙ ap (λ (x : Trees). sets out 0 (encodes table x [])) one
+            ∙ ap (sets out 0) (bytes_one (splice classes table tree)) in
+            let z : 0 + length bs ≡ length bs = omega arith in
+            rw (call_written (length out) h) (e ∙ sets-eq bs out 0 (omega (arith, plan_put)) ∙ ap (λ (k : ℕ). bs ++ drop k out) z)
 
 -- The call's own checks, before
 

@@ -6,7 +6,6 @@ use mathlib.Core.Path.{◌≡◌, refl, sym, ap, ◌∙◌}
 use mathlib.Core.Logic.{◌↔◌}
 use mathlib.Core.List.{List, []}
 use mathlib.Core.Bool.{Bool, true, false, cond, false≢true}
-use mathlib.Core.Option.{Option, none, some}
 use lib.ListN.{length, get_or}
 use lib.Dec.{leb}
 use borrow.Author.Tests.{leb-true, leb-false, le-leb, eq-eqb}
@@ -21,13 +20,13 @@ use Rattle.term.specs.declared.Code.{Code}
 use Rattle.term.specs.declared.Code.TheVariants.{Symbol, Name, Run, Complement}
 use Rattle.reader.proofs.Inverse.{complete, whole_read, ReadWhole}
 use Rattle.term.proofs.SameParts.{and_true}
-use Rattle.term.specs.declared.Stand.TheVariants.{InList, Elsewhere}
 use Rattle.term.proofs.Splicing.{one_spliced}
 use Rattle.term.proofs.Sizes.{branch_length, more_length, encodes_length}
 use Rattle.term.specs.declared.Edition.TheVariants.{Two}
 use Rattle.splice.specs.Splicing.{in_list, class_in, ◌⊕◌, list_class, same_list, placed, splice, splice_all}
 use Rattle.splice.specs.Converting.{narrow, all_narrow, kept, written, unless_full, splicing, converted, Spliceable}
 use Rattle.splice.proofs.Splicing.{in_list_holds, directly_true, splice_spliced, spliced_two, splice_twice}
+use Rattle.std.specs.Prelude.{Some, None, Option}
 
 -- the bytes bs are those of t spliced, where s are those of t
 pub record SplicedFrom (classes table : List ℕ) (records : Bool) (s bs : List ℕ) (t : Tree) : Type 0 where
@@ -106,14 +105,14 @@ module _ (classes table : List ℕ) where
       let h = directly_true a (list_class classes table d) e in
       (sym (in_list_holds classes table d) ∙ ap in_list h.2, ap in_list h.1)
 
-  pub placed_none : (t : Tree) (ts : Trees) → placed classes table none t ts ≡ more t ts
+  pub placed_none : (t : Tree) (ts : Trees) → placed classes table None t ts ≡ more t ts
   placed_none (branch c us) ts = refl
 
   -- what is no list keeps its number of children
-  pub none_number : (ts : Trees) → number (splice_all classes table none ts) ≡ number ts
+  pub none_number : (ts : Trees) → number (splice_all classes table None ts) ≡ number ts
   unfolding splice number
   none_number empty = refl
-  none_number (more t ts) = ap number (placed_none (splice classes table t) (splice_all classes table none ts)) ∙ ap suc (none_number ts)
+  none_number (more t ts) = ap number (placed_none (splice classes table t) (splice_all classes table None ts)) ∙ ap suc (none_number ts)
 
   placed_fits : (records : Bool) (a : Option ℕ) (t : Tree) (ts : Trees) (left : ℕ) → Fits table records t left (in_list a) → FitAll table records ts left (in_list a)
       → FitAll table records (placed classes table a t ts) left (in_list a)
@@ -151,9 +150,9 @@ module _ (classes table : List ℕ) where
   shape_spliced l (Symbol s) ts f n = (f.0, go (is_list table s) f.1 n)
     where
       go : (b : Bool) → Counted b (number ts) (get_or table s 0)
-          → cond b (leb (number (splice_all classes table (class_in classes (cond b (InList s) Elsewhere)) ts)) 255) true ≡ true
-          → Counted b (number (splice_all classes table (class_in classes (cond b (InList s) Elsewhere)) ts)) (get_or table s 0)
-      go true f n = leb-true (number (splice_all classes table (some (get_or classes s s)) ts)) 255 n
+          → cond b (leb (number (splice_all classes table (class_in classes (cond b (Some s) None)) ts)) 255) true ≡ true
+          → Counted b (number (splice_all classes table (class_in classes (cond b (Some s) None)) ts)) (get_or table s 0)
+      go true f n = leb-true (number (splice_all classes table (Some (get_or classes s s)) ts)) 255 n
       go false f n = none_number ts ∙ f
   shape_spliced l (Name v) ts f n = none_number ts ∙ f
   shape_spliced l (Run v) ts f n = (none_number ts ∙ f.0, f.1)
@@ -234,7 +233,7 @@ module _ (classes table : List ℕ) where
   pub spliced_first : (records : Bool) (t : Tree) → Accepted (simple table) records t → narrow table (splice classes table t) ≡ true
       → Accepted (simple table) records (splice classes table t)
   spliced_first records t h n =
-      let a = spliced_accepted records t h n in record { short = a.short; fits = a.fits; spliced = one_spliced table [] Elsewhere (splice classes table t) }
+      let a = spliced_accepted records t h n in record { short = a.short; fits = a.fits; spliced = one_spliced table [] None (splice classes table t) }
 
 -- an accepted tree's bytes are read as the tree
 pub accepted_read : (table : List ℕ) (records : Bool) (t : Tree) → Accepted (simple table) records t
@@ -243,7 +242,7 @@ unfolding read_whole unless_spare
 accepted_read table records t h =
     rw (
       le-leb (length (encode table t [])) (longest records) h.short,
-      complete (simple table) records t 32 Elsewhere [] h.fits h.spliced,
+      complete (simple table) records t 32 None [] h.fits h.spliced,
       eq-eqb (length (encode table t [])) (length (encode table t [])) refl,
     )
 

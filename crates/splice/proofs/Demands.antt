@@ -6,14 +6,12 @@ use mathlib.Core.Logic.Iff
 use mathlib.Core.Logic.{◌↔◌}
 use mathlib.Core.List.{List, []}
 use mathlib.Core.Bool.{Bool, true, false, cond, ◌&&◌}
-use mathlib.Core.Option.{Option, none, some}
 use lib.ListN.{length}
 use lib.Dec.{eqb, leb, ltb}
 use borrow.Author.Tests.{eq-eqb, eqb-true, leb-true, leb-false, ltb-true, ltb-false}
 use Rattle.answers.specs.declared.Refusal.{Refusal}
 use Rattle.answers.proofs.Numbers.{numbered}
-use Rattle.byte_answers.specs.Answers.{move_number, move_length}
-use Rattle.byte_answers.specs.declared.Move.{Move}
+use Rattle.answers.specs.Shown.{refusal_number, size_told}
 use Rattle.term.specs.Class.{class_of, ClassList, Alike}
 use Rattle.term.specs.Language.{simple}
 use Rattle.term.specs.Limits.{nesting, FitAll, Octets, Accepted}
@@ -37,13 +35,14 @@ use Rattle.splice.proofs.Splicing.{splice_twice}
 use Rattle.splice.proofs.Turning.{turned_exactly}
 use Rattle.splice.proofs.Typed.{splice_term_holds}
 use Rattle.splice.proofs.Within.{turned_accepted}
+use Rattle.std.specs.Prelude.{Result, Err, Option, Some, None}
 
 -- Records turned into each other
 
 -- an accepted class list, or none
 pub classes_of_holds : (table : List ℕ) (list : Option (List ℕ)) → list_accepted table list ≡ true → Classes table (or_empty list)
-classes_of_holds table none h = no_classes table
-classes_of_holds table (some classes) h = record { low = λ s. low s (ltb s (length table)) refl; own = λ s. own s (ltb s (length table)) refl; alike = (accepted_alike table classes h).alike }
+classes_of_holds table None h = no_classes table
+classes_of_holds table (Some classes) h = record { low = λ s. low s (ltb s (length table)) refl; own = λ s. own s (ltb s (length table)) refl; alike = (accepted_alike table classes h).alike }
   where
     k : ClassList table classes
     k = (classes_exactly table classes).0 h
@@ -192,7 +191,7 @@ module _ (records : Bool) (table : List ℕ) (list : Option (List ℕ)) where
         by false l = leb-false (length (spliced_bytes (or_empty list) table t)) (length before) l
 
     demanded_by : (c : Conversion) → call records table list (length before) s ≡ c
-        → Demanded records table list s before (move_number (shown_of c)) (move_length (shown_of c)) (output_after before c)
+        → Demanded records table list s before (refusal_number (shown_of c)) (size_told (shown_of c)) (output_after before c)
     demanded_by (kept r) e = record {
       one_tree = one_input s;
       refused_exactly = (λ h t i. shorter t i r e, λ h. numbered r);
@@ -217,14 +216,14 @@ module _ (records : Bool) (table : List ℕ) (list : Option (List ℕ)) where
     }
 
     -- the whole contract
-    abbrev Done : Move → List ℕ → Type 0
+    abbrev Done : Result ℕ Refusal → List ℕ → Type 0
     Done r after =
         (r ≡ shown_of (call records table list (length before) s)) × ((after ≡ output_after before (call records table list (length before) s))
-        × Demanded records table list s before (move_number r) (move_length r) after)
+        × Demanded records table list s before (refusal_number r) (size_told r) after)
 
-    pub is_done : (r : Move) (after : List ℕ) → r ≡ shown_of (call records table list (length before) s)
+    pub is_done : (r : Result ℕ Refusal) (after : List ℕ) → r ≡ shown_of (call records table list (length before) s)
         → after ≡ output_after before (call records table list (length before) s) → Done r after
     is_done r after a b = (a, (b, rw (a, b) (demanded_by (call records table list (length before) s) refl)))
 
-    pub is_refused : (r : Refusal) → call records table list (length before) s ≡ kept r → Done (Move.Refused r) before
+    pub is_refused : (r : Refusal) → call records table list (length before) s ≡ kept r → Done (Err r) before
     is_refused r e = (rw e refl, (rw e refl, demanded_by (kept r) e))

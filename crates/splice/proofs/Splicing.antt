@@ -4,19 +4,17 @@ use native.Mathlib.Omega.{arith}
 use mathlib.Core.Path.{◌≡◌, refl, sym, ap, ◌∙◌}
 use mathlib.Core.List.{List}
 use mathlib.Core.Bool.{Bool, true, false, cond}
-use mathlib.Core.Option.{Option, none, some}
 use borrow.Author.Tests.{eqb-true, eq-eqb}
 use Rattle.term.specs.Language.{language}
 use Rattle.term.specs.Splicing.{stand_in, unspliced, SplicedAt, SplicedAll, in_list as standing}
 use Rattle.term.specs.Splicing as term_spliced
 use Rattle.term.specs.Tree.{Tree, Trees, branch, empty, more, list_code}
 use Rattle.term.specs.declared.Edition.TheVariants.{Two}
-use Rattle.term.specs.declared.Stand.{Stand}
-use Rattle.term.specs.declared.Stand.TheVariants.{InList, Elsewhere}
 use Rattle.term.proofs.Splicing.{stand_list}
 use Rattle.term.specs.declared.Code.{Code}
 use Rattle.splice.specs.Splicing.{◌⊕◌, class_in, list_class, in_list, same_list, placed, splice, splice_all}
 use Rattle.splice.proofs.ByClass.{SplicedIn, AllSplicedIn, Spliced}
+use Rattle.std.specs.Prelude.{Option, Some, None}
 
 -- sequences joined
 
@@ -40,18 +38,18 @@ pub in_list_holds : (classes table : List ℕ) (c : Code) → in_list (list_clas
 unfolding list_class
 in_list_holds classes table c = go (stand_in table c) ∙ stand_list table c
   where
-    go : (x : Stand) → in_list (class_in classes x) ≡ standing x
-    go (InList s) = refl
-    go Elsewhere = refl
+    go : (x : (Option ℕ)) → in_list (class_in classes x) ≡ standing x
+    go (Some s) = refl
+    go None = refl
 
 -- directly inside: both are lists, of one class
 
-pub directly_true : (a l : Option ℕ) → same_list a l ≡ true → (k : ℕ) × (a ≡ some k) × (l ≡ some k)
-directly_true none l e = let z : ◌≡◌ {A = ℕ} 0 1 = ap (λ (x : Bool). cond x 1 0) e in absurd (omega arith)
-directly_true (some k) none e = let z : ◌≡◌ {A = ℕ} 0 1 = ap (λ (x : Bool). cond x 1 0) e in absurd (omega arith)
-directly_true (some k) (some l) e = (k, refl, ap some (sym (eqb-true k l e)))
+pub directly_true : (a l : Option ℕ) → same_list a l ≡ true → (k : ℕ) × (a ≡ Some k) × (l ≡ Some k)
+directly_true None l e = let z : ◌≡◌ {A = ℕ} 0 1 = ap (λ (x : Bool). cond x 1 0) e in absurd (omega arith)
+directly_true (Some k) None e = let z : ◌≡◌ {A = ℕ} 0 1 = ap (λ (x : Bool). cond x 1 0) e in absurd (omega arith)
+directly_true (Some k) (Some l) e = (k, refl, ap Some (sym (eqb-true k l e)))
 
-pub true_directly : (k : ℕ) (a l : Option ℕ) → a ≡ some k → l ≡ some k → same_list a l ≡ true
+pub true_directly : (k : ℕ) (a l : Option ℕ) → a ≡ Some k → l ≡ Some k → same_list a l ≡ true
 true_directly k a l e f = rw (e, f) (eq-eqb k k refl)
 
 directly_one : (a l : Option ℕ) → same_list a l ≡ true → l ≡ a
@@ -101,7 +99,7 @@ module _ (classes table : List ℕ) where
 
   -- "Splicing twice changes nothing more"
   pub splice_twice : (t : Tree) → splice classes table (splice classes table t) ≡ splice classes table t
-  splice_twice t = spliced_same none (splice classes table t) (splice_spliced t)
+  splice_twice t = spliced_same None (splice classes table t) (splice_spliced t)
 
   -- sequences are spliced one after the other
 
@@ -125,27 +123,27 @@ module _ (classes table : List ℕ) where
   mutual
     unfolding SplicedIn list_class
 
-    spliced_at : (x : Stand) (t : Tree) → SplicedIn classes table (class_in classes x) t → SplicedAt (language Two table classes) x t
+    spliced_at : (x : (Option ℕ)) (t : Tree) → SplicedIn classes table (class_in classes x) t → SplicedAt (language Two table classes) x t
     spliced_at x (branch c ts) h = (h.0, spliced_all_at (stand_in table c) ts h.1)
 
-    spliced_all_at : (x : Stand) (ts : Trees) → AllSplicedIn classes table (class_in classes x) ts → SplicedAll (language Two table classes) x ts
+    spliced_all_at : (x : (Option ℕ)) (ts : Trees) → AllSplicedIn classes table (class_in classes x) ts → SplicedAll (language Two table classes) x ts
     spliced_all_at x empty h = tt
     spliced_all_at x (more t ts) h = (spliced_at x t h.0, spliced_all_at x ts h.1)
 
   pub spliced_two : (t : Tree) → Spliced classes table t → term_spliced.Spliced (language Two table classes) t
-  spliced_two t h = spliced_at Elsewhere t h
+  spliced_two t h = spliced_at None t h
 
   -- and the other way
 
   mutual
     unfolding SplicedIn list_class
 
-    two_at : (x : Stand) (t : Tree) → SplicedAt (language Two table classes) x t → SplicedIn classes table (class_in classes x) t
+    two_at : (x : (Option ℕ)) (t : Tree) → SplicedAt (language Two table classes) x t → SplicedIn classes table (class_in classes x) t
     two_at x (branch c ts) h = (h.0, two_all_at (stand_in table c) ts h.1)
 
-    two_all_at : (x : Stand) (ts : Trees) → SplicedAll (language Two table classes) x ts → AllSplicedIn classes table (class_in classes x) ts
+    two_all_at : (x : (Option ℕ)) (ts : Trees) → SplicedAll (language Two table classes) x ts → AllSplicedIn classes table (class_in classes x) ts
     two_all_at x empty h = tt
     two_all_at x (more t ts) h = (two_at x t h.0, two_all_at x ts h.1)
 
   pub two_spliced : (t : Tree) → term_spliced.Spliced (language Two table classes) t → Spliced classes table t
-  two_spliced t h = two_at Elsewhere t h
+  two_spliced t h = two_at None t h

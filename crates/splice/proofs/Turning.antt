@@ -5,7 +5,6 @@ use mathlib.Core.Path.{◌≡◌, refl, sym, ap, ap₂, ◌∙◌}
 use mathlib.Core.Logic.{◌↔◌, ◌⊎◌, inl, inr}
 use mathlib.Core.List.{List}
 use mathlib.Core.Bool.{Bool, true, false, cond}
-use mathlib.Core.Option.{Option, some}
 use Rattle.term.specs.Tree.{Tree, Trees, branch, empty, more}
 use Rattle.term.specs.declared.Code.{Code}
 use Rattle.term.specs.declared.Code.TheVariants.{Symbol}
@@ -15,6 +14,7 @@ use Rattle.splice.specs.Splicing.{◌⊕◌, list_class, same_list, placed, spli
 use Rattle.splice.specs.Turning.{Step, replaced, exchanged, inside, TurnedThrough, done, forth, back, Turned}
 use Rattle.splice.proofs.Splicing.{join_shift, directly_true, true_directly, splice_join}
 use Rattle.splice.proofs.Classes.{classed_join, one_class, same_class, placed_classed}
+use Rattle.std.specs.Prelude.{Option, Some}
 
 -- Turning is an equivalence, and goes on inside a tree
 
@@ -55,7 +55,7 @@ module _ (classes table : List ℕ) where
       let i : list_class classes table d ≡ a = h.2 ∙ sym h.1 in
       rw (e, i) (sym (splice_join classes table a us vs))
 
-  pub replaced_splice : (c d : Code) (k : ℕ) (ts us vs : Trees) → list_class classes table c ≡ some k → list_class classes table d ≡ some k
+  pub replaced_splice : (c d : Code) (k : ℕ) (ts us vs : Trees) → list_class classes table c ≡ Some k → list_class classes table d ≡ Some k
       → splice classes table (branch c (ts ⊕ more (branch d us) vs)) ≡ splice classes table (branch c (ts ⊕ us ⊕ vs))
   unfolding splice
   replaced_splice c d k ts us vs e f =

@@ -3,7 +3,6 @@ use Prim.Native.Nat.{ℕ}
 use mathlib.Core.Path.{◌≡◌, refl, sym, ap, ap₂, ◌∙◌}
 use mathlib.Core.List.{List}
 use mathlib.Core.Bool.{Bool, true, false, cond}
-use mathlib.Core.Option.{Option, none, some}
 use Rattle.term.specs.Tree.{Tree, Trees, branch, empty, more}
 use Rattle.term.specs.Term.{Term, Terms, node, nil, ◌::◌, ◌⧺◌, term_tree, term_trees, term_of}
 use Rattle.term.specs.Pattern.{Pattern, Children, name, symbol, complement, end, plain, run, pattern_tree, child_trees, pattern_of}
@@ -11,6 +10,7 @@ use Rattle.term.specs.declared.Code.TheVariants.{Symbol, Name, Run, Complement}
 use Rattle.term.proofs.Trees.{term_back, pattern_back}
 use Rattle.splice.specs.Splicing.{◌⊕◌, list_class, same_list, placed, splice, splice_all, splice_term, splice_pattern}
 use Rattle.splice.proofs.Converting.{placed_none}
+use Rattle.std.specs.Prelude.{Option, Some, None}
 
 -- sequences joined
 
@@ -70,8 +70,8 @@ module _ (classes table : List ℕ) where
 
   run_placed : (a : Option ℕ) (v : ℕ) (ts : Trees) → placed classes table a (branch (Run v) empty) ts ≡ more (branch (Run v) empty) ts
   unfolding list_class
-  run_placed none v ts = refl
-  run_placed (some k) v ts = refl
+  run_placed None v ts = refl
+  run_placed (Some k) v ts = refl
 
   mutual
     unfolding splice list_class

@@ -6,7 +6,6 @@ use mathlib.Core.Path.{◌≡◌, refl, sym, ap, ◌∙◌}
 use mathlib.Core.Logic.{◌↔◌, ◌⊎◌, inl, inr}
 use mathlib.Core.List.{List, []}
 use mathlib.Core.Bool.{Bool, true, false, cond, false≢true}
-use mathlib.Core.Option.{Option, none}
 use lib.ListN.{length}
 use lib.Dec.{leb}
 use borrow.Author.Tests.{leb-true}
@@ -18,7 +17,6 @@ use Rattle.term.specs.declared.Code.TheVariants.{Symbol, Name, Run, Complement}
 use Rattle.term.proofs.SameParts.{and_true}
 use Rattle.term.proofs.Sizes.{branch_length, more_length}
 use Rattle.term.specs.Class.{class_of}
-use Rattle.term.specs.declared.Stand.TheVariants.{Elsewhere}
 use Rattle.term.proofs.Splicing.{one_spliced}
 use Rattle.splice.proofs.ByClass.{Classes, class_code, classed, classed_all, UpToClass}
 use Rattle.splice.specs.Splicing.{in_list, ◌⊕◌, list_class, same_list, placed, splice, splice_all}
@@ -28,6 +26,7 @@ use Rattle.splice.proofs.Splicing.{in_list_holds, join_assoc, join_shift, direct
 use Rattle.splice.proofs.Classes.{one_class, same_class}
 use Rattle.splice.proofs.Turning.{turned_kind, turned_then, turned_back, turned_inside, turned_once, turned_spliced}
 use Rattle.splice.proofs.Converting.{number_join, length_join, fit_join, fit_split, fit_all_more, below_less, directly_list, narrow_placed, placed_none}
+use Rattle.std.specs.Prelude.{None, Option}
 
 -- within the limits, in no more bytes than so many
 Within : List ℕ → Bool → ℕ → Bool → ℕ → Tree → Type 0
@@ -98,10 +97,10 @@ module _ (classes table : List ℕ) where
   flat_each a empty = refl
   flat_each a (more t ts) = ap (placed classes table a (splice classes table t)) (flat_each a ts)
 
-  flat_none : (ts : Trees) → flat none ts ≡ ts
+  flat_none : (ts : Trees) → flat None ts ≡ ts
   unfolding flat
   flat_none empty = refl
-  flat_none (more t ts) = placed_none classes table t (flat none ts) ∙ ap (more t) (flat_none ts)
+  flat_none (more t ts) = placed_none classes table t (flat None ts) ∙ ap (more t) (flat_none ts)
 
   -- then the empty lists
 
@@ -249,7 +248,7 @@ module _ (classes table : List ℕ) (records : Bool) (left n : ℕ) (l : Bool) (
           (w (xs ⊕ more (branch d us) empty) (rw (join_shift xs (branch d us) ts) h) (rw (join_shift xs (branch d us) (flat classes table a ts)) k))
 
 module _ (classes table : List ℕ) (records : Bool) where
-  no_list : (c : Code) → list_code table c ≡ false → list_class classes table c ≡ none
+  no_list : (c : Code) → list_code table c ≡ false → list_class classes table c ≡ None
   unfolding list_class list_code
   no_list (Symbol s) e = rw e
   no_list (Name v) e = refl
@@ -399,7 +398,7 @@ turned_wider Kind Wide classes table f (back t u v h s r) = back t u v (f t h) s
 module _ (classes table : List ℕ) (ok : Classes table classes) (records : Bool) where
   accept : (n : ℕ) → n ≤ longest records → (t : Tree) → Within table records 32 false n t → Accepted (simple table) records t
   unfolding Within
-  accept n k t h = record { short = omega (arith, h.1); fits = h.0; spliced = one_spliced table [] Elsewhere t }
+  accept n k t h = record { short = omega (arith, h.1); fits = h.0; spliced = one_spliced table [] None t }
 
   down_accepted : (t : Tree) → Spliceable classes table records t → TurnedThrough (Accepted (simple table) records) classes table t (splice classes table t)
   down_accepted t h =

@@ -1,6 +1,5 @@
 -- What is demanded of the converter, and of splicing. The theorems are in proofs/Demands.
-use Rattle.std.specs.Prelude.{ℕ, ◌≤◌, ◌<◌, ◌≡◌, ◌↔◌, List, [], Bool, true, false, length}
-use Rattle.std.proofs.Math.Option.{Option}
+use Rattle.std.specs.Prelude.{ℕ, ◌≤◌, ◌<◌, ◌≡◌, ◌↔◌, List, [], Bool, true, false, length, Option}
 use Rattle.byte_answers.specs.Answers.{Writes}
 use Rattle.term.specs.Language.{simple, language}
 use Rattle.term.specs.Limits.{Accepted}

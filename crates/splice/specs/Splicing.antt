@@ -1,12 +1,11 @@
 -- "Edition 2 of the rule language lets a list directly inside a list of the same symbol, up to class, mean its elements in its place."
-use Rattle.std.specs.Prelude.{ℕ, List, Bool, true, false, cond}
-use Rattle.std.proofs.Math.Option.{Option, none, some}
+use Rattle.std.specs.Prelude.{ℕ, List, cond, Option}
 use Rattle.term.specs.Tree.{Tree, Trees, branch, empty, more}
 use Rattle.term.specs.Term.{Term, term_tree, term_of}
 use Rattle.term.specs.Pattern.{Pattern, pattern_tree, pattern_of}
 use Rattle.term.specs.declared.Code.{Code}
 use Rattle.term.specs.Splicing.{stand_in}
-pub use Rattle.term.specs.Splicing.{class_in, same_list}
+pub use Rattle.term.specs.Splicing.{class_in, in_list, same_list}
 
 infixr 65 ◌⊕◌
 -- two sequences joined
@@ -17,11 +16,6 @@ empty ⊕ us = us
 -- what a node is as a list: the class of its symbol, or no list. A name, a run name and a complement are no lists
 unfoldable pub list_class : List ℕ → List ℕ → Code → Option ℕ
 list_class classes table c = class_in classes (stand_in table c)
-
--- whether that is a list
-abbrev pub in_list : Option ℕ → Bool
-in_list none = false
-in_list (some k) = true
 
 -- a tree in front of others, as a child of what stands around it: its elements in its place, or the tree itself
 abbrev pub placed : List ℕ → List ℕ → Option ℕ → Tree → Trees → Trees

@@ -1,6 +1,5 @@
 -- "two records that can be spliced can be turned into each other by such replacements, either way, and exchanges within a class"
-use Rattle.std.specs.Prelude.{ℕ, ◌≡◌, List}
-use Rattle.std.proofs.Math.Option.{some}
+use Rattle.std.specs.Prelude.{ℕ, ◌≡◌, List, Some}
 use Rattle.term.specs.Tree.{Tree, Trees, branch, more}
 use Rattle.term.specs.declared.Code.{Code}
 use Rattle.term.specs.declared.Code.TheVariants.{Symbol}
@@ -10,7 +9,7 @@ use Rattle.splice.specs.Splicing.{◌⊕◌, list_class}
 -- one replacement or one exchange, anywhere in a tree
 pub data Step (classes table : List ℕ) : Tree → Tree → Type 0 where
   -- a list directly inside a list of its class, replaced by its elements
-  replaced : (c d : Code) (k : ℕ) (ts us vs : Trees) → list_class classes table c ≡ some k → list_class classes table d ≡ some k
+  replaced : (c d : Code) (k : ℕ) (ts us vs : Trees) → list_class classes table c ≡ Some k → list_class classes table d ≡ Some k
       → Step classes table (branch c (ts ⊕ more (branch d us) vs)) (branch c (ts ⊕ us ⊕ vs))
   -- a symbol exchanged for another of its class
   exchanged : (s r : ℕ) (ts : Trees) → class_of classes s ≡ class_of classes r → Step classes table (branch (Symbol s) ts) (branch (Symbol r) ts)

@@ -1,51 +1,39 @@
 // The converter to edition 2: an edition 1 record or pattern, spliced.
 #![tactic(auto)]
 
-ghost use Rattle.std.specs.Prelude.{◌≡◌, true, false, ◌+◌, ◌≤◌, ◌<◌, length, set};
-ghost use Rattle.std.proofs.Math.Option.{none, some};
-ghost use Rattle.byte_answers.specs.Answers.{move_number, move_length};
+ghost use Rattle.std.specs.Prelude.{◌≡◌, true, false, ◌+◌, ◌≤◌, ◌<◌, length, set, Option, Some, None, IfSome};
+ghost use Rattle.answers.specs.Shown.{refusal_number, size_told};
 ghost use Rattle.term.specs.Table.{table_accepted};
 ghost use Rattle.term.specs.Language.{simple};
-ghost use Rattle.term.specs.Limits.{longest_record};
-ghost use Rattle.reader.specs.Brought.{list_if};
+ghost use Rattle.splice.specs.Splicing.{in_list, same_list};
+ghost use Rattle.reader.specs.Lent.{brought_of};
 ghost use Rattle.reader.specs.Reading.{shown, read_whole};
 ghost use Rattle.splice.specs.Converting.{converted, output_after};
 ghost use Rattle.splice.specs.Call.{call, shown_of};
 ghost use Rattle.splice.specs.Demands.{Demanded};
-ghost use Rattle.splice.specs.Pass.{farthest, around_of, byte_of_number, is_direct, head_of, stored, narrow_node, node_put, PutWithin, Puts, Stores, PutsNode, StoresNode};
+ghost use Rattle.splice.specs.Pass.{farthest, head_of, stored, narrow_node, node_put, PutWithin, Puts, Stores, PutsNode, StoresNode};
 
 use answers::Refusal;
-use byte_answers::{Move, Read};
-use term::{LIST, check_table, class_of, entry_of};
+use reader::Brought;
+use term::{Edition, LIST, Language, check_table, class_of, entry_of};
 
 // The most elements that a list's byte can tell.
 const MOST_ELEMENTS: usize = 255;
 
-// A node's own bytes: how many, its number of children, whether it is a list, and its class if so. No byte: there is none.
+// A node's own bytes: how many, its number of children, and its class if it is a list.
 #[derive(Clone, Copy)]
 struct Head {
     size: usize,
     kids: u8,
-    list: bool,
-    class: u8,
+    class: Option<u8>,
 }
 
-impl Head {
-    const ABSENT: Head = Head {
-        size: 0,
-        kids: 0,
-        list: false,
-        class: 0,
-    };
-}
-
-// What trees come to when they are spliced: their bytes, the bytes put, the number of elements, and whether a byte can tell each list's number.
+// What trees come to when they are spliced: their bytes, the bytes put, and the number of elements.
 #[derive(Clone, Copy)]
 struct Put {
     used: usize,
     put: usize,
     elements: usize,
-    narrow: bool,
 }
 
 impl Put {
@@ -53,54 +41,40 @@ impl Put {
         used: 0,
         put: 0,
         elements: 0,
-        narrow: true,
     };
 }
 
-fn wide(b: u8) -> usize
-    ensures { result ≡ b }
+// The node at the start of s, if its own bytes are there.
+fn head_of(language: &Language<'_>, s: &[u8]) -> Option<Head>
+    ensures is { result ≡ head_of language.now.table.now language.now.classes.now s.now }
+    ensures within { IfSome result (λ h. (0 < h.size) × (h.size ≤ length s.now)) }
 {
-    b as usize
-}
-
-fn head_of(table: &[u8], classes: &[u8], s: &[u8]) -> Head
-    ensures is { result ≡ head_of table.now classes.now s.now }
-    ensures within { result.size ≤ length s.now }
-{
-    if s.len() == 0 {
-        return Head::ABSENT;
-    }
-    let b = s[0];
-    let entry = entry_of(table, b);
+    let b = *s.first()?;
+    let entry = entry_of(language.table, b);
     if entry != LIST {
-        return Head {
+        return Some(Head {
             size: 1,
             kids: entry,
-            list: false,
-            class: 0,
-        };
+            class: None,
+        });
     }
-    if s.len() < 2 {
-        return Head::ABSENT;
-    }
-    let class = class_of(classes, b);
-    Head {
+    let kids = *s.get(1)?;
+    Some(Head {
         size: 2,
-        kids: s[1],
-        list: true,
-        class: class,
-    }
+        kids,
+        class: Some(class_of(language.classes, b)),
+    })
 }
 
-// Whether a list stands directly in a list of its class.
-fn is_direct(head: Head, listed: bool, around: u8) -> bool
-    ensures { result ≡ is_direct head.list head.class listed around }
+// Whether a list stands directly in a list of its class: `around` is the class of the list around, if there is one.
+pub fn is_direct(around: Option<u8>, class: Option<u8>) -> bool
+    ensures { result ≡ same_list around class }
 {
-    head.list & listed & (around == head.class)
+    around.is_some() && around == class
 }
 
 // Stores a byte where there is room.
-fn store(out: &mut [u8], at: usize, b: u8)
+pub fn store(out: &mut [u8], at: usize, b: u8)
     ensures { out.new ≡ set out.old at b }
 {
     if at < out.len() {
@@ -108,224 +82,190 @@ fn store(out: &mut [u8], at: usize, b: u8)
     }
 }
 
-// A list's number of children, of one byte.
-fn byte(n: usize) -> u8
-    ensures { result ≡ byte_of_number n }
+// Stores a list's number of children, and answers whether a byte can tell it; other nodes store none.
+pub fn store_number(out: &mut [u8], at: usize, list: bool, n: usize) -> bool
+    ensures told { result ≡ narrow_node list n }
+    ensures stores { out.new ≡ stored list out.old at n }
 {
-    if n <= MOST_ELEMENTS {
-        return n as u8;
+    if !list {
+        return true;
     }
-    MOST_ELEMENTS as u8
-}
-
-// Stores a list's number of children.
-fn store_number(out: &mut [u8], at: usize, list: bool, n: usize)
-    ensures { out.new ≡ stored list out.old at n }
-{
-    if list {
-        let b = byte(n);
-        store(out, at, b);
+    if MOST_ELEMENTS < n {
+        return false;
     }
-}
-
-fn narrow_node(list: bool, n: usize) -> bool
-    ensures { result ≡ narrow_node list n }
-{
-    if list {
-        return n <= MOST_ELEMENTS;
-    }
+    store(out, at, n as u8);
     true
 }
 
-// What a node comes to by what its children came to; its number of children is stored.
-fn close_node(out: &mut [u8], at: usize, head: Head, inside: Put) -> Put
+// What a node comes to by what its children came to; its number of children is stored. `None` if a byte can't tell it.
+fn close_node(out: &mut [u8], at: usize, head: Head, inside: Put) -> Option<Put>
     requires { (at ≤ farthest) × (head.size + inside.used ≤ farthest) × (inside.put ≤ inside.used) }
     ensures is { result ≡ node_put head inside }
-    ensures stores { out.new ≡ stored head.list out.old (at + 1) inside.elements }
+    ensures stores { out.new ≡ stored (in_list head.class) out.old (at + 1) inside.elements }
 {
-    store_number(out, at + 1, head.list, inside.elements);
-    Put {
+    if !store_number(out, at + 1, head.class.is_some(), inside.elements) {
+        return None;
+    }
+    Some(Put {
         used: head.size + inside.used,
         put: head.size + inside.put,
         elements: 1,
-        narrow: inside.narrow & narrow_node(head.list, inside.elements),
-    }
+    })
 }
 
-// Puts the tree at the start of s, spliced, at a place in the output: a node that stays, its own bytes, then its children.
+// Puts the tree at the start of s, spliced, at a place in the output: a node that stays, its own bytes, then its children. `None` if a byte can't
+// tell each list's number of elements.
 #[cycle(put_node_put_trees)]
-fn put_node(table: &[u8], classes: &[u8], s: &[u8], out: &mut [u8], at: usize, head: Head) -> Put
-    requires is { head ≡ head_of table.now classes.now s.now }
+fn put_node(language: &Language<'_>, s: &[u8], out: &mut [u8], at: usize, head: Head) -> Option<Put>
+    requires is { Some head ≡ head_of language.now.table.now language.now.classes.now s.now }
     requires within { (0 < head.size) × (head.size ≤ length s.now) × (at + length s.now ≤ farthest) }
-    ensures is { PutsNode table.now classes.now s.now result }
-    ensures within { (0 < result.used) × PutWithin s.now result }
-    ensures stores { StoresNode table.now classes.now s.now at out.old out.new }
+    ensures is { PutsNode language.now.table.now language.now.classes.now s.now result }
+    ensures within { IfSome result (λ r. (0 < r.used) × PutWithin s.now r) }
+    ensures stores { StoresNode language.now.table.now language.now.classes.now s.now at out.old out.new }
 {
-    let size = head.size;
-    let kids = head.kids;
     store(out, at, s[0]);
-    if kids == 0 {
+    if head.kids == 0 {
         return close_node(out, at, head, Put::NOTHING);
     }
     let inside = put_trees(
-        table,
-        classes,
-        &s[size..],
+        language,
+        &s[head.size..],
         out,
-        at + size,
-        kids,
-        head.list,
+        at + head.size,
+        head.kids,
         head.class,
-    );
+    )?;
     close_node(out, at, head, inside)
 }
 
-// Puts so many trees at the start of s, spliced, at a place in the output; where there is no room, nothing.
+// Puts so many trees at the start of s, spliced, at a place in the output; where there is no room, nothing. `around` is the class of the list that
+// they stand in.
 #[cycle(put_node_put_trees)]
 fn put_trees(
-    table: &[u8],
-    classes: &[u8],
+    language: &Language<'_>,
     s: &[u8],
     out: &mut [u8],
     at: usize,
     count: u8,
-    listed: bool,
-    around: u8,
-) -> Put
+    around: Option<u8>,
+) -> Option<Put>
     requires { at + length s.now ≤ farthest }
-    ensures is { Puts table.now classes.now s.now count (around_of listed around) result }
-    ensures within { PutWithin s.now result }
-    ensures stores { Stores table.now classes.now s.now count (around_of listed around) at out.old out.new }
+    ensures is { Puts language.now.table.now language.now.classes.now s.now count around result }
+    ensures within { IfSome result (PutWithin s.now) }
+    ensures stores { Stores language.now.table.now language.now.classes.now s.now count around at out.old out.new }
 {
-    let mut trees = wide(count);
+    let mut trees = usize::from(count);
     let mut done = Put::NOTHING;
     while 0 < trees {
-        let used = done.used;
-        let rest = &s[used..];
-        let head = head_of(table, classes, rest);
-        let size = head.size;
-        if size == 0 {
-            return done;
-        }
-        if is_direct(head, listed, around) {
-            trees = trees - 1 + wide(head.kids);
-            done.used = used + size;
+        let rest = &s[done.used..];
+        let head = head_of(language, rest)?;
+        if is_direct(around, head.class) {
+            trees = trees - 1 + usize::from(head.kids);
+            done.used += head.size;
             continue;
         }
-        let node = put_node(table, classes, rest, out, at + done.put, head);
-        done = Put {
-            used: used + node.used,
-            put: done.put + node.put,
-            elements: done.elements + node.elements,
-            narrow: done.narrow & node.narrow,
-        };
-        trees = trees - 1;
+        let node = put_node(language, rest, out, at + done.put, head)?;
+        done.used += node.used;
+        done.put += node.put;
+        done.elements += node.elements;
+        trees -= 1;
     }
-    done
+    Some(done)
 }
 
-fn read_entry(records: bool, table: &[u8], bytes: &[u8]) -> Read
+fn read_entry(records: bool, table: &[u8], bytes: &[u8]) -> Result<usize, Refusal>
     ensures { result ≡ shown (read_whole records (simple table.now) bytes.now) }
 {
     if records {
-        return reader::read_record(table, bytes);
+        reader::read_record(table, bytes)
+    } else {
+        reader::read_pattern(table, bytes)
     }
-    reader::read_pattern(table, bytes)
 }
 
-// What the tree at the start of some bytes comes to: a pass with no room for what it puts.
-fn measure(table: &[u8], classes: &[u8], bytes: &[u8]) -> Put
-    requires { length bytes.now ≤ longest_record }
-    ensures { Puts table.now classes.now bytes.now 1 none result }
-{
-    let mut nothing = [0u8; 1];
-    put_trees(table, classes, bytes, &mut nothing, 1, 1, false, 0)
-}
-
-// Splices an edition 1 record or pattern into the front of the output, or leaves the output as it is; `classes` counts if the call brings a class
-// list.
+// Splices an edition 1 record or pattern into the front of the output, or leaves the output as it is.
 fn splice_brought(
     records: bool,
-    table: &[u8],
-    brings: bool,
-    classes: &[u8],
+    brought: &Brought<'_>,
     bytes: &[u8],
     output: &mut [u8],
-) -> Move
-    ensures answer { result ≡ shown_of (call records table.now (list_if brings classes.now) (length output.old) bytes.now) }
-    ensures contents { output.new ≡ output_after output.old (call records table.now (list_if brings classes.now) (length output.old) bytes.now) }
-    ensures demand { Demanded records table.now (list_if brings classes.now) bytes.now output.old (move_number result) (move_length result) output.new }
+) -> Result<usize, Refusal>
+    ensures answer { result ≡ shown_of (call records brought.now.table.now (brought_of brought.now).list (length output.old) bytes.now) }
+    ensures contents { output.new ≡ output_after output.old (call records brought.now.table.now (brought_of brought.now).list (length output.old) bytes.now) }
+    ensures demand { Demanded records brought.now.table.now (brought_of brought.now).list bytes.now output.old (refusal_number result) (size_told result) output.new }
 {
-    if !check_table(table) {
-        return Move::Refused(Refusal::Table);
+    if !check_table(brought.table) {
+        return Err(Refusal::Table);
     }
-    if !reader::accepts_list(table, brings, classes) {
-        return Move::Refused(Refusal::Class);
+    if !brought.accepts_list() {
+        return Err(Refusal::Class);
     }
-    let list = reader::brought_list(brings, classes);
-    splice_checked(records, table, list, bytes, output)
+    splice_checked(records, &brought.language(), bytes, output)
 }
 
-// The same with a table and a class list that passed their checks.
+// The same with a table and a class list that passed their checks. A pass with no room for what it puts tells the length.
 fn splice_checked(
     records: bool,
-    table: &[u8],
-    classes: &[u8],
+    language: &Language<'_>,
     bytes: &[u8],
     output: &mut [u8],
-) -> Move
-    requires { table_accepted table.now ≡ true }
-    ensures answer { result ≡ shown_of (converted records classes.now table.now (length output.old) bytes.now) }
-    ensures contents { output.new ≡ output_after output.old (converted records classes.now table.now (length output.old) bytes.now) }
+) -> Result<usize, Refusal>
+    requires { table_accepted language.now.table.now ≡ true }
+    ensures answer { result ≡ shown_of (converted records language.now.classes.now language.now.table.now (length output.old) bytes.now) }
+    ensures contents { output.new ≡ output_after output.old (converted records language.now.classes.now language.now.table.now (length output.old) bytes.now) }
 {
-    let entry = read_entry(records, table, bytes);
-    if let Read::Refused(r) = entry {
-        return Move::Refused(r);
+    read_entry(records, language.table, bytes)?;
+    let plan = put_trees(language, bytes, &mut [], 0, 1, None).ok_or(Refusal::Long)?;
+    if output.len() < plan.put {
+        return Err(Refusal::Full);
     }
-    let plan = measure(table, classes, bytes);
-    let size = plan.put;
-    let full = output.len() < size;
-    if !plan.narrow {
-        return Move::Refused(Refusal::Long);
-    }
-    if full {
-        return Move::Refused(Refusal::Full);
-    }
-    put_trees(table, classes, bytes, output, 0, 1, false, 0);
-    Move::Written(size)
+    put_trees(language, bytes, output, 0, 1, None);
+    Ok(plan.put)
 }
 
 // Splices an edition 1 record into the front of the output, or leaves the output as it is.
-pub fn splice_record(table: &[u8], bytes: &[u8], output: &mut [u8]) -> Move
-    ensures answer { result ≡ shown_of (call true table.now none (length output.old) bytes.now) }
-    ensures contents { output.new ≡ output_after output.old (call true table.now none (length output.old) bytes.now) }
-    ensures demand { Demanded true table.now none bytes.now output.old (move_number result) (move_length result) output.new }
+pub fn splice_record(table: &[u8], bytes: &[u8], output: &mut [u8]) -> Result<usize, Refusal>
+    ensures answer { result ≡ shown_of (call true table.now None (length output.old) bytes.now) }
+    ensures contents { output.new ≡ output_after output.old (call true table.now None (length output.old) bytes.now) }
+    ensures demand { Demanded true table.now None bytes.now output.old (refusal_number result) (size_told result) output.new }
 {
-    splice_brought(true, table, false, &table[..0], bytes, output)
+    splice_brought(true, &Brought::simply(table), bytes, output)
 }
 
 // A pattern likewise.
-pub fn splice_pattern(table: &[u8], bytes: &[u8], output: &mut [u8]) -> Move
-    ensures answer { result ≡ shown_of (call false table.now none (length output.old) bytes.now) }
-    ensures contents { output.new ≡ output_after output.old (call false table.now none (length output.old) bytes.now) }
-    ensures demand { Demanded false table.now none bytes.now output.old (move_number result) (move_length result) output.new }
+pub fn splice_pattern(table: &[u8], bytes: &[u8], output: &mut [u8]) -> Result<usize, Refusal>
+    ensures answer { result ≡ shown_of (call false table.now None (length output.old) bytes.now) }
+    ensures contents { output.new ≡ output_after output.old (call false table.now None (length output.old) bytes.now) }
+    ensures demand { Demanded false table.now None bytes.now output.old (refusal_number result) (size_told result) output.new }
 {
-    splice_brought(false, table, false, &table[..0], bytes, output)
+    splice_brought(false, &Brought::simply(table), bytes, output)
 }
 
 // The same up to class, by a class list.
-pub fn splice_record_in(table: &[u8], classes: &[u8], bytes: &[u8], output: &mut [u8]) -> Move
-    ensures answer { result ≡ shown_of (call true table.now (some classes.now) (length output.old) bytes.now) }
-    ensures contents { output.new ≡ output_after output.old (call true table.now (some classes.now) (length output.old) bytes.now) }
-    ensures demand { Demanded true table.now (some classes.now) bytes.now output.old (move_number result) (move_length result) output.new }
+pub fn splice_record_in(
+    table: &[u8],
+    classes: &[u8],
+    bytes: &[u8],
+    output: &mut [u8],
+) -> Result<usize, Refusal>
+    ensures answer { result ≡ shown_of (call true table.now (Some classes.now) (length output.old) bytes.now) }
+    ensures contents { output.new ≡ output_after output.old (call true table.now (Some classes.now) (length output.old) bytes.now) }
+    ensures demand { Demanded true table.now (Some classes.now) bytes.now output.old (refusal_number result) (size_told result) output.new }
 {
-    splice_brought(true, table, true, classes, bytes, output)
+    let brought = Brought::bringing(Edition::One, table, classes);
+    splice_brought(true, &brought, bytes, output)
 }
 
-pub fn splice_pattern_in(table: &[u8], classes: &[u8], bytes: &[u8], output: &mut [u8]) -> Move
-    ensures answer { result ≡ shown_of (call false table.now (some classes.now) (length output.old) bytes.now) }
-    ensures contents { output.new ≡ output_after output.old (call false table.now (some classes.now) (length output.old) bytes.now) }
-    ensures demand { Demanded false table.now (some classes.now) bytes.now output.old (move_number result) (move_length result) output.new }
+pub fn splice_pattern_in(
+    table: &[u8],
+    classes: &[u8],
+    bytes: &[u8],
+    output: &mut [u8],
+) -> Result<usize, Refusal>
+    ensures answer { result ≡ shown_of (call false table.now (Some classes.now) (length output.old) bytes.now) }
+    ensures contents { output.new ≡ output_after output.old (call false table.now (Some classes.now) (length output.old) bytes.now) }
+    ensures demand { Demanded false table.now (Some classes.now) bytes.now output.old (refusal_number result) (size_told result) output.new }
 {
-    splice_brought(false, table, true, classes, bytes, output)
+    let brought = Brought::bringing(Edition::One, table, classes);
+    splice_brought(false, &brought, bytes, output)
 }

@@ -2,96 +2,80 @@
 //
 // An outcome of edition 1 must be that of edition 2 if pattern and example are spliced, unless it is spent, which a candidate of edition 1
 // alone may be.
-use crate::spliced;
-use answers::Applied;
-use term::Edition;
-use vector_lines::shown::Shown;
-use vector_lines::text::Told;
-use vector_lines::{shown, text};
+ghost use Rattle.std.specs.Prelude.{◌≤◌};
+ghost use Rattle.vector_lines.specs.declared.text.TheConstants.{ROOM};
 
-fn example_told(
-    told: Told,
-    table: &[u8],
-    classes: &[u8],
-    pattern: &[u8],
+use answers::{Applied, Refusal};
+use reader::Brought;
+use term::Edition;
+use vector_lines::forms::{Call, is_unspliced_pattern, is_unspliced_record};
+use vector_lines::shown::{self, Line};
+use vector_lines::text::{Bytes, Fields, ROOM};
+
+#[derive(Drop)]
+pub struct Example {
+    pattern: Bytes,
     size: u32,
     allowance: u32,
-    output: &mut [u8],
-) -> Applied {
-    match told {
-        Told::Simply => example::example(table, pattern, size, allowance, output),
-        Told::In(edition) => example::example_in(
-            edition, table, classes, pattern, size, allowance, output,
-        ),
+    room: usize,
+    ghost within: { room ≤ ROOM },
+}
+
+impl Example {
+    pub fn read(fields: &mut Fields<'_>) -> Option<Example> {
+        Some(Example {
+            pattern: fields.bytes()?,
+            size: fields.number()?,
+            allowance: fields.number()?,
+            room: fields.room(ROOM)?,
+        })
     }
-}
 
-// The example with an output of so many bytes, and what was written beside what is stated; `numbers` are the fields after the pattern.
-fn of_example(
-    told: Told,
-    table: &[u8],
-    classes: &[u8],
-    pattern: &[u8],
-    numbers: &[u8],
-    stated: &[u8],
-) -> Shown {
-    let mut output = shown::blank();
-    let size = text::number_32(text::field(numbers, 0));
-    let allowance = text::number_32(text::field(numbers, 1));
-    let room = text::number(text::field(numbers, 2));
-    if text::ROOM < room {
-        return shown::nothing();
-    }
-    let found = example_told(
-        told,
-        table,
-        classes,
-        pattern,
-        size,
-        allowance,
-        &mut output[0..room],
-    );
-    shown::show_applied(found, &output, stated)
-}
-
-// The call with the fields after its language.
-pub fn once(told: Told, table: &[u8], classes: &[u8], rest: &[u8], stated: &[u8]) -> Shown {
-    let mut space = text::space();
-    let pattern = text::bytes(rest, 0, &mut space);
-    of_example(told, table, classes, pattern, text::after(rest, 1), stated)
-}
-
-// Whether the example in edition 1 can't be that in edition 2: it is spent or not spliced.
-fn is_unlike(table: &[u8], classes: &[u8], pattern: &[u8], size: u32, allowance: u32) -> bool {
-    let mut output = shown::blank();
-    let found = example_told(
-        Told::In(Edition::One),
-        table,
-        classes,
-        pattern,
-        size,
-        allowance,
-        &mut output[0..example::LARGEST_SIZE],
-    );
-    match found {
-        Applied::Bound(_, length) => {
-            spliced::is_unspliced_output(table, classes, &output, length)
+    fn found(&self, brought: &Brought<'_>, output: &mut [u8]) -> Result<Applied, Refusal> {
+        let (edition, table) = (brought.edition, brought.table);
+        let pattern = self.pattern.as_slice();
+        match brought.list {
+            None => example::example(table, pattern, self.size, self.allowance, output),
+            Some(classes) => example::example_in(
+                edition,
+                table,
+                classes,
+                pattern,
+                self.size,
+                self.allowance,
+                output,
+            ),
         }
-        Applied::Spent(_) => true,
-        _ => false,
+    }
+
+    // Whether the example in edition 1 can't be that in edition 2: it is spent or not spliced.
+    fn is_unlike(&self, table: &[u8], classes: &[u8]) -> bool {
+        let mut output = shown::blank();
+        let brought = Brought::bringing(Edition::One, table, classes);
+        match self.found(&brought, &mut output[..example::LARGEST_SIZE]) {
+            Ok(Applied::Bound(_, length)) => {
+                is_unspliced_record(table, classes, shown::written(&output, length))
+            }
+            Ok(Applied::Spent(_)) => true,
+            _ => false,
+        }
     }
 }
 
-// The call in edition 2: nothing where it may come to something else.
-pub fn once_more(table: &[u8], classes: &[u8], rest: &[u8], stated: &[u8]) -> Shown {
-    let mut space = text::space();
-    let pattern = text::bytes(rest, 0, &mut space);
-    let size = text::number_32(text::field(rest, 1));
-    let allowance = text::number_32(text::field(rest, 2));
-    if spliced::is_unspliced_pattern(table, classes, pattern)
-        || is_unlike(table, classes, pattern, size, allowance)
-    {
-        return shown::nothing();
+impl Call for Example {
+    // The example is stated after a word, the count and the length.
+    fn once(&self, brought: &Brought<'_>, stated: Fields<'_>) -> Line {
+        let mut output = shown::blank();
+        let found = self.found(brought, &mut output[..self.room]);
+        shown::show_applied(found, &output, stated.field(4))
     }
-    once(Told::In(Edition::Two), table, classes, rest, stated)
+
+    fn once_more(&self, table: &[u8], classes: &[u8], stated: Fields<'_>) -> Option<Line> {
+        if is_unspliced_pattern(table, classes, self.pattern.as_slice())
+            || self.is_unlike(table, classes)
+        {
+            return None;
+        }
+        Some(self.once(&Brought::bringing(Edition::Two, table, classes), stated))
+    }
 }

@@ -3,201 +3,149 @@
 //
 // A look must answer what applying with an output of a record's limit does. An outcome of edition 1 must be that of edition 2 if all is
 // spliced, the result too.
-use crate::spliced;
-use answers::{Applied, Refusal};
-use term::Edition;
-use vector_lines::shown::Shown;
-use vector_lines::text::Told;
-use vector_lines::{forms, shown, text};
+ghost use Rattle.std.specs.Prelude.{◌≤◌};
+ghost use Rattle.vector_lines.specs.declared.text.TheConstants.{ROOM};
 
-fn look_told(
-    told: Told,
-    table: &[u8],
-    classes: &[u8],
-    rule: &[u8],
-    template: &[u8],
-    record: &[u8],
+use answers::{Applied, Refusal};
+use reader::Brought;
+use term::Edition;
+use vector_lines::forms::{Call, is_unspliced_pattern, is_unspliced_record};
+use vector_lines::shown::{self, Line};
+use vector_lines::text::{Bytes, Fields, ROOM};
+
+#[derive(Drop)]
+pub struct Look {
+    rule: Bytes,
+    template: Bytes,
+    record: Bytes,
     allowance: u32,
-) -> Applied {
-    match told {
-        Told::Simply => replace::look(table, rule, template, record, allowance),
-        Told::In(edition) => {
-            replace::look_in(edition, table, classes, rule, template, record, allowance)
+}
+
+impl Look {
+    pub fn read(fields: &mut Fields<'_>) -> Option<Look> {
+        Some(Look {
+            rule: fields.bytes()?,
+            template: fields.bytes()?,
+            record: fields.bytes()?,
+            allowance: fields.number()?,
+        })
+    }
+
+    fn look(&self, brought: &Brought<'_>) -> Result<Applied, Refusal> {
+        let (edition, table) = (brought.edition, brought.table);
+        let (rule, template) = (self.rule.as_slice(), self.template.as_slice());
+        let record = self.record.as_slice();
+        match brought.list {
+            None => replace::look(table, rule, template, record, self.allowance),
+            Some(classes) => replace::look_in(
+                edition,
+                table,
+                classes,
+                rule,
+                template,
+                record,
+                self.allowance,
+            ),
         }
     }
-}
 
-fn apply_told(
-    told: Told,
-    table: &[u8],
-    classes: &[u8],
-    rule: &[u8],
-    template: &[u8],
-    record: &[u8],
-    allowance: u32,
-    output: &mut [u8],
-) -> Applied {
-    match told {
-        Told::Simply => replace::apply(table, rule, template, record, allowance, output),
-        Told::In(edition) => replace::apply_in(
-            edition, table, classes, rule, template, record, allowance, output,
-        ),
+    fn apply(&self, brought: &Brought<'_>, output: &mut [u8]) -> Result<Applied, Refusal> {
+        let (edition, table) = (brought.edition, brought.table);
+        let (rule, template) = (self.rule.as_slice(), self.template.as_slice());
+        let record = self.record.as_slice();
+        match brought.list {
+            None => replace::apply(table, rule, template, record, self.allowance, output),
+            Some(classes) => replace::apply_in(
+                edition,
+                table,
+                classes,
+                rule,
+                template,
+                record,
+                self.allowance,
+                output,
+            ),
+        }
+    }
+
+    // Whether a look answers what applying does with an output of a record's limit.
+    fn is_looked(&self, brought: &Brought<'_>) -> bool {
+        let mut output = shown::blank();
+        let applied = self.apply(brought, &mut output[0..term::LONGEST_RECORD]);
+        self.look(brought) == applied
+    }
+
+    // Whether the result in edition 1 can't be that in edition 2: it is outgrown or not spliced.
+    fn is_unlike(&self, table: &[u8], classes: &[u8]) -> bool {
+        let mut output = shown::blank();
+        let brought = Brought::bringing(Edition::One, table, classes);
+        let applied = self.apply(&brought, &mut output[0..term::LONGEST_RECORD]);
+        match applied {
+            Ok(Applied::Bound(_, length)) => {
+                is_unspliced_record(table, classes, shown::written(&output, length))
+            }
+            Err(Refusal::Outgrown) => true,
+            _ => false,
+        }
+    }
+
+    // Whether the call may come to something else in edition 2: its rule, its template, its record or its result is not spliced.
+    fn differs(&self, table: &[u8], classes: &[u8]) -> bool {
+        is_unspliced_pattern(table, classes, self.rule.as_slice())
+            || is_unspliced_pattern(table, classes, self.template.as_slice())
+            || is_unspliced_record(table, classes, self.record.as_slice())
+            || self.is_unlike(table, classes)
     }
 }
 
-// Whether a look answers what applying does with an output of a record's limit.
-fn is_looked(
-    told: Told,
-    table: &[u8],
-    classes: &[u8],
-    rule: &[u8],
-    template: &[u8],
-    record: &[u8],
-    allowance: u32,
-) -> bool {
-    let mut output = shown::blank();
-    let looked = look_told(told, table, classes, rule, template, record, allowance);
-    let applied = apply_told(
-        told,
-        table,
-        classes,
-        rule,
-        template,
-        record,
-        allowance,
-        &mut output[0..term::LONGEST_RECORD],
-    );
-    forms::is_same(shown::show_look(looked), shown::show_look(applied))
+impl Call for Look {
+    fn once(&self, brought: &Brought<'_>, _stated: Fields<'_>) -> Line {
+        if !self.is_looked(brought) {
+            return shown::show(b" another when looked at");
+        }
+        shown::show_look(self.look(brought))
+    }
+
+    fn once_more(&self, table: &[u8], classes: &[u8], stated: Fields<'_>) -> Option<Line> {
+        if self.differs(table, classes) {
+            return None;
+        }
+        Some(self.once(&Brought::bringing(Edition::Two, table, classes), stated))
+    }
 }
 
-// Applying with an output of so many bytes, and what it wrote beside what is stated.
-fn of_apply(
-    told: Told,
-    table: &[u8],
-    classes: &[u8],
-    rule: &[u8],
-    template: &[u8],
-    record: &[u8],
-    allowance: u32,
+// A look, and an output of so many bytes.
+#[derive(Drop)]
+pub struct Apply {
+    of: Look,
     room: usize,
-    stated: &[u8],
-) -> Shown {
-    let mut output = shown::blank();
-    if text::ROOM < room {
-        return shown::nothing();
-    }
-    let applied = apply_told(
-        told,
-        table,
-        classes,
-        rule,
-        template,
-        record,
-        allowance,
-        &mut output[0..room],
-    );
-    shown::show_applied(applied, &output, stated)
+    ghost within: { room ≤ ROOM },
 }
 
-// The call as it is told; `numbers` are the fields after the record.
-fn of_replacement(
-    looks: bool,
-    told: Told,
-    table: &[u8],
-    classes: &[u8],
-    rule: &[u8],
-    template: &[u8],
-    record: &[u8],
-    numbers: &[u8],
-    stated: &[u8],
-) -> Shown {
-    let allowance = text::number_32(text::field(numbers, 0));
-    if !is_looked(told, table, classes, rule, template, record, allowance) {
-        return shown::put(shown::nothing(), b" another when looked at");
-    }
-    if looks {
-        let looked = look_told(told, table, classes, rule, template, record, allowance);
-        return shown::show_look(looked);
-    }
-    let room = text::number(text::field(numbers, 1));
-    of_apply(
-        told, table, classes, rule, template, record, allowance, room, stated,
-    )
-}
-
-// The call with the fields after its language.
-pub fn once(
-    looks: bool,
-    told: Told,
-    table: &[u8],
-    classes: &[u8],
-    rest: &[u8],
-    stated: &[u8],
-) -> Shown {
-    let mut rule_space = text::space();
-    let mut template_space = text::space();
-    let mut record_space = text::space();
-    let rule = text::bytes(rest, 0, &mut rule_space);
-    let template = text::bytes(rest, 1, &mut template_space);
-    let record = text::bytes(rest, 2, &mut record_space);
-    let numbers = text::after(rest, 3);
-    of_replacement(
-        looks, told, table, classes, rule, template, record, numbers, stated,
-    )
-}
-
-// Whether the result in edition 1 can't be that in edition 2: it is outgrown or not spliced.
-fn is_unlike(
-    table: &[u8],
-    classes: &[u8],
-    rule: &[u8],
-    template: &[u8],
-    record: &[u8],
-    allowance: u32,
-) -> bool {
-    let mut output = shown::blank();
-    let applied = apply_told(
-        Told::In(Edition::One),
-        table,
-        classes,
-        rule,
-        template,
-        record,
-        allowance,
-        &mut output[0..term::LONGEST_RECORD],
-    );
-    match applied {
-        Applied::Bound(_, length) => spliced::is_unspliced_output(table, classes, &output, length),
-        _ => applied.number() == Refusal::Outgrown.number(),
+impl Apply {
+    pub fn read(fields: &mut Fields<'_>) -> Option<Apply> {
+        Some(Apply {
+            of: Look::read(fields)?,
+            room: fields.room(ROOM)?,
+        })
     }
 }
 
-// The call in edition 2: nothing where its rule, its template, its record or its result is not spliced.
-pub fn once_more(looks: bool, table: &[u8], classes: &[u8], rest: &[u8], stated: &[u8]) -> Shown {
-    let mut rule_space = text::space();
-    let mut template_space = text::space();
-    let mut record_space = text::space();
-    let rule = text::bytes(rest, 0, &mut rule_space);
-    let template = text::bytes(rest, 1, &mut template_space);
-    let record = text::bytes(rest, 2, &mut record_space);
-    let numbers = text::after(rest, 3);
-    let allowance = text::number_32(text::field(numbers, 0));
-    if spliced::is_unspliced_pattern(table, classes, rule)
-        || spliced::is_unspliced_pattern(table, classes, template)
-        || spliced::is_unspliced_record(table, classes, record)
-        || is_unlike(table, classes, rule, template, record, allowance)
-    {
-        return shown::nothing();
+impl Call for Apply {
+    // The result is stated after a word, the count and the length.
+    fn once(&self, brought: &Brought<'_>, stated: Fields<'_>) -> Line {
+        if !self.of.is_looked(brought) {
+            return shown::show(b" another when looked at");
+        }
+        let mut output = shown::blank();
+        let applied = self.of.apply(brought, &mut output[..self.room]);
+        shown::show_applied(applied, &output, stated.field(4))
     }
-    of_replacement(
-        looks,
-        Told::In(Edition::Two),
-        table,
-        classes,
-        rule,
-        template,
-        record,
-        numbers,
-        stated,
-    )
+
+    fn once_more(&self, table: &[u8], classes: &[u8], stated: Fields<'_>) -> Option<Line> {
+        if self.of.differs(table, classes) {
+            return None;
+        }
+        Some(self.once(&Brought::bringing(Edition::Two, table, classes), stated))
+    }
 }

@@ -2,255 +2,202 @@
 // nine lengths and the bytes of the records, and how many bytes are lent for those.
 //
 // After the call the station must be the one stated and all bytes those stated; what is refused must leave both.
-use answers::Applied;
-use byte_answers::Change;
-use station::{Changed, Replaced, Station};
-use vector_lines::shown::Shown;
-use vector_lines::text::Told;
-use vector_lines::{shown, text};
+ghost use Rattle.std.specs.Prelude.{◌≤◌};
+ghost use Rattle.vector_lines.specs.declared.text.TheConstants.{ROOM};
 
-// The names and the records of a station.
-const NAMES: usize = 8;
+use answers::{Applied, Refusal};
+use reader::Brought;
+use station::Station;
+use vector_lines::forms::Call;
+use vector_lines::shown::{self, Line, Refused};
+use vector_lines::text::{Bytes, Fields, ROOM};
 
-const RECORDS: usize = 9;
-
-// Every number of 16 bits is below it.
-const TOO_LARGE: usize = 65536;
-
-// The places of a station's bytes and of the number of bytes lent among its fields.
-const BYTES: usize = 3;
-
-const LENT: usize = 4;
-
-fn number_16(field: &[u8]) -> u16 {
-    (text::number(field) % TOO_LARGE) as u16
-}
-
-// The station that the fields stand for.
-fn station_of(fields: &[u8]) -> Station {
-    let mut names = [0u16; NAMES];
-    let mut lengths = [0u16; RECORDS];
-    text::unpack_list(text::field(fields, 1), &mut names);
-    text::unpack_list(text::field(fields, 2), &mut lengths);
-    Station {
-        kept: number_16(text::field(fields, 0)),
-        names: names,
-        lengths: lengths,
-    }
-}
-
-// Whether a field stands for a list of so many numbers.
-fn is_list_of(field: &[u8], n: usize) -> bool {
-    let mut list = [0u16; 1];
-    text::unpack_list(field, &mut list) == n
-}
-
-// Whether the fields stand for a station.
-fn is_station(fields: &[u8]) -> bool {
-    text::number(text::field(fields, 0)) < TOO_LARGE
-        && is_list_of(text::field(fields, 1), NAMES)
-        && is_list_of(text::field(fields, 2), RECORDS)
-}
-
-// The bytes of the records before a call.
-fn records_of(fields: &[u8]) -> [u8; text::ROOM] {
-    let mut records = shown::blank();
-    text::unpack(text::field(fields, BYTES), &mut records);
-    records
-}
-
-fn is_same_list(a: &[u16], b: &[u16]) -> bool {
-    let mut i: usize = 0;
-    while i < a.len() {
-        if b.len() <= i {
-            return false;
-        }
-        if a[i] != b[i] {
-            return false;
-        }
-        i += 1;
-    }
-    a.len() == b.len()
-}
-
-fn is_same_station(a: Station, b: Station) -> bool {
-    let names = a.names;
-    let other_names = b.names;
-    let lengths = a.lengths;
-    let other_lengths = b.lengths;
-    a.kept == b.kept && is_same_list(&names, &other_names) && is_same_list(&lengths, &other_lengths)
-}
-
-// Whether a station and the bytes are those that the fields stand for.
-fn is_held(station: Station, records: &[u8; text::ROOM], fields: &[u8]) -> bool {
-    let expected = records_of(fields);
-    is_same_station(station, station_of(fields)) && check::same(records, &expected)
-}
-
-// What is done, and the station after it in the words stated where those stand for it.
-fn put_station(out: Shown, station: Station, records: &[u8; text::ROOM], stated: &[u8]) -> Shown {
-    if text::fits(stated, b"nllb") && is_station(stated) && is_held(station, records, stated) {
-        return shown::put(shown::put(out, b" "), stated);
-    }
-    shown::put(out, b", another station")
-}
-
-// What is not done leaves the station.
-fn put_unchanged(out: Shown, station: Station, records: &[u8; text::ROOM], held: &[u8]) -> Shown {
-    if is_held(station, records, held) {
-        return out;
-    }
-    shown::put(out, b" changed")
-}
-
-// The station is stated after the word.
-fn show_changed(
-    answer: Change,
+// A station and the bytes of its records.
+#[derive(Clone, Copy)]
+struct Held {
     station: Station,
-    records: &[u8; text::ROOM],
-    held: &[u8],
-    stated: &[u8],
-) -> Shown {
-    match answer {
-        Change::Done => {
-            let done = shown::put(shown::nothing(), b" done");
-            put_station(done, station, records, text::after(stated, 2))
+    records: [u8; ROOM],
+}
+
+impl Held {
+    fn read(fields: &mut Fields<'_>) -> Option<Held> {
+        let station = Station {
+            kept: fields.number_16()?,
+            names: fields.array()?,
+            lengths: fields.array()?,
+        };
+        let bytes = fields.bytes()?;
+        let mut records = shown::blank();
+        for (record, byte) in records.iter_mut().zip(bytes.as_slice()) {
+            *record = *byte;
         }
-        Change::Refused(r) => {
-            let refused = shown::show_number(b" refused ", r.number() as u64);
-            put_unchanged(refused, station, records, held)
+        Some(Held { station, records })
+    }
+
+    // The station that is stated, if all that is left stands for one.
+    fn stated(mut fields: Fields<'_>) -> Option<Held> {
+        let held = Held::read(&mut fields)?;
+        fields.end()?;
+        Some(held)
+    }
+
+    fn is(&self, other: &Held) -> bool {
+        self.station.kept == other.station.kept
+            && self.station.names == other.station.names
+            && self.station.lengths == other.station.lengths
+            && self.records == other.records
+    }
+
+    // The station in the words stated where those stand for it.
+    fn put(&self, out: &mut Line, stated: Fields<'_>) {
+        match Held::stated(stated) {
+            Some(other) if self.is(&other) => {
+                shown::put(out, b" ");
+                shown::put(out, stated.rest());
+            }
+            _ => shown::put(out, b", another station"),
         }
+    }
+
+    // What is not done leaves the station.
+    fn put_changed(&self, out: &mut Line, before: &Held) {
+        if !self.is(before) {
+            shown::put(out, b" changed");
+        }
+    }
+
+    // The station is stated after the word.
+    fn show_done(&self, done: Result<(), Refusal>, before: &Held, stated: Fields<'_>) -> Line {
+        let mut out = Line::new();
+        match done {
+            Ok(()) => {
+                shown::put(&mut out, b" done");
+                self.put(&mut out, stated.after(2));
+            }
+            Err(refusal) => {
+                refusal.put(&mut out);
+                self.put_changed(&mut out, before);
+            }
+        }
+        out
+    }
+
+    // After an apply it is stated after the count and the length.
+    fn show_applied(
+        &self,
+        applied: Result<Applied, Refusal>,
+        before: &Held,
+        stated: Fields<'_>,
+    ) -> Line {
+        let mut out = shown::show_look(applied);
+        match applied {
+            Ok(Applied::Bound(_, _)) => self.put(&mut out, stated.after(4)),
+            _ => self.put_changed(&mut out, before),
+        }
+        out
     }
 }
 
-// After an apply it is stated after the count and the length.
-fn show_replaced(
-    answer: Applied,
-    station: Station,
-    records: &[u8; text::ROOM],
-    held: &[u8],
-    stated: &[u8],
-) -> Shown {
-    let told = shown::show_look(answer);
-    match answer {
-        Applied::Bound(_, _) => put_station(told, station, records, text::after(stated, 4)),
-        _ => put_unchanged(told, station, records, held),
+// A new station.
+#[derive(Drop)]
+pub struct New {
+    record: Bytes,
+    held: Held,
+    lent: usize,
+    ghost within: { lent ≤ ROOM },
+}
+
+impl New {
+    pub fn read(fields: &mut Fields<'_>) -> Option<New> {
+        Some(New {
+            record: fields.bytes()?,
+            held: Held::read(fields)?,
+            lent: fields.room(ROOM)?,
+        })
     }
 }
 
-fn new_told(
-    told: Told,
-    table: &[u8],
-    classes: &[u8],
-    record: &[u8],
-    before: Station,
-    records: &mut [u8],
-) -> Changed {
-    match told {
-        Told::Simply => station::new_by_value(table, record, before, records),
-        Told::In(edition) => {
-            station::new_by_value_in(edition, table, classes, record, before, records)
-        }
+impl Call for New {
+    fn once(&self, brought: &Brought<'_>, stated: Fields<'_>) -> Line {
+        let (edition, table) = (brought.edition, brought.table);
+        let record = self.record.as_slice();
+        let mut after = self.held;
+        let records = &mut after.records[..self.lent];
+        let done = match brought.list {
+            None => station::new(table, record, &mut after.station, records),
+            Some(classes) => {
+                station::new_in(edition, table, classes, record, &mut after.station, records)
+            }
+        };
+        after.show_done(done, &self.held, stated)
     }
 }
 
-fn apply_told(
-    told: Told,
-    table: &[u8],
-    classes: &[u8],
-    rule: &[u8],
-    template: &[u8],
+// An apply.
+#[derive(Drop)]
+pub struct Apply {
+    rule: Bytes,
+    template: Bytes,
     allowance: u32,
-    before: Station,
-    records: &mut [u8],
-) -> Replaced {
-    match told {
-        Told::Simply => {
-            station::apply_by_value(table, rule, template, allowance, before, records)
-        }
-        Told::In(edition) => station::apply_by_value_in(
-            edition, table, classes, rule, template, allowance, before, records,
-        ),
+    held: Held,
+    lent: usize,
+    ghost within: { lent ≤ ROOM },
+}
+
+impl Apply {
+    pub fn read(fields: &mut Fields<'_>) -> Option<Apply> {
+        Some(Apply {
+            rule: fields.bytes()?,
+            template: fields.bytes()?,
+            allowance: fields.number()?,
+            held: Held::read(fields)?,
+            lent: fields.room(ROOM)?,
+        })
     }
 }
 
-// A new station, with the fields after its language.
-pub fn make(told: Told, table: &[u8], classes: &[u8], rest: &[u8], stated: &[u8]) -> Shown {
-    let held = text::after(rest, 1);
-    let lent = text::number(text::field(held, LENT));
-    if !is_station(held) {
-        return shown::nothing();
+impl Call for Apply {
+    fn once(&self, brought: &Brought<'_>, stated: Fields<'_>) -> Line {
+        let (edition, table) = (brought.edition, brought.table);
+        let (rule, template) = (self.rule.as_slice(), self.template.as_slice());
+        let mut after = self.held;
+        let records = &mut after.records[..self.lent];
+        let applied = match brought.list {
+            None => station::apply(
+                table,
+                rule,
+                template,
+                self.allowance,
+                &mut after.station,
+                records,
+            ),
+            Some(classes) => station::apply_in(
+                edition,
+                table,
+                classes,
+                rule,
+                template,
+                self.allowance,
+                &mut after.station,
+                records,
+            ),
+        };
+        after.show_applied(applied, &self.held, stated)
     }
-    if text::ROOM < lent {
-        return shown::nothing();
-    }
-    let mut space = text::space();
-    let record = text::bytes(rest, 0, &mut space);
-    let mut records = records_of(held);
-    let changed = new_told(
-        told,
-        table,
-        classes,
-        record,
-        station_of(held),
-        &mut records[0..lent],
-    );
-    let answer = changed.answer;
-    let after = changed.station;
-    show_changed(answer, after, &records, held, stated)
-}
-
-// An apply, with the fields after its language.
-pub fn apply(told: Told, table: &[u8], classes: &[u8], rest: &[u8], stated: &[u8]) -> Shown {
-    let held = text::after(rest, 3);
-    let lent = text::number(text::field(held, LENT));
-    if !is_station(held) {
-        return shown::nothing();
-    }
-    if text::ROOM < lent {
-        return shown::nothing();
-    }
-    let mut rule_space = text::space();
-    let mut template_space = text::space();
-    let rule = text::bytes(rest, 0, &mut rule_space);
-    let template = text::bytes(rest, 1, &mut template_space);
-    let mut records = records_of(held);
-    let replaced = apply_told(
-        told,
-        table,
-        classes,
-        rule,
-        template,
-        text::number_32(text::field(rest, 2)),
-        station_of(held),
-        &mut records[0..lent],
-    );
-    let answer = replaced.answer;
-    let after = replaced.station;
-    show_replaced(answer, after, &records, held, stated)
-}
-
-fn keep_or_return(keeps: bool, name: u16, before: Station, records: &mut [u8]) -> Changed {
-    if keeps {
-        return station::keep_by_value(name, before, records);
-    }
-    station::return_by_value(name, before, records)
 }
 
 // A keep, or a return, with all its fields.
-pub fn move_record(keeps: bool, fields: &[u8], stated: &[u8]) -> Shown {
-    let held = text::after(fields, 1);
-    let lent = text::number(text::field(held, LENT));
-    if !is_station(held) || TOO_LARGE <= text::number(text::field(fields, 0)) {
-        return shown::nothing();
-    }
-    if text::ROOM < lent {
-        return shown::nothing();
-    }
-    let name = number_16(text::field(fields, 0));
-    let mut records = records_of(held);
-    let changed = keep_or_return(keeps, name, station_of(held), &mut records[0..lent]);
-    let answer = changed.answer;
-    let after = changed.station;
-    show_changed(answer, after, &records, held, stated)
+pub fn move_record(keeps: bool, mut fields: Fields<'_>, stated: Fields<'_>) -> Option<Line> {
+    let name = fields.number_16()?;
+    let before = Held::read(&mut fields)?;
+    let lent = fields.room(ROOM)?;
+    fields.end()?;
+    let mut after = before;
+    let records = &mut after.records[..lent];
+    let done = if keeps {
+        station::keep(name, &mut after.station, records)
+    } else {
+        station::return_to(name, &mut after.station, records)
+    };
+    Some(after.show_done(done, &before, stated))
 }

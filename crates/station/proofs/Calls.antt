@@ -15,7 +15,6 @@ use Rattle.station.specs.Call.{Outcome, outcome, lengthened, named, with_record,
 use Rattle.station.specs.Shelf.{shelf, keep_under, Kept, Nothing, under, Call, Keep, Return, Apply, Told, change, apply, Step, step, keep_step, return_step, apply_step, step_of}
 use Rattle.station.specs.Session.{entries_from, held_by, tell, call_of}
 use Rattle.station.specs.declared.Station.{Station}
-use Rattle.byte_answers.specs.declared.Change.TheVariants.{Done, Refused}
 use Rattle.answers.specs.declared.Applied.{Applied}
 use Rattle.answers.specs.declared.Refusal.TheVariants.{NoName, Shelf as Ninth}
 use Rattle.station.proofs.Sound.{Sound, sound, sound_check, fit_some, fit_all, length_fits}
@@ -25,18 +24,20 @@ use Rattle.station.proofs.Results.{result_some, result_short}
 use Rattle.station.proofs.Names.{keep_name, distinct_kept, stored_name}
 use Rattle.station.proofs.Entries.{entries_length, under_kept, under_none, entries_same, entries_kept}
 use Rattle.station.proofs.Shapes.{Shaped}
+use Rattle.std.specs.Prelude.{Result, Ok, Err}
+use Rattle.answers.specs.declared.Refusal.{Refusal}
 
 -- an outcome on a station, and what is said of what it holds
 pub record Follows (o : Outcome Told) (t : Step) : Type 0 where
   pub answer : o.answer ≡ t.answer
   pub held : held_by o.station o.records ≡ t.after
   pub shaped : Shaped o.station
-  pub checked : check_of o.station (length o.records) ≡ Done
+  pub checked : check_of o.station (length o.records) ≡ (Ok (tt {0}))
 
 along : (o o' : Outcome Told) (t t' : Step) → o ≡ o' → t ≡ t' → Follows o' t' → Follows o t
 along o o' t t' e f w = subst (λ (x : Outcome Told). Follows x t) (sym e) (subst (Follows o') (sym f) w)
 
-module _ (s : Station) (l : List ℕ) (shape : Shaped s) (e : check_of s (length l) ≡ Done) where
+module _ (s : Station) (l : List ℕ) (shape : Shaped s) (e : check_of s (length l) ≡ (Ok (tt {0}))) where
   ok : Sound s (length l)
   ok = sound s (length l) e
 
@@ -112,7 +113,7 @@ module _ (s : Station) (l : List ℕ) (shape : Shaped s) (e : check_of s (length
     abbrev current : List ℕ
     current = record_at s.lengths l 0
 
-    abbrev answer : Applied
+    abbrev answer : Result Applied Refusal
     answer = applied_to brought rule template allowance current
 
     abbrev result : List ℕ
@@ -126,13 +127,13 @@ module _ (s : Station) (l : List ℕ) (shape : Shaped s) (e : check_of s (length
     unfolding step_of held_by
     step_apply = refl
 
-    taken : (a : Applied) → answer ≡ a → Follows (tell apply (taken_up a result s l)) (apply_step (held_by s l) a result)
+    taken : (a : Result Applied Refusal) → answer ≡ a → Follows (tell apply (taken_up a result s l)) (apply_step (held_by s l) a result)
     unfolding taken_up apply_step held_by
-    taken (Applied.Bound n k) p =
-        current_follows result (result_some brought rule template allowance current n k p) (result_short brought rule template allowance current n k p) (apply (Applied.Bound n k))
-    taken (Applied.None n) p = refused (apply (Applied.None n))
-    taken (Applied.Spent n) p = refused (apply (Applied.Spent n))
-    taken (Applied.Refused r) p = refused (apply (Applied.Refused r))
+    taken (Ok (Applied.Bound n k)) p =
+        current_follows result (result_some brought rule template allowance current n k p) (result_short brought rule template allowance current n k p) (apply (Ok (Applied.Bound n k)))
+    taken (Ok (Applied.None n)) p = refused (apply (Ok (Applied.None n)))
+    taken (Ok (Applied.Spent n)) p = refused (apply (Ok (Applied.Spent n)))
+    taken (Err r) p = refused (apply (Err r))
 
     pub apply_call : Follows (tell apply (apply_of brought rule template allowance s l)) (step_of (held_by s l) (Apply brought rule template allowance))
     apply_call = along _ _ _ _ apply_is step_apply (taken answer refl)
@@ -203,7 +204,7 @@ module _ (s : Station) (l : List ℕ) (shape : Shaped s) (e : check_of s (length
         once = ap distinct now_kept ∙ distinct_kept name (names_of s) ok.once;
       }
 
-      pub keep_follows : Follows (outcome (change Done) s' l') (step (change Done) (shelf bytes (keep_under name bytes (entries_from s.lengths l (names_of s) 1))))
+      pub keep_follows : Follows (outcome (change (Ok (tt {0}))) s' l') (step (change (Ok (tt {0}))) (shelf bytes (keep_under name bytes (entries_from s.lengths l (names_of s) 1))))
       keep_follows = record {
         answer = refl;
         held = keep_holds;
@@ -211,11 +212,11 @@ module _ (s : Station) (l : List ℕ) (shape : Shaped s) (e : check_of s (length
         checked = sound_check s' (length l') keep_sound;
       }
 
-    keep_is : k < 8 → tell change (keep_of name s l) ≡ with_record (change Done) (named s k name) l (suc k) (record_at s.lengths l 0)
+    keep_is : k < 8 → tell change (keep_of name s l) ≡ with_record (change (Ok (tt {0}))) (named s k name) l (suc k) (record_at s.lengths l 0)
     unfolding keep_of unless_refused
     keep_is h = rw (e, lt-ltb k 8 h)
 
-    ninth_is : 8 ≤ k → tell change (keep_of name s l) ≡ outcome (change (Refused Ninth)) s l
+    ninth_is : 8 ≤ k → tell change (keep_of name s l) ≡ outcome (change (Err Ninth)) s l
     unfolding keep_of unless_refused
     ninth_is h = rw (e, le-ltb k 8 h)
 
@@ -225,17 +226,17 @@ module _ (s : Station) (l : List ℕ) (shape : Shaped s) (e : check_of s (length
     lost : s.kept ≤ k → under name (entries_from s.lengths l (names_of s) 1) ≡ Nothing
     lost h = under_none s.lengths l name (names_of s) 1 (omega (arith, h, names_length))
 
-    step_found : k < s.kept → step_of (held_by s l) (Keep name) ≡ step (change Done) (shelf (record_at s.lengths l 0) (keep_under name (record_at s.lengths l 0) (entries_from s.lengths l (names_of s) 1)))
+    step_found : k < s.kept → step_of (held_by s l) (Keep name) ≡ step (change (Ok (tt {0}))) (shelf (record_at s.lengths l 0) (keep_under name (record_at s.lengths l 0) (entries_from s.lengths l (names_of s) 1)))
     unfolding step_of keep_step held_by
     step_found h = rw (found h)
 
-    step_new : s.kept ≤ k → s.kept < 8 → step_of (held_by s l) (Keep name) ≡ step (change Done) (shelf (record_at s.lengths l 0) (keep_under name (record_at s.lengths l 0) (entries_from s.lengths l (names_of s) 1)))
+    step_new : s.kept ≤ k → s.kept < 8 → step_of (held_by s l) (Keep name) ≡ step (change (Ok (tt {0}))) (shelf (record_at s.lengths l 0) (keep_under name (record_at s.lengths l 0) (entries_from s.lengths l (names_of s) 1)))
     unfolding step_of keep_step held_by
     step_new h g =
         let few : length (entries_from s.lengths l (names_of s) 1) < 8 = omega (arith, g, entries_length s.lengths l (names_of s) 1, names_length) in
         rw (lost h, lt-ltb (length (entries_from s.lengths l (names_of s) 1)) 8 few)
 
-    step_ninth : 8 ≤ k → step_of (held_by s l) (Keep name) ≡ step (change (Refused Ninth)) (held_by s l)
+    step_ninth : 8 ≤ k → step_of (held_by s l) (Keep name) ≡ step (change (Err Ninth)) (held_by s l)
     unfolding step_of keep_step held_by
     step_ninth h =
         let all : 8 ≤ length (entries_from s.lengths l (names_of s) 1) = omega (arith, h, place_kept, entries_length s.lengths l (names_of s) 1, names_length) in
@@ -250,7 +251,7 @@ module _ (s : Station) (l : List ℕ) (shape : Shaped s) (e : check_of s (length
             let h = ltb-true k 8 p in
             let g = ltb-false k s.kept q in
             along _ _ _ _ (keep_is h) (step_new g (omega (arith, h, g, place_kept))) (keep_follows h)
-        go false p c q = along _ _ _ _ (ninth_is (ltb-false k 8 p)) (step_ninth (ltb-false k 8 p)) (refused (change (Refused Ninth)))
+        go false p c q = along _ _ _ _ (ninth_is (ltb-false k 8 p)) (step_ninth (ltb-false k 8 p)) (refused (change (Err Ninth)))
 
     -- return
     again_length : k < s.kept → length (record_at s.lengths l (suc k)) ≡ get_or s.lengths (suc k) 0
@@ -262,21 +263,21 @@ module _ (s : Station) (l : List ℕ) (shape : Shaped s) (e : check_of s (length
     again_most : k < s.kept → length (record_at s.lengths l (suc k)) ≤ apart
     again_most h = omega (arith, again_length h, length_fits s (length l) ok (suc k) (omega arith))
 
-    return_is : k < s.kept → tell change (return_of name s l) ≡ with_record (change Done) s l 0 (record_at s.lengths l (suc k))
+    return_is : k < s.kept → tell change (return_of name s l) ≡ with_record (change (Ok (tt {0}))) s l 0 (record_at s.lengths l (suc k))
     unfolding return_of unless_refused
     return_is h = rw (e, lt-ltb k s.kept h)
 
-    none_is : s.kept ≤ k → tell change (return_of name s l) ≡ outcome (change (Refused NoName)) s l
+    none_is : s.kept ≤ k → tell change (return_of name s l) ≡ outcome (change (Err NoName)) s l
     unfolding return_of unless_refused
     none_is h = rw (e, le-ltb k s.kept h)
 
-    step_back : k < s.kept → step_of (held_by s l) (Return name) ≡ step (change Done) (shelf (record_at s.lengths l (suc k)) (entries_from s.lengths l (names_of s) 1))
+    step_back : k < s.kept → step_of (held_by s l) (Return name) ≡ step (change (Ok (tt {0}))) (shelf (record_at s.lengths l (suc k)) (entries_from s.lengths l (names_of s) 1))
     unfolding step_of return_step held_by
     step_back h =
         let z : 1 + k ≡ suc k = omega arith in
         rw (found h, z)
 
-    step_none : s.kept ≤ k → step_of (held_by s l) (Return name) ≡ step (change (Refused NoName)) (held_by s l)
+    step_none : s.kept ≤ k → step_of (held_by s l) (Return name) ≡ step (change (Err NoName)) (held_by s l)
     unfolding step_of return_step held_by
     step_none h = rw (lost h)
 
@@ -285,8 +286,8 @@ module _ (s : Station) (l : List ℕ) (shape : Shaped s) (e : check_of s (length
       where
         go : (c : Bool) → ltb k s.kept ≡ c → Follows (tell change (return_of name s l)) (step_of (held_by s l) (Return name))
         go true q = along _ _ _ _ (return_is (ltb-true k s.kept q)) (step_back (ltb-true k s.kept q)) (current_follows (record_at s.lengths l (suc k)) (again_some (ltb-true k s.kept q))
-            (again_most (ltb-true k s.kept q)) (change Done))
-        go false q = along _ _ _ _ (none_is (ltb-false k s.kept q)) (step_none (ltb-false k s.kept q)) (refused (change (Refused NoName)))
+            (again_most (ltb-true k s.kept q)) (change (Ok (tt {0}))))
+        go false q = along _ _ _ _ (none_is (ltb-false k s.kept q)) (step_none (ltb-false k s.kept q)) (refused (change (Err NoName)))
 
   pub one_call : (c : Call) → Follows (call_of c s l) (step_of (held_by s l) c)
   unfolding call_of

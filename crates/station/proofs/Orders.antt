@@ -12,9 +12,9 @@ use Rattle.station.specs.Slot.{room, names_of}
 use Rattle.station.specs.Check.{place_of, is_among, distinct, check_of}
 use Rattle.station.specs.Demands.{InOrder}
 use Rattle.station.specs.declared.Station.{Station}
-use Rattle.byte_answers.specs.declared.Change.TheVariants.{Done}
 use Rattle.station.proofs.Sound.{Sound, sound, sound_check, and_left, and_right, fit_each, fit_some, fit_all}
 use Rattle.station.proofs.Shapes.{Shaped}
+use Rattle.std.specs.Prelude.{Ok}
 
 -- a name that stands at a place is among the names, and one that is among them stands at its place
 pub among_at : (name : ℕ) (ms : List ℕ) (j : ℕ) → j < length ms → get_or ms j 0 ≡ name → place_of name ms < length ms
@@ -109,8 +109,8 @@ module _ (s : Station) (shape : Shaped s) where
           o.once i j p' q' (sym (names_at o.eight i p') ∙ e ∙ names_at o.eight j q'));
     }
 
-    pub order_checked : room ≤ n → InOrder s → check_of s n ≡ Done
+    pub order_checked : room ≤ n → InOrder s → check_of s n ≡ (Ok (tt {0}))
     order_checked h o = sound_check s n (order_sound h o)
 
-    pub checked_order : check_of s n ≡ Done → InOrder s
+    pub checked_order : check_of s n ≡ (Ok (tt {0})) → InOrder s
     checked_order e = sound_order (sound s n e)

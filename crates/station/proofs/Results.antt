@@ -10,7 +10,7 @@ use lib.Seq.{take_at}
 use borrow.Author.Tests.{leb-true}
 use Rattle.answers.specs.Answers.{applied_length}
 use Rattle.answers.specs.declared.Applied.{Applied}
-use Rattle.answers.specs.declared.Applied.TheVariants.{Bound, Refused}
+use Rattle.answers.specs.declared.Applied.TheVariants.{Bound}
 use Rattle.answers.specs.declared.Refusal.TheVariants.{Full, Outgrown}
 use Rattle.term.specs.Limits.{longest_record}
 use Rattle.term.specs.Pattern.{Pattern}
@@ -25,6 +25,8 @@ use Rattle.replace.specs.Call.{Replacement, result, nothing, spent, replacement,
 use Rattle.replace.specs.Growth.{within_limits, nests, narrow}
 use Rattle.station.specs.Call.{applied_to, result_of, fresh}
 use Rattle.station.proofs.Sound.{and_left}
+use Rattle.std.specs.Prelude.{Result, Ok, Err}
+use Rattle.answers.specs.declared.Refusal.{Refusal}
 
 -- what is bound, with so much room
 pub record Comes (table : List ℕ) (r : Replacement) (k : ℕ) : Type 0 where
@@ -34,13 +36,13 @@ pub record Comes (table : List ℕ) (r : Replacement) (k : ℕ) : Type 0 where
   pub within : within_limits table term ≡ true
   pub long : k ≡ size table term
 
-bound_comes : (table : List ℕ) (room : ℕ) (r : Replacement) (n k : ℕ) → unless_full room (measured table r) ≡ Bound n k → Comes table r k
+bound_comes : (table : List ℕ) (room : ℕ) (r : Replacement) (n k : ℕ) → unless_full room (measured table r) ≡ Ok (Bound n k) → Comes table r k
 bound_comes table room (result u c) n k e = go (within_limits table u) refl e
   where
-    go : (b : Bool) → within_limits table u ≡ b → unless_full room (cond b (Bound c (size table u)) (Refused Outgrown)) ≡ Bound n k → Comes table (result u c) k
+    go : (b : Bool) → within_limits table u ≡ b → unless_full room (cond b (Ok (Bound c (size table u))) (Err Outgrown)) ≡ Ok (Bound n k) → Comes table (result u c) k
     go true h e = roomy (ltb room (size table u)) e
       where
-        roomy : (f : Bool) → cond f (Refused Full) (Bound c (size table u)) ≡ Bound n k → Comes table (result u c) k
+        roomy : (f : Bool) → cond f (Err Full) (Ok (Bound c (size table u))) ≡ Ok (Bound n k) → Comes table (result u c) k
         roomy true e = let z : ◌≡◌ {A = ℕ} 0 1 = cc in absurd (omega arith)
         roomy false e = record { term = u; count = c; is = refl; within = h; long = cc }
     go false h e = let z : ◌≡◌ {A = ℕ} 0 1 = cc in absurd (omega arith)
@@ -68,35 +70,35 @@ fresh_length = length-replicate {A = ℕ} longest_record 0
 
 module _ (brought : Brought) (rule template : List ℕ) (allowance : ℕ) (bytes : List ℕ) where
   -- the term whose bytes the result is
-  pub record Result (k : ℕ) : Type 0 where
+  pub record TheResult (k : ℕ) : Type 0 where
     pub term : Term
     pub within : within_limits brought.table term ≡ true
     pub long : k ≡ size brought.table term
     pub is : result_of brought rule template allowance bytes ≡ term_bytes brought.table term []
 
-  module _ (n k : ℕ) (e : applied_to brought rule template allowance bytes ≡ Bound n k) where
+  module _ (n k : ℕ) (e : applied_to brought rule template allowance bytes ≡ Ok (Bound n k)) where
     abbrev Trees : Type 0
     Trees = (Pattern × Pattern) × Term
 
     abbrev l : Language
     l = language_of brought
 
-    abbrev tells : ℕ → Trees → Applied
+    abbrev tells : ℕ → Trees → Result Applied Refusal
     tells room x = apply_on l x.0.0 x.0.1 x.1 allowance room
 
     abbrev leaves : Trees → List ℕ
     leaves x = output_on l x.0.0 x.0.1 x.1 allowance fresh
 
-    wrote : (v : Verdict Trees) → answer_by refusal (tells longest_record) v ≡ Bound n k
+    wrote : (v : Verdict Trees) → answer_by refusal (tells longest_record) v ≡ Ok (Bound n k)
         → (u : Term) × (within_limits brought.table u ≡ true) × (k ≡ size brought.table u) × (answer_by (λ r i. fresh) leaves v ≡ term_bytes brought.table u (drop k fresh))
     wrote (fault r i) f = let z : ◌≡◌ {A = ℕ} 0 1 = cc in absurd (omega arith)
     wrote (passed x) f =
         let r = replacement l x.0.0 x.0.1 x.1 allowance in
         let b = bound_comes brought.table longest_record r n k f in
-        let g : tells (length fresh) x ≡ Bound n k = ap (λ (m : ℕ). tells m x) fresh_length ∙ f in
-        (b.term, b.within, b.long, ap₂ (λ (y : Replacement) (a : Applied). written brought.table y a fresh) b.is g)
+        let g : tells (length fresh) x ≡ Ok (Bound n k) = ap (λ (m : ℕ). tells m x) fresh_length ∙ f in
+        (b.term, b.within, b.long, ap₂ (λ (y : Replacement) (a : Result Applied Refusal). written brought.table y a fresh) b.is g)
 
-    pub the_result : Result k
+    pub the_result : TheResult k
     unfolding apply_of output_of result_of
     the_result =
         let w = wrote (checked brought rule template bytes) e in
@@ -104,7 +106,7 @@ module _ (brought : Brought) (rule template : List ℕ) (allowance : ℕ) (bytes
           term = w.0;
           within = w.1;
           long = w.2;
-          is = ap₂ (λ (a : Applied) (o : List ℕ). take (applied_length a) o) e w.3
+          is = ap₂ (λ (a : Result Applied Refusal) (o : List ℕ). take (applied_length a) o) e w.3
               ∙ ap (λ (m : ℕ). take m (term_bytes brought.table w.0 (drop k fresh))) w.2 ∙ take_term brought.table w.0 (drop k fresh);
         }
 

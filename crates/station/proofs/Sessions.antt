@@ -17,8 +17,6 @@ use Rattle.station.specs.Call.{Outcome, outcome, lengthened, named, emptied, wit
 use Rattle.station.specs.Shelf.{Shelf, shelf, Call, Keep, Return, Apply}
 use Rattle.station.specs.Session.{entries_from, held_by, call_of, run_calls, told, AsTold, InNone}
 use Rattle.station.specs.declared.Station.{Station}
-use Rattle.byte_answers.specs.declared.Change.{Change}
-use Rattle.byte_answers.specs.declared.Change.TheVariants.{Done, Refused}
 use Rattle.answers.specs.declared.Applied.{Applied}
 use Rattle.answers.specs.declared.Refusal.{Refusal}
 use Rattle.answers.specs.declared.Refusal.TheVariants.{NoName, Shelf as Ninth}
@@ -27,8 +25,9 @@ use Rattle.station.proofs.Records.{stored_byte, record_same}
 use Rattle.station.proofs.Sound.{fit_all, sound_check}
 use Rattle.station.proofs.Calls.{one_call}
 use Rattle.station.proofs.Shapes.{Shaped}
+use Rattle.std.specs.Prelude.{Result, Ok, Err}
 
-pub session : (s : Station) (l : List ℕ) → Shaped s → check_of s (length l) ≡ Done → (cs : List Call) → AsTold (run_calls (s, l) cs) (told (held_by s l) cs)
+pub session : (s : Station) (l : List ℕ) → Shaped s → check_of s (length l) ≡ (Ok (tt {0})) → (cs : List Call) → AsTold (run_calls (s, l) cs) (told (held_by s l) cs)
 unfolding run_calls told
 session s l shape e [] = record { answers = refl; held = refl }
 session s l shape e (c ∷ cs) =
@@ -53,12 +52,12 @@ record_stays s l m bytes i h g none =
     let long : get_or (set s.lengths m (length bytes)) m 0 ≡ length bytes = get_or-set_same s.lengths m (length bytes) 0 g in
     stored_byte bytes l (apart * m) i (outside (apart * m) (length bytes) i (λ p. none m h (p.0, omega (arith, p.1, long))))
 
-refused_stays : {A : Type 0} (refused : Refusal → A) (a : Change) (s : Station) (l : List ℕ) (f : Unit {0} → Outcome A) (i : ℕ)
+refused_stays : {A : Type 0} (refused : Refusal → A) (a : Result (Unit {0}) Refusal) (s : Station) (l : List ℕ) (f : Unit {0} → Outcome A) (i : ℕ)
     → (InNone (f tt).station i → get_or (f tt).records i 0 ≡ get_or l i 0)
     → InNone (unless_refused refused a s l f).station i → get_or (unless_refused refused a s l f).records i 0 ≡ get_or l i 0
 unfolding unless_refused
-refused_stays refused Done s l f i w none = w none
-refused_stays refused (Refused r) s l f i w none = refl
+refused_stays refused (Ok u) s l f i w none = w none
+refused_stays refused (Err r) s l f i w none = refl
 
 -- a name's place is at most the number kept
 pub place_kept : (s : Station) (name : ℕ) → place_of name (names_of s) ≤ s.kept
@@ -68,51 +67,51 @@ place_kept s name = omega (arith, place_most name (take s.kept s.names), length-
 -- "other bytes stay"
 pub others_stay : (s : Station) (l : List ℕ) → Shaped s → (c : Call) (i : ℕ) → InNone (call_of c s l).station i → get_or (call_of c s l).records i 0 ≡ get_or l i 0
 unfolding call_of keep_of return_of apply_of taken_up
-others_stay s l shape (Keep name) i none = refused_stays Refused (check_of s (length l)) s l _ i (go (ltb k 8) refl) none
+others_stay s l shape (Keep name) i none = refused_stays Err (check_of s (length l)) s l _ i (go (ltb k 8) refl) none
   where
     k : ℕ
     k = place_of name (names_of s)
 
     go : (b : Bool) → ltb k 8 ≡ b
-        → InNone (cond b (with_record Done (named s k name) l (suc k) (record_at s.lengths l 0)) (outcome (Refused Ninth) s l)).station i
-        → get_or (cond b (with_record Done (named s k name) l (suc k) (record_at s.lengths l 0)) (outcome (Refused Ninth) s l)).records i 0 ≡ get_or l i 0
+        → InNone (cond b (with_record (Ok (tt {0})) (named s k name) l (suc k) (record_at s.lengths l 0)) (outcome (Err Ninth) s l)).station i
+        → get_or (cond b (with_record (Ok (tt {0})) (named s k name) l (suc k) (record_at s.lengths l 0)) (outcome (Err Ninth) s l)).records i 0 ≡ get_or l i 0
     go true p none = record_stays (named s k name) l (suc k) (record_at s.lengths l 0) i (most (ltb k s.kept) refl) (omega (arith, ltb-true k 8 p, shape.lengths)) none
       where
         most : (b : Bool) → ltb k s.kept ≡ b → suc k ≤ cond b s.kept (s.kept + 1)
         most true q = omega (arith, ltb-true k s.kept q)
         most false q = omega (arith, place_kept s name)
     go false p none = refl
-others_stay s l shape (Return name) i none = refused_stays Refused (check_of s (length l)) s l _ i (go (ltb k s.kept) refl) none
+others_stay s l shape (Return name) i none = refused_stays Err (check_of s (length l)) s l _ i (go (ltb k s.kept) refl) none
   where
     k : ℕ
     k = place_of name (names_of s)
 
     go : (b : Bool) → ltb k s.kept ≡ b
-        → InNone (cond b (with_record Done s l 0 (record_at s.lengths l (suc k))) (outcome (Refused NoName) s l)).station i
-        → get_or (cond b (with_record Done s l 0 (record_at s.lengths l (suc k))) (outcome (Refused NoName) s l)).records i 0 ≡ get_or l i 0
+        → InNone (cond b (with_record (Ok (tt {0})) s l 0 (record_at s.lengths l (suc k))) (outcome (Err NoName) s l)).station i
+        → get_or (cond b (with_record (Ok (tt {0})) s l 0 (record_at s.lengths l (suc k))) (outcome (Err NoName) s l)).records i 0 ≡ get_or l i 0
     go true p none = record_stays s l 0 (record_at s.lengths l (suc k)) i (omega arith) (omega (arith, shape.lengths)) none
     go false p none = refl
 others_stay s l shape (Apply brought rule template allowance) i none =
-    refused_stays Applied.Refused (check_of s (length l)) s l _ i (go (applied_to brought rule template allowance (record_at s.lengths l 0))) none
+    refused_stays Err (check_of s (length l)) s l _ i (go (applied_to brought rule template allowance (record_at s.lengths l 0))) none
   where
     result : List ℕ
     result = result_of brought rule template allowance (record_at s.lengths l 0)
 
-    go : (a : Applied) → InNone (taken_up a result s l).station i → get_or (taken_up a result s l).records i 0 ≡ get_or l i 0
-    go (Applied.Bound n k) none = record_stays s l 0 result i (omega arith) (omega (arith, shape.lengths)) none
-    go (Applied.None n) none = refl
-    go (Applied.Spent n) none = refl
-    go (Applied.Refused r) none = refl
+    go : (a : Result Applied Refusal) → InNone (taken_up a result s l).station i → get_or (taken_up a result s l).records i 0 ≡ get_or l i 0
+    go (Ok (Applied.Bound n k)) none = record_stays s l 0 result i (omega arith) (omega (arith, shape.lengths)) none
+    go (Ok (Applied.None n)) none = refl
+    go (Ok (Applied.Spent n)) none = refl
+    go (Err r) none = refl
 
 -- a new station holds its record and keeps none
-module _ (brought : Brought) (bytes : List ℕ) (s : Station) (l : List ℕ) (shape : Shaped s) (lent : room ≤ length l) (accepted : record_check brought bytes ≡ Done) where
+module _ (brought : Brought) (bytes : List ℕ) (s : Station) (l : List ℕ) (shape : Shaped s) (lent : room ≤ length l) (accepted : record_check brought bytes ≡ (Ok (tt {0}))) where
   abbrev s' : Station
   s' = lengthened (emptied s) 0 (length bytes)
 
   abbrev l' : List ℕ
   l' = sets l (apart * 0) bytes
 
-  pub new_is : new_of brought bytes s l ≡ outcome Done s' l'
+  pub new_is : new_of brought bytes s l ≡ outcome (Ok (tt {0})) s' l'
   unfolding new_of unless_refused
   new_is = rw (le-ltb (length l) room lent, accepted)
 
@@ -126,7 +125,7 @@ module _ (brought : Brought) (bytes : List ℕ) (s : Station) (l : List ℕ) (sh
       let e : get_or (set s.lengths 0 (length bytes)) j 0 ≡ length bytes = ap (λ (k : ℕ). get_or (set s.lengths 0 (length bytes)) k 0) z ∙ get_or-set_same s.lengths 0 (length bytes) 0 (omega (arith, shape.lengths)) in
       (omega (arith, e, accepted_some brought bytes accepted), omega (arith, e, accepted_short brought bytes accepted))
 
-  pub new_checked : check_of s' (length l') ≡ Done
+  pub new_checked : check_of s' (length l') ≡ (Ok (tt {0}))
   unfolding names_of distinct
   new_checked = sound_check s' (length l') (record {
     lent = omega (arith, lent, length-sets l (apart * 0) bytes);

@@ -10,9 +10,8 @@ use borrow.Author.Tests.{ltb-true, ltb-false, leb-true, lt-ltb, le-ltb, le-leb}
 use Rattle.station.specs.Slot.{apart, room, names_of}
 use Rattle.station.specs.Check.{all_fit, distinct, in_order, check_of}
 use Rattle.station.specs.declared.Station.{Station}
-use Rattle.byte_answers.specs.declared.Change.{Change}
-use Rattle.byte_answers.specs.declared.Change.TheVariants.{Done, Refused}
 use Rattle.answers.specs.declared.Refusal.{Refusal}
+use Rattle.std.specs.Prelude.{Result, Ok, Err}
 
 pub and_left : (a b : Bool) → (a && b) ≡ true → a ≡ true
 and_left true b e = refl
@@ -54,19 +53,19 @@ pub record Sound (s : Station) (n : ℕ) : Type 0 where
   pub fit : all_fit (take (s.kept + 1) s.lengths) ≡ true
   pub once : distinct (names_of s) ≡ true
 
-pub done_refused : (r : Refusal) → Refused r ≡ Done → ⊥
-done_refused r e = let z : ◌≡◌ {A = ℕ} 0 1 = ap (λ (a : Change). told a) e in omega (arith, z)
+pub done_refused : (r : Refusal) → Err r ≡ (Ok (tt {0})) → ⊥
+done_refused r e = let z : ◌≡◌ {A = ℕ} 0 1 = ap (λ (a : Result (Unit {0}) Refusal). told a) e in omega (arith, z)
   where
-    told : Change → ℕ
-    told Done = 1
-    told (Refused r) = 0
+    told : Result (Unit {0}) Refusal → ℕ
+    told (Ok u) = 1
+    told (Err r) = 0
 
-pub sound : (s : Station) (n : ℕ) → check_of s n ≡ Done → Sound s n
+pub sound : (s : Station) (n : ℕ) → check_of s n ≡ (Ok (tt {0})) → Sound s n
 unfolding check_of in_order
 sound s n e = go (ltb n room) refl (in_order s) refl e
   where
-    go : (a : Bool) → ltb n room ≡ a → (b : Bool) → in_order s ≡ b → cond a (Refused Rattle.answers.specs.declared.Refusal.TheVariants.Full)
-        (cond b Done (Refused Rattle.answers.specs.declared.Refusal.TheVariants.Directory)) ≡ Done → Sound s n
+    go : (a : Bool) → ltb n room ≡ a → (b : Bool) → in_order s ≡ b → cond a (Err Rattle.answers.specs.declared.Refusal.TheVariants.Full)
+        (cond b (Ok (tt {0})) (Err Rattle.answers.specs.declared.Refusal.TheVariants.Directory)) ≡ (Ok (tt {0})) → Sound s n
     go true p b q f = absurd (done_refused _ f)
     go false p false q f = absurd (done_refused _ f)
     go false p true q f =
@@ -84,6 +83,6 @@ module _ (s : Station) (n : ℕ) (ok : Sound s n) where
   pub length_fits : (j : ℕ) → j ≤ s.kept → get_or s.lengths j 0 ≤ apart
   length_fits j h = fit_each (s.kept + 1) s.lengths ok.fit j (omega arith)
 
-pub sound_check : (s : Station) (n : ℕ) → Sound s n → check_of s n ≡ Done
+pub sound_check : (s : Station) (n : ℕ) → Sound s n → check_of s n ≡ (Ok (tt {0}))
 unfolding check_of in_order
 sound_check s n ok = rw (le-ltb n room ok.lent, le-leb s.kept 8 ok.few, ok.fit, ok.once)

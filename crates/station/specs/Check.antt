@@ -1,11 +1,10 @@
 -- "Before all else, under 36,864 bytes lent for records is 12; then, unless the call makes a new station, over eight kept, a length not 1 to 4,096
 -- or a name twice is 9." Only lengths and names in use are checked.
-use Rattle.std.specs.Prelude.{ℕ, suc, ◌+◌, List, [], ◌∷◌, Bool, true, cond, ◌&&◌, not, length, take, leb, ltb, eqb}
+use Rattle.std.specs.Prelude.{ℕ, suc, ◌+◌, List, [], ◌∷◌, Bool, true, cond, ◌&&◌, not, length, take, leb, ltb, eqb, Result, Ok, Err}
 use Rattle.station.specs.Slot.{most_kept, apart, room, names_of}
 use Rattle.station.specs.declared.Station.{Station}
-use Rattle.byte_answers.specs.declared.Change.{Change}
-use Rattle.byte_answers.specs.declared.Change.TheVariants.{Done, Refused}
 use Rattle.answers.specs.declared.Refusal.TheVariants.{Full, Directory}
+use Rattle.answers.specs.declared.Refusal.{Refusal}
 
 -- where a name stands among names; their number, where it is none of them
 unfoldable pub place_of : ℕ → List ℕ → ℕ
@@ -29,5 +28,5 @@ unfoldable pub in_order : Station → Bool
 in_order s = leb s.kept most_kept && all_fit (take (s.kept + 1) s.lengths) && distinct (names_of s)
 
 -- of a station and the number of bytes lent
-unfoldable pub check_of : Station → ℕ → Change
-check_of s n = cond (ltb n room) (Refused Full) (cond (in_order s) Done (Refused Directory))
+unfoldable pub check_of : Station → ℕ → Result (Unit {0}) Refusal
+check_of s n = cond (ltb n room) (Err Full) (cond (in_order s) (Ok tt) (Err Directory))

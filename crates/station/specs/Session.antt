@@ -1,7 +1,7 @@
 -- Lists of calls: on a station and the bytes lent for its records, and on what is current and kept.
 use Rattle.std.specs.Prelude.{ℕ, suc, ◌+◌, ◌*◌, ◌≤◌, ◌<◌, ◌≡◌, List, [], ◌∷◌, get_or}
 use Rattle.answers.specs.Answers.{applied_number}
-use Rattle.byte_answers.specs.Answers.{change_number}
+use Rattle.answers.specs.Shown.{refusal_number}
 use Rattle.station.specs.Slot.{apart, record_at, names_of}
 use Rattle.station.specs.Call.{Outcome, outcome, keep_of, return_of, apply_of}
 use Rattle.station.specs.Shelf.{Entry, entry, Shelf, shelf, Call, Keep, Return, Apply, Told, change, apply, step_of}
@@ -56,7 +56,7 @@ pub record AsTold (run : Run Lent) (said : Run Shelf) : Type 0 where
 
 -- the number that an answer shows
 abbrev pub told_number : Told → ℕ
-told_number (change c) = change_number c
+told_number (change c) = refusal_number c
 told_number (apply a) = applied_number a
 
 -- a byte of the j-th record, and one of no record

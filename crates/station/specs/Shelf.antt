@@ -1,12 +1,11 @@
 -- "the current record and the kept ones are what the accepted calls say": what the calls say, with no word of bytes and places.
-use Rattle.std.specs.Prelude.{ℕ, List, [], ◌∷◌, cond, length, ltb, eqb}
+use Rattle.std.specs.Prelude.{ℕ, List, [], ◌∷◌, cond, length, ltb, eqb, Result, Ok, Err}
 use Rattle.answers.specs.declared.Applied.{Applied}
 use Rattle.answers.specs.declared.Refusal.TheVariants.{NoName, Shelf as Ninth}
-use Rattle.byte_answers.specs.declared.Change.{Change}
-use Rattle.byte_answers.specs.declared.Change.TheVariants.{Done, Refused}
 use Rattle.reader.specs.Brought.{Brought}
 use Rattle.station.specs.Slot.{most_kept}
 use Rattle.station.specs.Call.{applied_to, result_of}
+use Rattle.answers.specs.declared.Refusal.{Refusal}
 
 -- a record kept under a name
 pub record Entry : Type 0 where
@@ -45,8 +44,8 @@ pub data Call : Type 0 where
 
 -- what a call answers
 pub data Told : Type 0 where
-  change : Change → Told
-  apply : Applied → Told
+  change : Result (Unit {0}) Refusal → Told
+  apply : Result Applied Refusal → Told
 
 -- a call's answer, and what is current and kept after it
 pub record Step : Type 0 where
@@ -58,20 +57,20 @@ step a h = record { answer = a; after = h }
 
 -- a name that is kept already, or one for which there is room: "21 (shelf) for a ninth name"
 unfoldable pub keep_step : ℕ → Shelf → Found → Step
-keep_step name h (Kept bytes) = step (change Done) (shelf h.current (keep_under name h.current h.kept))
+keep_step name h (Kept bytes) = step (change (Ok tt)) (shelf h.current (keep_under name h.current h.kept))
 keep_step name h Nothing =
-    cond (ltb (length h.kept) most_kept) (step (change Done) (shelf h.current (keep_under name h.current h.kept))) (step (change (Refused Ninth)) h)
+    cond (ltb (length h.kept) most_kept) (step (change (Ok tt)) (shelf h.current (keep_under name h.current h.kept))) (step (change (Err Ninth)) h)
 
 unfoldable pub return_step : Shelf → Found → Step
-return_step h (Kept bytes) = step (change Done) (shelf bytes h.kept)
-return_step h Nothing = step (change (Refused NoName)) h
+return_step h (Kept bytes) = step (change (Ok tt)) (shelf bytes h.kept)
+return_step h Nothing = step (change (Err NoName)) h
 
 -- an apply's answer, and its result
-unfoldable pub apply_step : Shelf → Applied → List ℕ → Step
-apply_step h (Applied.Bound n k) result = step (apply (Applied.Bound n k)) (shelf result h.kept)
-apply_step h (Applied.None n) result = step (apply (Applied.None n)) h
-apply_step h (Applied.Spent n) result = step (apply (Applied.Spent n)) h
-apply_step h (Applied.Refused r) result = step (apply (Applied.Refused r)) h
+unfoldable pub apply_step : Shelf → Result Applied Refusal → List ℕ → Step
+apply_step h (Ok (Applied.Bound n k)) result = step (apply (Ok (Applied.Bound n k))) (shelf result h.kept)
+apply_step h (Ok (Applied.None n)) result = step (apply (Ok (Applied.None n))) h
+apply_step h (Ok (Applied.Spent n)) result = step (apply (Ok (Applied.Spent n))) h
+apply_step h (Err r) result = step (apply (Err r)) h
 
 unfoldable pub step_of : Shelf → Call → Step
 step_of h (Keep name) = keep_step name h (under name h.kept)

@@ -1,5 +1,5 @@
 -- Where a station's records lie: "Records lie 4,096 bytes apart, the current one first, then the kept ones in the order their names came".
-use Rattle.std.specs.Prelude.{ℕ, ◌+◌, ◌*◌, ◌≤◌, ◌⊎◌, List, get_or, take, drop}
+use Rattle.std.specs.Prelude.{ℕ, ◌*◌, List, get_or, take, drop}
 use Rattle.term.specs.Limits.{longest_record}
 use Rattle.station.specs.declared.Station.{Station}
 
@@ -21,7 +21,3 @@ record_at lengths bytes i = take (get_or lengths i 0) (drop (apart * i) bytes)
 -- the names that are kept, in the order in which they came
 unfoldable pub names_of : Station → List ℕ
 names_of s = take s.kept s.names
-
--- two stretches of n bytes that have none in common
-abbrev pub Clear : ℕ → ℕ → ℕ → Type 0
-Clear a b n = (a + n ≤ b) ⊎ (b + n ≤ a)

@@ -11,13 +11,8 @@ use borrow.Author.Tests.{le-leb, lt-leb, leb-true, leb-false, eq-eqb}
 use Rattle.answers.specs.Refusal.{number_of}
 use Rattle.answers.specs.declared.Refusal.{Refusal}
 use Rattle.answers.specs.declared.Refusal.TheVariants.{Table, Class, Long, Spare, Full}
-use Rattle.byte_answers.specs.Answers.{move_number, move_length}
-use Rattle.byte_answers.specs.declared.Read.{Read}
-use Rattle.byte_answers.specs.declared.Read.TheVariants.{Ends}
-use Rattle.byte_answers.specs.declared.Move.{Move}
-use Rattle.byte_answers.specs.declared.Move.TheVariants.{Written}
+use Rattle.answers.specs.Shown.{refusal_number, size_told}
 use Rattle.term.specs.Language.{Language, simple}
-use Rattle.term.specs.declared.Stand.TheVariants.{Elsewhere}
 use Rattle.term.specs.Limits.{nesting, longest_record, Octets, TermAccepted}
 use Rattle.term.specs.Table.{table_accepted}
 use Rattle.term.specs.Term.{Term, term_tree, term_of, term_bytes}
@@ -39,6 +34,7 @@ use Rattle.stored.specs.Passes.{stretched, stripped, record_trees, stored_trees,
 use Rattle.stored.specs.Demands.{RecordOf, StoredOf, Demanded}
 use Rattle.stored.proofs.Forms.{stretched_term, stripped_term}
 use Rattle.stored.proofs.Inverse.{stored_short, stored_complete, read_sound, Sound, form_sound}
+use Rattle.std.specs.Prelude.{Result, Ok, Err, None}
 
 -- Either way
 
@@ -85,19 +81,19 @@ module _ {Of To : Term → List ℕ → Type 0} {back : List ℕ → Parsed (Lis
 
 module _ {Of To : Term → List ℕ → Type 0} {back : List ℕ → Parsed (List ℕ)} {s : List ℕ} (before : List ℕ) {a : Parsed (List ℕ)} (ties : Ties Of To back s a) where
   -- what a move shows and leaves, and what is demanded of it
-  abbrev Done : Move → List ℕ → Type 0
-  Done r after = (r ≡ moved a (length before)) × ((after ≡ output_after a before) × Demanded Of To back s before (move_number r) (move_length r) after)
+  abbrev Done : Result ℕ Refusal → List ℕ → Type 0
+  Done r after = (r ≡ moved a (length before)) × ((after ≡ output_after a before) × Demanded Of To back s before (refusal_number r) (size_told r) after)
 
-  pub is_refused : (r : Refusal) → a ≡ refused r → Done (Move.Refused r) before
+  pub is_refused : (r : Refusal) → a ≡ refused r → Done (Err r) before
   unfolding moved output_after
   is_refused r e = (rw e, (rw e, refused_demanded before r (rw (e) at ties)))
 
   module _ (cs : List ℕ) (n : ℕ) (e : a ≡ read cs n) where
-    pub is_full : length before < length cs → Done (Move.Refused Full) before
+    pub is_full : length before < length cs → Done (Err Full) before
     unfolding moved output_after
     is_full l = let f = lt-leb (length cs) (length before) l in (rw (e, f), (rw (e, f), full_demanded before cs n (rw (e) at ties) l))
 
-    pub is_written : (size : ℕ) (after : List ℕ) → size ≡ length cs → size ≤ length before → after ≡ sets before 0 cs → Done (Written size) after
+    pub is_written : (size : ℕ) (after : List ℕ) → size ≡ length cs → size ≤ length before → after ≡ sets before 0 cs → Done (Ok size) after
     unfolding moved output_after
     is_written size after z l h =
         let f = le-leb (length cs) (length before) (omega arith) in
@@ -107,12 +103,12 @@ module _ {Of To : Term → List ℕ → Type 0} {back : List ℕ → Parsed (Lis
 -- Both readers read the bytes of a term within the limits
 
 old_complete : (lang : Language) (t : Term) (s : List ℕ) → term_bytes lang.table t [] ≡ s → TermAccepted lang t
-    → (read_tree lang true nesting Elsewhere s ≡ read (term_tree t) (length s)) × (read_record lang s ≡ read t (length s))
+    → (read_tree lang true nesting None s ≡ read (term_tree t) (length s)) × (read_record lang s ≡ read t (length s))
 unfolding read_record read_whole unless_spare map_parsed
 old_complete lang t s b a =
     let n : length (term_bytes lang.table t []) ≡ length s = ap length b in
-    let d : read_tree lang true nesting Elsewhere s ≡ read (term_tree t) (length s) =
-    ap (read_tree lang true nesting Elsewhere) (sym b) ∙ complete lang true (term_tree t) nesting Elsewhere [] a.fits a.spliced ∙ ap (read (term_tree t)) n in
+    let d : read_tree lang true nesting None s ≡ read (term_tree t) (length s) =
+    ap (read_tree lang true nesting None) (sym b) ∙ complete lang true (term_tree t) nesting None [] a.fits a.spliced ∙ ap (read (term_tree t)) n in
     (d, rw (le-leb (length s) longest_record (omega (arith, a.short)), d, eq-eqb (length s) (length s) refl, term_back t))
 
 module _ (brought : Brought) (s : List ℕ) where
@@ -142,7 +138,7 @@ module _ (brought : Brought) (s : List ℕ) where
       unfolding restoring unless_brought bytes_by
       restoring_read t n e = rw (a, l, e)
 
-      pub storing_refused : (r : Refusal) → shown (read_record (language_of brought) s) ≡ Read.Refused r → storing brought s ≡ refused r
+      pub storing_refused : (r : Refusal) → shown (read_record (language_of brought) s) ≡ Err r → storing brought s ≡ refused r
       unfolding storing unless_brought bytes_by
       storing_refused r e = rw (a, l, refused_shown (read_record (language_of brought) s) r e)
 
@@ -235,18 +231,18 @@ module _ (brought : Brought) (s : List ℕ) (octets : Octets s) where
     pub short : length s ≤ longest_record
     pub size : stretched brought.table s false ≡ length (stored_bytes brought.table its_term [])
     pub puts : length (stored_bytes brought.table its_term []) ≤ room → Putting (simple brought.table) s room
-    pub put : stored_trees brought.table (record_trees (simple brought.table) nesting Elsewhere 1 s) ≡ stored_bytes brought.table its_term []
+    pub put : stored_trees brought.table (record_trees (simple brought.table) nesting None 1 s) ≡ stored_bytes brought.table its_term []
 
-  pub storable : (n room : ℕ) → table_accepted brought.table ≡ true → brought_accepted brought ≡ true → shown (read_record (language_of brought) s) ≡ Ends n → Storable room
+  pub storable : (n room : ℕ) → table_accepted brought.table ≡ true → brought_accepted brought ≡ true → shown (read_record (language_of brought) s) ≡ Ok n → Storable room
   unfolding record_trees read_all chain join stores stretched stored_trees
   storable n room a l e =
       let x = ends_shown (read_record lang s) n e in
       let t = x.0 in
       let g = record_read lang s octets n t x.1 in
       -- edition 1 accepts it too
-      let first : TermAccepted (simple table) t = record { short = g.1.short; fits = g.1.fits; spliced = one_spliced table [] Elsewhere (term_tree t) } in
+      let first : TermAccepted (simple table) t = record { short = g.1.short; fits = g.1.fits; spliced = one_spliced table [] None (term_tree t) } in
       let d = (old_complete (simple table) t s g.0 first).0 in
-      let r : record_trees (simple table) nesting Elsewhere 1 s ≡ read (more (term_tree t) empty) (length s + 0) = rw d in
+      let r : record_trees (simple table) nesting None 1 s ≡ read (more (term_tree t) empty) (length s + 0) = rw d in
       record {
         its_term = t;
         its_length = n;
@@ -266,11 +262,11 @@ module _ (brought : Brought) (s : List ℕ) (octets : Octets s) where
       (ap (λ (x : List ℕ). stripped table x 0) (sym h.0 ∙ ap (λ (y : Tree). store table y []) u) ∙ stripped_term table (term_of t) [] ∙ ap (λ (y : Tree). encode table y []) (sym u), u)
 
   module _ (accepted : table_accepted brought.table ≡ true) (listed : brought_accepted brought ≡ true) where
-    pub restoring_refused : (r : Refusal) → shown (read_form (language_of brought) s) ≡ Read.Refused r → restoring brought s ≡ refused r
+    pub restoring_refused : (r : Refusal) → shown (read_form (language_of brought) s) ≡ Err r → restoring brought s ≡ refused r
     unfolding restoring unless_brought bytes_by read_stored unless_long map_parsed
     restoring_refused r e = rw (accepted, listed, refused_shown (read_form lang s) r e)
 
-    module _ (n : ℕ) (e : shown (read_form (language_of brought) s) ≡ Ends n) where
+    module _ (n : ℕ) (e : shown (read_form (language_of brought) s) ≡ Ok n) where
       its_tree : (t : Tree) × ((read_form lang s ≡ read t n) × Sound lang s octets t n)
       its_tree = let x = ends_shown (read_form lang s) n e in (x.0, (x.1, rw x.1 at (form_sound lang s octets)))
 
@@ -292,12 +288,12 @@ module _ (brought : Brought) (s : List ℕ) (octets : Octets s) where
 -- The whole of a stored record
 
 module _ (lang : Language) (s : List ℕ) where
-  pub form_long : longest_stored < length s → Read.Refused Long ≡ shown (read_form lang s)
+  pub form_long : longest_stored < length s → Err Long ≡ shown (read_form lang s)
   unfolding read_form shown
   form_long h = sym (rw (lt-leb (length s) longest_stored h))
 
   -- what is read is not too long
-  pub form_short : (n : ℕ) → shown (read_form lang s) ≡ Ends n → length s ≤ longest_stored
+  pub form_short : (n : ℕ) → shown (read_form lang s) ≡ Ok n → length s ≤ longest_stored
   form_short n e = go (leb (length s) longest_stored) refl
     where
       go : (b : Bool) → leb (length s) longest_stored ≡ b → length s ≤ longest_stored
@@ -305,15 +301,15 @@ module _ (lang : Language) (s : List ℕ) where
       go false l = let z : ◌≡◌ {A = ℕ} 0 1 = cc (form_long (leb-false (length s) longest_stored l)) in absurd (omega arith)
 
   module _ (l : length s ≤ longest_stored) where
-    form_tree : read_form lang s ≡ unless_spare s (read_stored_tree lang nesting Elsewhere s)
+    form_tree : read_form lang s ≡ unless_spare s (read_stored_tree lang nesting None s)
     unfolding read_form
     form_tree = rw (le-leb (length s) longest_stored l)
 
-    pub form_refused : (r : Refusal) → shown (read_stored_tree lang nesting Elsewhere s) ≡ Read.Refused r → Read.Refused r ≡ shown (read_form lang s)
-    form_refused r e = sym (ap shown form_tree ∙ whole_refused s (read_stored_tree lang nesting Elsewhere s) r e)
+    pub form_refused : (r : Refusal) → shown (read_stored_tree lang nesting None s) ≡ Err r → Err r ≡ shown (read_form lang s)
+    form_refused r e = sym (ap shown form_tree ∙ whole_refused s (read_stored_tree lang nesting None s) r e)
 
-    pub form_spare : (n : ℕ) → shown (read_stored_tree lang nesting Elsewhere s) ≡ Ends n → n < length s → Read.Refused Spare ≡ shown (read_form lang s)
-    form_spare n e h = sym (ap shown form_tree ∙ whole_spare s (read_stored_tree lang nesting Elsewhere s) n e h)
+    pub form_spare : (n : ℕ) → shown (read_stored_tree lang nesting None s) ≡ Ok n → n < length s → Err Spare ≡ shown (read_form lang s)
+    form_spare n e h = sym (ap shown form_tree ∙ whole_spare s (read_stored_tree lang nesting None s) n e h)
 
-    pub form_all : (n : ℕ) → shown (read_stored_tree lang nesting Elsewhere s) ≡ Ends n → n ≤ length s → length s ≤ n → Ends n ≡ shown (read_form lang s)
-    form_all n e h k = sym (ap shown form_tree ∙ whole_all s (read_stored_tree lang nesting Elsewhere s) n e h k)
+    pub form_all : (n : ℕ) → shown (read_stored_tree lang nesting None s) ≡ Ok n → n ≤ length s → length s ≤ n → Ok n ≡ shown (read_form lang s)
+    form_all n e h k = sym (ap shown form_tree ∙ whole_all s (read_stored_tree lang nesting None s) n e h k)

@@ -1,102 +1,78 @@
--- The frames of both loops: the reader's, and beside each the place where its first tree starts.
-use Prim.Native.Nat.{ℕ, zero, suc, ◌+◌, ◌-◌, ◌≤◌, ◌<◌}
+-- The levels of both loops: the reader's frames, each with the place where its first tree starts.
+use Prim.Native.Nat.{ℕ, ◌+◌, ◌≤◌, ◌<◌}
 use native.Mathlib.Omega.{arith}
-use native.Mathlib.Numerals.{add-one}
 use mathlib.Core.Path.{◌≡◌, refl, ap, ◌∙◌}
-use mathlib.Core.List.{List, [], ◌∷◌}
+use mathlib.Core.List.{List, [], ◌∷◌, ◌++◌, reverse, reverse-append}
 use mathlib.Core.Bool.{Bool, true, false, ◌||◌, true≢false}
-use lib.ListN.{length, get_or, set, length-set}
-use lib.Seq.{get_or-set_same}
+use lib.ListN.{length, length-reverse}
 use lib.Dec.{ltb}
 use borrow.Author.Tests.{ltb-false}
 use Rattle.term.specs.Limits.{nesting}
 use Rattle.term.specs.Splicing.{in_list}
-use Rattle.term.specs.declared.Stand.{Stand}
-use Rattle.term.specs.declared.Stand.TheVariants.{Elsewhere}
 use Rattle.reader.specs.Frame.{frame}
 use Rattle.reader.specs.declared.Frame.{Frame}
-use Rattle.reader.proofs.Frames.{rest_of, none, stack, stack_kept, stack_pushed, stack_popped}
+use Rattle.reader.proofs.Frames.{rest_of}
 use Rattle.stored.specs.Reading.{length_bytes}
 use Rattle.stored.specs.Passes.{Stands}
+use Rattle.stored.specs.declared.Level.{Level}
+use Rattle.std.specs.Prelude.{Option, None}
 
-abbrev pub beside : List Frame → List ℕ → List (Frame × ℕ)
-beside [] xs = []
-beside (f ∷ fs) [] = []
-beside (f ∷ fs) (x ∷ xs) = (f, x) ∷ beside fs xs
+abbrev pub level : Frame → ℕ → Level
+level f start = record { frame = f; start = start }
 
-abbrev pub levels : ℕ → List Frame → List ℕ → List (Frame × ℕ)
-levels d fs xs = beside (stack none d fs) (stack 0 d xs)
+-- the whole, and what is left of a level after its first tree
+abbrev pub root : Level
+root = level (frame 1 nesting None) 0
 
-levels_length : (d : ℕ) (fs : List Frame) (xs : List ℕ) → length (levels d fs xs) ≡ d
-levels_length zero fs xs = refl
-levels_length (suc d) fs xs = ap suc (levels_length d fs xs)
+abbrev pub rest_at : Level → Level
+rest_at l = level (rest_of l.frame) l.start
 
 -- each has a nesting of its own, and starts behind a list's length and after the one around it
-abbrev pub Nested : List (Frame × ℕ) → ℕ → Type 0
+abbrev pub Nested : List Level → ℕ → Type 0
 Nested [] at = Unit {0}
-Nested (l ∷ ls) at = (length ls + l.0.left ≤ nesting) × (length_bytes (in_list l.0.stand) ≤ l.1) × (l.1 ≤ at) × Nested ls l.1
+Nested (l ∷ ls) at = (length ls + l.frame.left ≤ nesting) × (length_bytes (in_list l.frame.stand) ≤ l.start) × (l.start ≤ at) × Nested ls l.start
 
--- up to `at`, with these levels to go, of which P holds
-pub record Standing (P : List (Frame × ℕ) → Type 0) (around : List Frame) (starts : List ℕ) (depth : ℕ) (top : Frame) (at : ℕ) : Type 0 where
-  pub frames : length around ≡ nesting
-  pub places : length starts ≡ nesting + 1
-  pub nested : Nested ((top, get_or starts depth 0) ∷ levels depth around starts) at
-  pub to_go : P ((top, get_or starts depth 0) ∷ levels depth around starts)
+-- up to `at`, with these levels to go, of which P holds: the innermost first
+pub record Standing (P : List Level → Type 0) (around : List Level) (top : Level) (at : ℕ) : Type 0 where
+  pub nested : Nested (top ∷ reverse around) at
+  pub to_go : P (top ∷ reverse around)
 
-pub standing_starts : {P : List (Frame × ℕ) → Type 0} (around : List Frame) (starts : List ℕ) (top : Frame) → length around ≡ nesting → length starts ≡ nesting + 1
-    → get_or starts 0 0 ≡ 0 → top ≡ frame 1 nesting Elsewhere → P ((frame 1 nesting Elsewhere, 0) ∷ []) → Standing P around starts 0 top 0
-standing_starts around starts top a b z e p = record {
-  frames = a;
-  places = b;
-  nested = rw (e, z) (omega arith, omega arith, omega arith, tt);
-  to_go = rw (e, z) p;
-}
+pub standing_starts : {P : List Level → Type 0} {around : List Level} → around ≡ [] → P (root ∷ []) → Standing P around root 0
+standing_starts e p = rw e (record { nested = (omega arith, omega arith, omega arith, tt); to_go = p })
 
-module _ {P : List (Frame × ℕ) → Type 0} {around : List Frame} {starts : List ℕ} {depth : ℕ} {top : Frame} {at : ℕ} (i : Standing P around starts depth top at) where
-  pub depth_within : depth + top.left ≤ nesting
-  depth_within = omega (arith, i.nested.0, levels_length depth around starts)
+module _ {P : List Level → Type 0} {around : List Level} {top : Level} {at : ℕ} (i : Standing P around top at) where
+  pub depth_within : length around + top.frame.left ≤ nesting
+  depth_within = omega (arith, i.nested.0, length-reverse around)
 
-  pub stands : {size : ℕ} → at ≤ size → Stands (in_list top.stand) (get_or starts depth 0) at size
+  pub stands : {size : ℕ} → at ≤ size → Stands (in_list top.frame.stand) top.start at size
   stands h = record { behind = i.nested.1; before = i.nested.2; within = h }
 
-  module _ {Q : List (Frame × ℕ) → Type 0} where
+  module _ {Q : List Level → Type 0} where
     -- a node without children that is no list
-    pub next_leaf : (to : ℕ) → at ≤ to → Q ((rest_of top, get_or starts depth 0) ∷ levels depth around starts) → Standing Q around starts depth (rest_of top) to
-    next_leaf to h q = record {
-      frames = i.frames;
-      places = i.places;
-      nested = (i.nested.0, i.nested.1, omega (arith, i.nested.2), i.nested.3);
-      to_go = q;
-    }
+    pub next_leaf : (to : ℕ) → at ≤ to → Q (rest_at top ∷ reverse around) → Standing Q around (rest_at top) to
+    next_leaf to h q = record { nested = (i.nested.0, i.nested.1, omega (arith, i.nested.2), i.nested.3); to_go = q }
 
     -- any other: its children come next
-    pub next_level : {k low : ℕ} {inside : Stand} (to : ℕ) (g : Frame) → g ≡ frame k low inside → low < top.left → at ≤ to → length_bytes (in_list inside) ≤ to
-        → Q ((frame k low inside, to) ∷ (rest_of top, get_or starts depth 0) ∷ levels depth around starts)
-        → Standing Q (set around depth (rest_of top)) (set starts (depth + 1) to) (depth + 1) g to
-    next_level to g e l h b q =
-        let a = stack_pushed none depth around (rest_of top) (omega (arith, depth_within, i.frames)) in
-        let c = stack_kept 0 (depth + 1) (depth + 1) starts to (omega arith) in
-        let d : stack 0 (depth + 1) starts ≡ get_or starts depth 0 ∷ stack 0 depth starts = rw (add-one) refl in
-        let f = get_or-set_same starts (depth + 1) to 0 (omega (arith, depth_within, i.places)) in
+    pub next_level : {k low : ℕ} {inside : (Option ℕ)} (to : ℕ) (g : Frame) → g ≡ frame k low inside → low < top.frame.left → at ≤ to → length_bytes (in_list inside) ≤ to
+        → Q (level (frame k low inside) to ∷ rest_at top ∷ reverse around)
+        → {pushed : List Level} → pushed ≡ around ++ rest_at top ∷ [] → Standing Q pushed (level g to) to
+    next_level to g e l h b q {pushed} p =
+        let a : reverse pushed ≡ rest_at top ∷ reverse around = ap reverse p ∙ reverse-append around (rest_at top ∷ []) in
         record {
-          frames = length-set around depth (rest_of top) ∙ i.frames;
-          places = length-set starts (depth + 1) to ∙ i.places;
-          nested = rw (e, a, c, d, f) (omega (arith, depth_within, levels_length depth around starts), b, omega arith, (i.nested.0, i.nested.1, omega (arith, i.nested.2), i.nested.3));
-          to_go = rw (e, a, c, d, f) q;
+          nested = rw (e, a) (omega (arith, depth_within, length-reverse around), b, omega arith, (i.nested.0, i.nested.1, omega (arith, i.nested.2), i.nested.3));
+          to_go = rw (e, a) q;
         }
 
     -- after the last tree, the level around
-    pub next_around : (depth ≡ 0 → ⊥) → Q (levels depth around starts) → Standing Q around starts (depth - 1) (get_or around (depth - 1) none) at
-    next_around d q =
-        let a = stack_popped none depth around (omega (arith, d)) in
-        let c = stack_popped 0 depth starts (omega (arith, d)) in
-        let n : Nested ((get_or around (depth - 1) none, get_or starts (depth - 1) 0) ∷ levels (depth - 1) around starts) (get_or starts depth 0) = rw (a, c) at i.nested.3 in
-        record {
-          frames = i.frames;
-          places = i.places;
-          nested = (n.0, n.1, omega (arith, n.2, i.nested.2), n.3);
-          to_go = rw (a, c) at q;
-        }
+    pub next_around : {l : Level} {left : List Level} → around ≡ left ++ l ∷ [] → Q (reverse around) → Standing Q left l at
+    next_around {l} {left} e q =
+        let a : reverse around ≡ l ∷ reverse left = ap reverse e ∙ reverse-append left (l ∷ []) in
+        let n : Nested (l ∷ reverse left) top.start = rw a at i.nested.3 in
+        record { nested = (n.0, n.1, omega (arith, n.2, i.nested.2), n.3); to_go = rw a at q }
+
+pub none_around : (around : List Level) → (0 < length around → ⊥) → around ≡ []
+none_around [] h = refl
+none_around (l ∷ ls) h = absurd (h (omega arith))
 
 -- a node that is no list and has no children
 pub leaf_known : (list : Bool) (k : ℕ) → list || ltb 0 k ≡ false → (list ≡ false) × (k ≡ 0)

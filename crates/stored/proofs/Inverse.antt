@@ -19,15 +19,11 @@ use Rattle.term.specs.Term.{Term, Terms, node, nil, ◌::◌, term_tree, term_tr
 use Rattle.term.specs.Language.{Language}
 use Rattle.term.specs.Limits.{nesting, longest_record, Written, Counted, Shape, Fits, FitAll, Octets, TermAccepted}
 use Rattle.term.specs.Splicing.{stand_in, in_list, unspliced, SplicedAt, SplicedAll, Spliced}
-use Rattle.term.specs.declared.Stand.{Stand}
-use Rattle.term.specs.declared.Stand.TheVariants.{InList, Elsewhere}
 use Rattle.term.proofs.Splicing.{stand_list}
 use Rattle.reader.specs.Node.{node_at}
 use Rattle.reader.specs.Reading.{Parsed, refused, read, join, chain, read_all, grow, enter, unless_spare, map_parsed}
 use Rattle.term.specs.declared.Code.{Code}
 use Rattle.term.specs.declared.Code.TheVariants.{Symbol}
-use Rattle.reader.specs.declared.Node.{Node}
-use Rattle.reader.specs.declared.Node.TheVariants.{Open}
 use Rattle.term.proofs.Bools.{cond_all}
 use Rattle.reader.proofs.Answers.{Opened, Got, opened_at, opened_map, got_map, got_enter, got_chain}
 use Rattle.reader.proofs.Nodes.{NodeSound, sound_node, node_complete}
@@ -40,25 +36,28 @@ use Rattle.stored.specs.Form.{tell, store, stores, stored_bytes, longest_stored}
 use Rattle.stored.specs.Reading.{length_bytes, with_length, stored_node, told_length, agrees, agreed, read_node, read_stored_tree, unless_long, read_form, read_stored}
 use Rattle.stored.specs.Passes.{stored_size}
 use Rattle.stored.proofs.Forms.{store_append, branch_length, more_length, store_twice}
+use Rattle.std.specs.Prelude.{Option, Some, None, Result, Ok, Err}
+use Rattle.reader.specs.Node.{opened}
+use Rattle.reader.specs.declared.Open.{Open}
 
 -- One node
 
-module _ (lang : Language) (stand : Stand) (left : ℕ) (s : List ℕ) where
-  pub record NodeReads (size k : ℕ) (inside : Stand) (low : ℕ) : Type 0 where
+module _ (lang : Language) (stand : (Option ℕ)) (left : ℕ) (s : List ℕ) where
+  pub record NodeReads (size k : ℕ) (inside : (Option ℕ)) (low : ℕ) : Type 0 where
     pub own_bytes_holds : ℕ
     pub node : NodeSound lang true stand left s (code_in true (get_or s 0 0)) own_bytes_holds k inside low
     pub is_size : size ≡ own_bytes_holds + length_bytes (in_list inside)
     pub within : size ≤ length s
 
-  node_by : (n : Node) → node_at lang true stand left s ≡ n → Opened NodeReads (with_length s n)
-  node_by (Node.Refused r) e = tt
-  node_by (Open size k inside low) e =
-      cond_all (Opened NodeReads) (leb (size + length_bytes (in_list inside)) (length s))
+  node_by : (n : Result Open Refusal) → node_at lang true stand left s ≡ n → Opened NodeReads (with_length s n)
+  node_by (Err r) e = tt
+  node_by (Ok o) e =
+      cond_all (Opened NodeReads) (leb (o.size + length_bytes (in_list o.inside)) (length s))
       (λ l. record {
-        own_bytes_holds = size;
+        own_bytes_holds = o.size;
         node = opened_at (NodeSound lang true stand left s (code_in true (get_or s 0 0))) (sound_node lang true stand left s) e;
         is_size = refl;
-        within = leb-true (size + length_bytes (in_list inside)) (length s) l;
+        within = leb-true (o.size + length_bytes (in_list o.inside)) (length s) l;
       })
       (λ l. tt)
 
@@ -67,7 +66,7 @@ module _ (lang : Language) (stand : Stand) (left : ℕ) (s : List ℕ) where
   node_reads = node_by (node_at lang true stand left s) refl
 
 -- whether a node is a list, and its own bytes
-module _ {lang : Language} {stand : Stand} {left : ℕ} {s : List ℕ} {size k : ℕ} {inside : Stand} {low : ℕ} where
+module _ {lang : Language} {stand : (Option ℕ)} {left : ℕ} {s : List ℕ} {size k : ℕ} {inside : (Option ℕ)} {low : ℕ} where
   pub is_list_holds : {c : Code} → NodeSound lang true stand left s c size k inside low → in_list inside ≡ list_code lang.table c
   is_list_holds {c} o = ap in_list o.is_inside ∙ stand_list lang.table c
 
@@ -75,26 +74,26 @@ module _ {lang : Language} {stand : Stand} {left : ℕ} {s : List ℕ} {size k :
   own_long o = o.long ∙ ap (λ (b : Bool). cond b 2 1) (sym (is_list_holds o))
 
 -- The checks of a node, one after the other
-module _ (lang : Language) (stand : Stand) (left : ℕ) (s : List ℕ) {n : Node} (is : n ≡ node_at lang true stand left s) where
-  pub node_refused : {r : Refusal} → n ≡ Node.Refused r → n ≡ stored_node lang stand left s
+module _ (lang : Language) (stand : (Option ℕ)) (left : ℕ) (s : List ℕ) {n : (Result Open Refusal)} (is : n ≡ node_at lang true stand left s) where
+  pub node_refused : {r : Refusal} → n ≡ Err r → n ≡ stored_node lang stand left s
   unfolding stored_node
   node_refused e = e ∙ sym (ap (with_length s) (sym is ∙ e))
 
-  module _ {size k : ℕ} {inside : Stand} {low : ℕ} (e : n ≡ Open size k inside low) where
+  module _ {size k : ℕ} {inside : (Option ℕ)} {low : ℕ} (e : n ≡ Ok (opened size k inside low)) where
     pub node_size : size ≤ length s
     node_size = (node_within lang true stand left s (sym is ∙ e)).0
 
-    pub node_other : in_list inside ≡ false → Open size k inside low ≡ stored_node lang stand left s
+    pub node_other : in_list inside ≡ false → Ok (opened size k inside low) ≡ stored_node lang stand left s
     unfolding stored_node
     node_other l =
         let z : size + 0 ≡ size = omega arith in
         sym (ap (with_length s) (sym is ∙ e) ∙ rw (l, z, le-leb size (length s) node_size))
 
-    pub node_short : in_list inside ≡ true → length s < size + 2 → Node.Refused Short ≡ stored_node lang stand left s
+    pub node_short : in_list inside ≡ true → length s < size + 2 → Err Short ≡ stored_node lang stand left s
     unfolding stored_node
     node_short l h = sym (ap (with_length s) (sym is ∙ e) ∙ rw (l, lt-leb (size + 2) (length s) h))
 
-    pub node_list : in_list inside ≡ true → size + 2 ≤ length s → Open (size + 2) k inside low ≡ stored_node lang stand left s
+    pub node_list : in_list inside ≡ true → size + 2 ≤ length s → Ok (opened (size + 2) k inside low) ≡ stored_node lang stand left s
     unfolding stored_node
     node_list l h = sym (ap (with_length s) (sym is ∙ e) ∙ rw (l, le-leb (size + 2) (length s) h))
 
@@ -115,7 +114,7 @@ unfolding tell
 tell_forth true s size n e o h a = rw (e, ← eqb-true (told_length s) n a) (word_forth s 2 o (omega arith))
 tell_forth false s size n e o h a = let z : size ≡ size + 0 = omega arith in ap (λ (k : ℕ). drop k s) z
 
-module _ (lang : Language) (left : ℕ) (stand : Stand) where
+module _ (lang : Language) (left : ℕ) (stand : (Option ℕ)) where
   abbrev table : List ℕ
   table = lang.table
 
@@ -157,7 +156,7 @@ pub stored_size_holds : (l : Bool) (own_bytes_holds size n m : ℕ) → own_byte
 stored_size_holds true own_bytes_holds size n m a b c = omega arith
 stored_size_holds false own_bytes_holds size n m a b c = omega arith
 
-grow_sound : (lang : Language) (left : ℕ) (stand : Stand) (s : List ℕ) (size k : ℕ) (inside : Stand) (low : ℕ) (ts : Trees) (n : ℕ)
+grow_sound : (lang : Language) (left : ℕ) (stand : (Option ℕ)) (s : List ℕ) (size k : ℕ) (inside : (Option ℕ)) (low : ℕ) (ts : Trees) (n : ℕ)
     → NodeReads lang stand (suc left) s size k inside low → TreesSound lang left inside (drop size s) k ts n → agrees (in_list inside) (told_length s) n ≡ true
     → TreeSound lang (suc left) stand s (branch (code_in true (get_or s 0 0)) ts) (size + n)
 unfolding store Fits
@@ -178,7 +177,7 @@ grow_sound lang left stand s size k inside low ts n o b a =
       spliced = (node.spliced, rw (← node.is_inside) b.spliced);
     }
 
-pub sound : (lang : Language) (left : ℕ) (stand : Stand) (s : List ℕ) → Got (TreeSound lang left stand s) (read_stored_tree lang left stand s)
+pub sound : (lang : Language) (left : ℕ) (stand : (Option ℕ)) (s : List ℕ) → Got (TreeSound lang left stand s) (read_stored_tree lang left stand s)
 unfolding read_stored_tree read_node
 sound lang zero stand s =
     got_enter (TreeSound lang zero stand s) (code_in true (get_or s 0 0)) (stored_node lang stand zero s) _
@@ -209,19 +208,19 @@ behind_tree table t bs = ap (drop (length (store table t []))) (store_append tab
 
 module _ (lang : Language) where
   -- the node at the start of its own bytes
-  module _ (b k n left : ℕ) (stand : Stand) (r : List ℕ) where
+  module _ (b k n left : ℕ) (stand : (Option ℕ)) (r : List ℕ) where
     node_opens : (l : Bool) → is_list lang.table b ≡ l → b < length lang.table → Counted l k (get_or lang.table b 0)
         → unspliced lang.edition lang.classes stand (stand_in lang.table (Symbol b)) ≡ false
-        → stored_node lang stand (suc left) (b ∷ cond l (k ∷ tell l n r) (tell l n r)) ≡ Open (stored_size l) k (cond l (InList b) Elsewhere) left
+        → stored_node lang stand (suc left) (b ∷ cond l (k ∷ tell l n r) (tell l n r)) ≡ Ok (opened (stored_size l) k (cond l (Some b) None) left)
     unfolding stored_node own tell word Written Shape list_code byte_of
     node_opens true e h c u =
         let s = b ∷ k ∷ (n % 256) ∷ (n / 256) ∷ r in
-        let o : node_at lang true stand (suc left) s ≡ Open 2 k (InList b) left =
+        let o : node_at lang true stand (suc left) s ≡ Ok (opened 2 k (Some b) left) =
         rw (e, sub-one (suc left)) at (node_complete lang true stand (suc left) (Symbol b) k ((n % 256) ∷ (n / 256) ∷ r) (omega arith) tt (h, rw e c) u) in
         rw (o, le-leb 4 (length s) (omega arith))
     node_opens false e h c u =
         let s = b ∷ r in
-        let o : node_at lang true stand (suc left) s ≡ Open 1 k Elsewhere left =
+        let o : node_at lang true stand (suc left) s ≡ Ok (opened 1 k None left) =
         rw (e, sub-one (suc left)) at (node_complete lang true stand (suc left) (Symbol b) k r (omega arith) tt (h, rw e c) u) in
         rw (o, le-leb 1 (length s) (omega arith))
 
@@ -229,18 +228,18 @@ module _ (lang : Language) where
     node_step : (l : Bool) → is_list lang.table b ≡ l → b < length lang.table → Counted l k (get_or lang.table b 0)
         → unspliced lang.edition lang.classes stand (stand_in lang.table (Symbol b)) ≡ false
         → read_stored_tree lang (suc left) stand (b ∷ cond l (k ∷ tell l n r) (tell l n r))
-        ≡ grow (Symbol b) (stored_size l) (agreed l n (read_all (read_stored_tree lang left (cond l (InList b) Elsewhere)) k r))
+        ≡ grow (Symbol b) (stored_size l) (agreed l n (read_all (read_stored_tree lang left (cond l (Some b) None)) k r))
     unfolding read_stored_tree read_node enter tell word word_at
     node_step true e h c u =
         let z : (n % 256) + 256 * (n / 256) ≡ n = omega arith in
         rw (node_opens true e h c u, z)
     node_step false e h c u =
-        rw (node_opens false e h c u) (ap (grow (Symbol b) 1) (agreed_untold (told_length (b ∷ r)) n (read_all (read_stored_tree lang left Elsewhere) k r)))
+        rw (node_opens false e h c u) (ap (grow (Symbol b) 1) (agreed_untold (told_length (b ∷ r)) n (read_all (read_stored_tree lang left None) k r)))
 
   mutual
     unfolding Fits Shape list_code byte_of store own grow agreed read_all number chain join
 
-    complete : (t : Term) (left : ℕ) (stand : Stand) (within_list : Bool) (bs : List ℕ) → Fits lang.table true (term_tree t) left within_list → SplicedAt lang stand (term_tree t)
+    complete : (t : Term) (left : ℕ) (stand : (Option ℕ)) (within_list : Bool) (bs : List ℕ) → Fits lang.table true (term_tree t) left within_list → SplicedAt lang stand (term_tree t)
         → read_stored_tree lang left stand (store lang.table (term_tree t) bs) ≡ read (term_tree t) (length (store lang.table (term_tree t) []))
     complete (node b ts) zero stand within_list bs f d = absurd (omega (arith, f.0))
     complete (node b ts) (suc left) stand within_list bs f d =
@@ -253,7 +252,7 @@ module _ (lang : Language) where
           branch_length table (Symbol b) (term_trees ts),
         )
 
-    completes : (ts : Terms) (left : ℕ) (stand : Stand) (within_list : Bool) (bs : List ℕ) → FitAll lang.table true (term_trees ts) left within_list → SplicedAll lang stand (term_trees ts)
+    completes : (ts : Terms) (left : ℕ) (stand : (Option ℕ)) (within_list : Bool) (bs : List ℕ) → FitAll lang.table true (term_trees ts) left within_list → SplicedAll lang stand (term_trees ts)
         → read_all (read_stored_tree lang left stand) (number (term_trees ts)) (stores lang.table (term_trees ts) bs) ≡ read (term_trees ts) (length (stores lang.table (term_trees ts) []))
     completes nil left stand within_list bs f d = refl
     completes (t :: ts) left stand within_list bs f d =
@@ -276,8 +275,8 @@ module _ (lang : Language) (s : List ℕ) (t : Term) (bytes : stored_bytes lang.
   unfolding read_form unless_spare
   form_complete =
       let n : length (stored_bytes lang.table t []) ≡ length s = ap length bytes in
-      let d : read_stored_tree lang nesting Elsewhere s ≡ read (term_tree t) (length s) =
-      ap (read_stored_tree lang nesting Elsewhere) (sym bytes) ∙ complete lang t nesting Elsewhere false [] accepted.fits accepted.spliced ∙ ap (read (term_tree t)) n in
+      let d : read_stored_tree lang nesting None s ≡ read (term_tree t) (length s) =
+      ap (read_stored_tree lang nesting None) (sym bytes) ∙ complete lang t nesting None false [] accepted.fits accepted.spliced ∙ ap (read (term_tree t)) n in
       rw (le-leb (length s) longest_stored (omega (arith, stored_short lang t accepted)), d, eq-eqb (length s) (length s) refl)
 
   -- the stored form of a term within the limits is read as it
@@ -289,7 +288,7 @@ module _ (lang : Language) (s : List ℕ) (octets : Octets s) where
   unfoldable pub Sound : Tree → ℕ → Type 0
   Sound t n = (store lang.table t [] ≡ s) × (n ≡ length s) × Fits lang.table true t nesting false × Spliced lang t
 
-  whole_sound : (a : Parsed Tree) → Got (TreeSound lang nesting Elsewhere s) a → Got Sound (unless_spare s a)
+  whole_sound : (a : Parsed Tree) → Got (TreeSound lang nesting None s) a → Got Sound (unless_spare s a)
   unfolding unless_spare Sound
   whole_sound (refused r) h = tt
   whole_sound (read t n) h =
@@ -303,7 +302,7 @@ module _ (lang : Language) (s : List ℕ) (octets : Octets s) where
   -- what is read before the check of the old form's length
   pub form_sound : Got Sound (read_form lang s)
   unfolding read_form
-  form_sound = cond_all (Got Sound) (leb (length s) longest_stored) (λ l. whole_sound (read_stored_tree lang nesting Elsewhere s) (sound lang nesting Elsewhere s)) (λ l. tt)
+  form_sound = cond_all (Got Sound) (leb (length s) longest_stored) (λ l. whole_sound (read_stored_tree lang nesting None s) (sound lang nesting None s)) (λ l. tt)
 
   unfoldable pub Accepts : Tree → ℕ → Type 0
   Accepts t n = Sound t n × (length (encode lang.table t []) ≤ longest_record)

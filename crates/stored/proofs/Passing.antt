@@ -72,7 +72,7 @@ module _ {table s out₀ out : List ℕ} {to at : ℕ} (g : Stripping table s ou
       strip_cut k out₁ o = let e = ends (get_or s at 0 ∷ []) (rw (next_at s at h, l, drop_of_length-le s k) refl) in (e.0, o ∙ e.1)
 
       pub strip_list : at + 1 < length s → (out₁ out₂ : List ℕ) → out₁ ≡ set out to (get_or s at 0) → out₂ ≡ set out₁ (to + 1) (get_or s (at + 1) 0)
-          → Stripping table s out₀ out₂ (to + 2) (at + 2 + 2)
+          → Stripping table s out₀ out₂ (to + 2) (at + 4)
       unfolding stripped
       strip_list k out₁ out₂ o p =
           let z : at + 1 + 1 ≡ at + 2 = omega arith in
@@ -81,9 +81,8 @@ module _ {table s out₀ out : List ℕ} {to at : ℕ} (g : Stripping table s ou
           let e : stripped table (drop at s) 0 ≡ (get_or s at 0 ∷ get_or s (at + 1) 0 ∷ []) ++ stripped table (drop (at + 4) s) 0 =
           rw (next_at s at h, l, next_at s (at + 1) k, z)
           (ap (λ (x : List ℕ). get_or s at 0 ∷ get_or s (at + 1) 0 ∷ x) (past_length table (drop (at + 2) s) ∙ ap (λ (x : List ℕ). stripped table x 0) d)) in
-          rw (← y)
-          (goes_on (get_or s at 0 ∷ get_or s (at + 1) 0 ∷ []) 4 out₂ e (omega arith) (omega arith) (rw (p, o, add-one to) refl)
-          (ap length p ∙ length-set out₁ (to + 1) (get_or s (at + 1) 0) ∙ ap length o ∙ length-set out to (get_or s at 0) ∙ g.kept))
+          goes_on (get_or s at 0 ∷ get_or s (at + 1) 0 ∷ []) 4 out₂ e (omega arith) (omega arith) (rw (p, o, add-one to) refl)
+          (ap length p ∙ length-set out₁ (to + 1) (get_or s (at + 1) 0) ∙ ap length o ∙ length-set out to (get_or s at 0) ∙ g.kept)
 
 module _ (table s : List ℕ) where
   pub record Stretching (size : ℕ) (counting : Bool) (i : ℕ) : Type 0 where
@@ -106,8 +105,8 @@ module _ {table s : List ℕ} {size : ℕ} {counting : Bool} {i : ℕ} (g : Stre
         let d : stretched table (drop i s) counting ≡ n + stretched table (drop (i + 1) s) next = rw (next_at s i h, ← is, e) in
         record { within = omega arith; most = omega (arith, g.most); counted = omega (arith, g.counted, d) }
 
-    pub stretch_list : next ≡ true → Stretching table s (size + 1 + 2) next (i + 1)
-    stretch_list t = let z : size + 3 ≡ size + 1 + 2 = omega arith in rw (← z) (stretch_by 3 (rw t) (omega arith))
+    pub stretch_list : next ≡ true → Stretching table s (size + 2 + 1) next (i + 1)
+    stretch_list t = let z : size + 3 ≡ size + 2 + 1 = omega arith in rw (← z) (stretch_by 3 (rw t) (omega arith))
 
     pub stretch_other : next ≡ false → Stretching table s (size + 1) next (i + 1)
     stretch_other t = stretch_by 1 (rw t) (omega arith)

@@ -1,15 +1,14 @@
 -- The move from the old form to the stored one and back: 1, 14, the checks of what is read, and "a short output is 12, last". It shows the length that
 -- was written; the output past it stays, and all of it where the move is refused.
-use Rattle.std.specs.Prelude.{ℕ, List, [], ◌++◌, cond, length, drop, leb}
+use Rattle.std.specs.Prelude.{ℕ, List, [], ◌++◌, cond, length, drop, leb, Result, Ok, Err}
 use Rattle.answers.specs.declared.Refusal.TheVariants.{Table, Class, Full}
-use Rattle.byte_answers.specs.declared.Move.{Move}
-use Rattle.byte_answers.specs.declared.Move.TheVariants.{Written}
 use Rattle.term.specs.Table.{table_accepted}
 use Rattle.term.specs.Term.{Term, term_bytes}
 use Rattle.reader.specs.Brought.{Brought, language_of, brought_accepted}
 use Rattle.reader.specs.Reading.{Parsed, refused, read, read_record}
 use Rattle.stored.specs.Form.{stored_bytes}
 use Rattle.stored.specs.Reading.{read_stored}
+use Rattle.answers.specs.declared.Refusal.{Refusal}
 
 -- the bytes to be written, or why there are none
 unfoldable pub bytes_by : (Term → List ℕ) → Parsed Term → Parsed (List ℕ)
@@ -27,9 +26,9 @@ unfoldable pub restoring : Brought → List ℕ → Parsed (List ℕ)
 restoring brought s = unless_brought brought (bytes_by (λ t. term_bytes brought.table t []) (read_stored (language_of brought) s))
 
 -- what is shown of a move into so much room, and the output after it
-unfoldable pub moved : Parsed (List ℕ) → ℕ → Move
-moved (refused r) room = Move.Refused r
-moved (read bs n) room = cond (leb (length bs) room) (Written (length bs)) (Move.Refused Full)
+unfoldable pub moved : Parsed (List ℕ) → ℕ → Result ℕ Refusal
+moved (refused r) room = Err r
+moved (read bs n) room = cond (leb (length bs) room) (Ok (length bs)) (Err Full)
 
 unfoldable pub output_after : Parsed (List ℕ) → List ℕ → List ℕ
 output_after (refused r) out = out

@@ -1,13 +1,11 @@
 -- What the passes over the bytes do, which only the contracts of private functions cite.
-use Rattle.std.specs.Prelude.{ℕ, zero, suc, ◌+◌, ◌-◌, ◌≤◌, ◌≡◌, List, [], ◌∷◌, Bool, true, cond, ◌||◌, length, get_or, eqb}
+use Rattle.std.specs.Prelude.{ℕ, zero, suc, ◌+◌, ◌-◌, ◌≤◌, ◌≡◌, List, [], ◌∷◌, Bool, true, cond, ◌||◌, length, get_or, eqb, Option, None}
 use Rattle.std.proofs.lemmas.List.Edits.{sets}
 use Rattle.term.specs.Language.{Language}
 use Rattle.term.specs.Limits.{nesting}
 use Rattle.term.specs.Table.{is_list}
 use Rattle.term.specs.Same.{count_next}
 use Rattle.term.specs.Tree.{Trees, empty}
-use Rattle.term.specs.declared.Stand.{Stand}
-use Rattle.term.specs.declared.Stand.TheVariants.{Elsewhere}
 use Rattle.reader.specs.Reading.{Parsed, refused, read, read_all, read_tree}
 use Rattle.sheet.specs.Word.{word, word_bytes, word_at}
 use Rattle.stored.specs.Form.{stores, longest_stored}
@@ -33,7 +31,7 @@ stripped table [] k = []
 stripped table (b ∷ s) k = cond (is_kept k) (b ∷ stripped table s (behind table k b)) (stripped table s (behind table k b))
 
 -- so many trees of a record, with so much nesting left, where they stand so
-unfoldable pub record_trees : Language → ℕ → Stand → ℕ → List ℕ → Parsed Trees
+unfoldable pub record_trees : Language → ℕ → Option ℕ → ℕ → List ℕ → Parsed Trees
 record_trees l left stand count s = read_all (read_tree l true left stand) count s
 
 -- the stored bytes of trees that were read
@@ -48,7 +46,7 @@ stored_trees table a = stores table (trees_of a) []
 pub record Putting (l : Language) (s : List ℕ) (room : ℕ) : Type 0 where
   pub trees : Trees
   pub bytes : ℕ
-  pub are_read : record_trees l nesting Elsewhere 1 s ≡ read trees bytes
+  pub are_read : record_trees l nesting None 1 s ≡ read trees bytes
   pub has_room : length (stores l.table trees []) ≤ room
   pub short : length (stores l.table trees []) ≤ longest_stored
 

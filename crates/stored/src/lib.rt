@@ -1,13 +1,14 @@
 // The stored form of records, in which lists tell their length: the move from the old form to it and back.
 #![tactic(auto)]
 
-ghost use Rattle.std.specs.Prelude.{◌≡◌, false, ◌+◌, ◌≤◌, length, set};
+ghost use Rattle.std.specs.Prelude.{◌≡◌, false, ◌+◌, ◌≤◌, length, None};
 ghost use Rattle.std.proofs.lemmas.List.Edits.{sets};
-ghost use Rattle.byte_answers.specs.Answers.{move_number, move_length};
-ghost use Rattle.term.specs.Language.{language, simple};
+ghost use Rattle.answers.specs.Shown.{refusal_number, size_told};
+ghost use Rattle.term.specs.Language.{simple};
+ghost use Rattle.term.specs.Lent.{language_by};
 ghost use Rattle.term.specs.Limits.{nesting, longest_record};
-ghost use Rattle.reader.specs.Brought.{simply, bringing, brought_by};
-ghost use Rattle.reader.specs.Frame.{frame};
+ghost use Rattle.reader.specs.Brought.{simply, bringing};
+ghost use Rattle.reader.specs.Lent.{brought_of};
 ghost use Rattle.reader.specs.Reading.{shown};
 ghost use Rattle.stored.specs.Form.{longest_stored};
 ghost use Rattle.stored.specs.Reading.{stored_node, read_stored_tree, read_form};
@@ -16,55 +17,65 @@ ghost use Rattle.stored.specs.Passes.{stretched, stripped, own_of, own_size, sto
 ghost use Rattle.stored.specs.Demands.{StoreDemanded, RestoreDemanded};
 
 use answers::Refusal;
-use byte_answers::{Move, Read};
-use reader::{FRAMES, Frame, Node};
-use term::{Edition, NESTING, Stand};
+use arrayvec::ArrayVec;
+use reader::{Brought, FRAMES, Frame, Open};
+use sheet::WORD;
+use splice::store as put_byte;
+use term::{Edition, Language, NESTING};
 
 // The most bytes of a stored record.
 pub const LONGEST_STORED: usize = 8192;
 
-// The bytes of a list's length.
-const WORD: usize = 2;
-
-// A list's length stands behind its symbol and its number of children.
+// A list's length, a word, stands behind its symbol and its number of children.
 const BEFORE: usize = 2;
 
-// The most nodes whose children are read at once: those of the frames around, and of the innermost.
-const OPEN: usize = FRAMES + 1;
+// Trees that are still to be read or put, and the place where the first of them starts.
+#[derive(Clone, Copy)]
+struct Level {
+    frame: Frame,
+    start: usize,
+}
+
+impl Level {
+    // A whole record: one tree, with all the nesting left.
+    const ROOT: Level = Level {
+        frame: Frame {
+            count: 1,
+            left: NESTING,
+            stand: None,
+        },
+        start: 0,
+    };
+}
+
+// All zeros, since a new `ArrayVec` is filled with it.
+impl Default for Level {
+    fn default() -> Level {
+        Level {
+            frame: Frame::EMPTY,
+            start: 0,
+        }
+    }
+}
 
 // The checks of a node of the stored form.
 fn stored_node(
-    edition: Edition,
-    table: &[u8],
-    classes: &[u8],
+    language: &Language<'_>,
     s: &[u8],
-    stand: Stand,
+    stand: Option<u8>,
     left: u8,
-) -> Node
-    ensures { result ≡ stored_node (language edition table.now classes.now) stand left s.now }
+) -> Result<Open, Refusal>
+    ensures { result ≡ stored_node (language_by language.now) stand left s.now }
 {
-    let node = reader::node_at(edition, table, classes, s, true, stand, left);
-    let Node::Open {
-        size,
-        kids,
-        inside,
-        low,
-    } = node
-    else {
-        return node;
-    };
-    if !reader::in_list(inside) {
-        return node;
+    let node = reader::node_at(language, s, true, stand, left)?;
+    if !reader::in_list(node.inside) {
+        return Ok(node);
     }
-    if s.len() < size + WORD {
-        return Node::Refused(Refusal::Short);
+    let size = node.size + WORD;
+    if s.len() < size {
+        return Err(Refusal::Short);
     }
-    Node::Open {
-        size: size + WORD,
-        kids: kids,
-        inside: inside,
-        low: low,
-    }
+    Ok(Open { size, ..node })
 }
 
 // Whether a list tells the length of its children, which start and end at these places; other nodes tell none.
@@ -73,89 +84,63 @@ fn agrees(s: &[u8], list: bool, start: usize, end: usize) -> bool
     ensures { result ≡ agrees_at s.now list start end }
 {
     if list {
-        let low = s[start - WORD] as usize;
-        let high = s[start - 1] as usize;
-        return low + 256 * high == end - start;
+        let told = u16::from_le_bytes([s[start - WORD], s[start - 1]]);
+        return usize::from(told) == end - start;
     }
     true
 }
 
-// A whole record: one tree, with all the nesting left.
-fn root() -> Frame
-    ensures { result ≡ frame 1 nesting Stand.Elsewhere }
+// The tree of the stored form at the start of s. Still to be read are the trees of `top`, and then those of the levels around it, the innermost
+// last. A leaf takes no level.
+fn read_tree(language: &Language<'_>, s: &[u8]) -> Result<usize, Refusal>
+    ensures { result ≡ shown (read_stored_tree (language_by language.now) nesting None s.now) }
 {
-    Frame::of(1, NESTING, Stand::Elsewhere)
-}
-
-// The tree of the stored form at the start of s. Still to be read are the trees of `top`, and then those of the frames around it, the innermost
-// first; beside each frame stands where its first tree starts. A leaf takes no frame.
-fn read_tree(edition: Edition, table: &[u8], classes: &[u8], s: &[u8]) -> Read
-    ensures { result ≡ shown (read_stored_tree (language edition table.now classes.now) nesting Stand.Elsewhere s.now) }
-{
-    let mut around = [Frame::EMPTY; FRAMES];
-    let mut starts = [0usize; OPEN];
-    let mut depth: usize = 0;
-    let mut top = root();
+    let mut around: ArrayVec<Level, FRAMES> = ArrayVec::new();
+    let mut top = Level::ROOT;
     let mut at: usize = 0;
     loop {
-        let stand = top.stand;
-        if top.count == 0 {
-            if !agrees(s, reader::in_list(stand), starts[depth], at) {
-                return Read::Refused(Refusal::Length);
+        let Frame { count, left, stand } = top.frame;
+        if count == 0 {
+            if !agrees(s, reader::in_list(stand), top.start, at) {
+                return Err(Refusal::Length);
             }
-            if depth == 0 {
-                return Read::Ends(at);
-            }
-            depth = depth - 1;
-            top = around[depth];
+            let Some(level) = around.pop() else {
+                return Ok(at);
+            };
+            top = level;
             continue;
         }
-        let node = stored_node(edition, table, classes, &s[at..], stand, top.left);
-        let Node::Open {
+        let Open {
             size,
             kids,
             inside,
             low,
-        } = node
-        else {
-            return reader::node_refusal(node);
-        };
+        } = stored_node(language, &s[at..], stand, left)?;
         let list = reader::in_list(inside);
-        at = at + size;
-        top.count = top.count - 1;
+        at += size;
+        top.frame.count -= 1;
         if list | (0 < kids) {
-            around[depth] = top;
-            top = Frame::of(kids, low, inside);
-            depth = depth + 1;
-            starts[depth] = at;
+            around.push(top);
+            top = Level {
+                frame: Frame::of(kids, low, inside),
+                start: at,
+            };
         }
     }
 }
 
 // The whole of s as one tree of the stored form.
-fn read_form(edition: Edition, table: &[u8], classes: &[u8], s: &[u8]) -> Read
-    ensures { result ≡ shown (read_form (language edition table.now classes.now) s.now) }
+fn read_form(language: &Language<'_>, s: &[u8]) -> Result<usize, Refusal>
+    ensures { result ≡ shown (read_form (language_by language.now) s.now) }
 {
     if LONGEST_STORED < s.len() {
-        return Read::Refused(Refusal::Long);
+        return Err(Refusal::Long);
     }
-    let read = read_tree(edition, table, classes, s);
-    let Read::Ends(n) = read else {
-        return read;
-    };
-    if n < s.len() {
-        return Read::Refused(Refusal::Spare);
+    let end = read_tree(language, s)?;
+    if end < s.len() {
+        return Err(Refusal::Spare);
     }
-    read
-}
-
-// Puts a byte where there is room.
-fn put_byte(output: &mut [u8], at: usize, b: u8)
-    ensures { output.new ≡ set output.old at b }
-{
-    if at < output.len() {
-        output[at] = b;
-    }
+    Ok(end)
 }
 
 // Puts the old form of a stored record to the front of the output, as far as it has room, and tells its length.
@@ -170,75 +155,55 @@ fn strip(table: &[u8], s: &[u8], output: &mut [u8]) -> usize
         let b = s[at];
         put_byte(output, to, b);
         if !term::count_next(table, false, b) {
-            at = at + 1;
-            to = to + 1;
+            at += 1;
+            to += 1;
             continue;
         }
         if s.len() <= at + 1 {
             return to + 1;
         }
         put_byte(output, to + 1, s[at + 1]);
-        at = at + BEFORE + WORD;
-        to = to + 2;
+        at += BEFORE + WORD;
+        to += 2;
     }
     to
 }
 
-// The length of the old form of bytes that are one tree of the stored form.
-fn old_length(table: &[u8], s: &[u8]) -> usize
-    requires { length s.now ≤ longest_stored }
-    ensures { result ≡ length (stripped table.now s.now 0) }
-{
-    let mut nowhere = [0u8; 1];
-    strip(table, s, &mut nowhere)
-}
-
-// Writes the old form of a stored record to the front of the output, or leaves the output as it is; `classes` counts if the call brings a class list.
+// Writes the old form of a stored record to the front of the output, or leaves the output as it is. What is put nowhere tells the length.
 fn restore_brought(
-    edition: Edition,
-    table: &[u8],
-    brings: bool,
-    classes: &[u8],
+    brought: &Brought<'_>,
     stored: &[u8],
     output: &mut [u8],
-) -> Move
-    ensures answer { result ≡ moved (restoring (brought_by edition table.now brings classes.now) stored.now) (length output.old) }
-    ensures contents { output.new ≡ output_after (restoring (brought_by edition table.now brings classes.now) stored.now) output.old }
-    ensures demand { RestoreDemanded (brought_by edition table.now brings classes.now) stored.now output.old (move_number result) (move_length result) output.new }
+) -> Result<usize, Refusal>
+    ensures answer { result ≡ moved (restoring (brought_of brought.now) stored.now) (length output.old) }
+    ensures contents { output.new ≡ output_after (restoring (brought_of brought.now) stored.now) output.old }
+    ensures demand { RestoreDemanded (brought_of brought.now) stored.now output.old (refusal_number result) (size_told result) output.new }
 {
-    if !term::check_table(table) {
-        return Move::Refused(Refusal::Table);
+    if !term::check_table(brought.table) {
+        return Err(Refusal::Table);
     }
-    if !reader::accepts_list(table, brings, classes) {
-        return Move::Refused(Refusal::Class);
+    if !brought.accepts_list() {
+        return Err(Refusal::Class);
     }
-    let read = read_form(
-        edition,
-        table,
-        reader::brought_list(brings, classes),
-        stored,
-    );
-    if let Read::Refused(r) = read {
-        return Move::Refused(r);
-    }
-    let size = old_length(table, stored);
+    read_form(&brought.language(), stored)?;
+    let size = strip(brought.table, stored, &mut []);
     if term::LONGEST_RECORD < size {
-        return Move::Refused(Refusal::Long);
+        return Err(Refusal::Long);
     }
     if output.len() < size {
-        return Move::Refused(Refusal::Full);
+        return Err(Refusal::Full);
     }
-    strip(table, stored, output);
-    Move::Written(size)
+    strip(brought.table, stored, output);
+    Ok(size)
 }
 
 // In edition 1, without a class list.
-pub fn restore(table: &[u8], stored: &[u8], output: &mut [u8]) -> Move
+pub fn restore(table: &[u8], stored: &[u8], output: &mut [u8]) -> Result<usize, Refusal>
     ensures answer { result ≡ moved (restoring (simply table.now) stored.now) (length output.old) }
     ensures contents { output.new ≡ output_after (restoring (simply table.now) stored.now) output.old }
-    ensures demand { RestoreDemanded (simply table.now) stored.now output.old (move_number result) (move_length result) output.new }
+    ensures demand { RestoreDemanded (simply table.now) stored.now output.old (refusal_number result) (size_told result) output.new }
 {
-    restore_brought(Edition::One, table, false, &table[..0], stored, output)
+    restore_brought(&Brought::simply(table), stored, output)
 }
 
 // In an edition, with a class list.
@@ -248,12 +213,12 @@ pub fn restore_in(
     classes: &[u8],
     stored: &[u8],
     output: &mut [u8],
-) -> Move
+) -> Result<usize, Refusal>
     ensures answer { result ≡ moved (restoring (bringing edition table.now classes.now) stored.now) (length output.old) }
     ensures contents { output.new ≡ output_after (restoring (bringing edition table.now classes.now) stored.now) output.old }
-    ensures demand { RestoreDemanded (bringing edition table.now classes.now) stored.now output.old (move_number result) (move_length result) output.new }
+    ensures demand { RestoreDemanded (bringing edition table.now classes.now) stored.now output.old (refusal_number result) (size_told result) output.new }
 {
-    restore_brought(edition, table, true, classes, stored, output)
+    restore_brought(&Brought::bringing(edition, table, classes), stored, output)
 }
 
 // The length of the stored form of a record.
@@ -263,15 +228,12 @@ fn stored_length(table: &[u8], s: &[u8]) -> usize
 {
     let mut size: usize = 0;
     let mut counting = false;
-    let mut i: usize = 0;
-    while i < s.len() {
+    for i in 0..s.len() {
         counting = term::count_next(table, counting, s[i]);
-        i = i + 1;
         if counting {
-            size = size + 1 + WORD;
-            continue;
+            size += WORD;
         }
-        size = size + 1;
+        size += 1;
     }
     size
 }
@@ -296,98 +258,78 @@ fn put_length(list: bool, output: &mut [u8], start: usize, end: usize)
     ensures { output.new ≡ with_told list output.old start end }
 {
     if list {
-        let n = end - start;
-        output[start - WORD] = (n % 256) as u8;
-        output[start - 1] = (n / 256) as u8;
+        let told = ((end - start) as u16).to_le_bytes();
+        output[start - WORD] = told[0];
+        output[start - 1] = told[1];
     }
 }
 
-// Puts a record in the stored form: a node's own bytes, its children, and then, for a list, their length. The frames are those of the reader. What
+// Puts a record in the stored form: a node's own bytes, its children, and then, for a list, their length. The levels are those of the reader. What
 // is accepted in edition 2 is so in edition 1, which compares no lists.
 fn put_tree(table: &[u8], s: &[u8], output: &mut [u8])
     requires { Putting (simple table.now) s.now (length output.old) }
-    ensures { output.new ≡ sets output.old 0 (stored_trees table.now (record_trees (simple table.now) nesting Stand.Elsewhere 1 s.now)) }
+    ensures { output.new ≡ sets output.old 0 (stored_trees table.now (record_trees (simple table.now) nesting None 1 s.now)) }
 {
-    let mut around = [Frame::EMPTY; FRAMES];
-    let mut starts = [0usize; OPEN];
-    let mut depth: usize = 0;
-    let mut top = root();
+    let language = Brought::simply(table).language();
+    let mut around: ArrayVec<Level, FRAMES> = ArrayVec::new();
+    let mut top = Level::ROOT;
     let mut at: usize = 0;
     let mut end: usize = 0;
     loop {
-        let stand = top.stand;
-        if top.count == 0 {
-            put_length(reader::in_list(stand), output, starts[depth], end);
-            if depth == 0 {
+        let Frame { count, left, stand } = top.frame;
+        if count == 0 {
+            put_length(reader::in_list(stand), output, top.start, end);
+            let Some(level) = around.pop() else {
                 return;
-            }
-            depth = depth - 1;
-            top = around[depth];
+            };
+            top = level;
             continue;
         }
-        let none = &table[..0];
-        let node = reader::node_at(Edition::One, table, none, &s[at..], true, stand, top.left);
-        let Node::Open {
-            size,
-            kids,
-            inside,
-            low,
-        } = node
-        else {
+        let Ok(node) = reader::node_at(&language, &s[at..], true, stand, left) else {
             return;
         };
-        let list = reader::in_list(inside);
+        let list = reader::in_list(node.inside);
         end = put_own(&s[at..], list, output, end);
-        at = at + size;
-        top.count = top.count - 1;
-        if list | (0 < kids) {
-            around[depth] = top;
-            top = Frame::of(kids, low, inside);
-            depth = depth + 1;
-            starts[depth] = end;
+        at += node.size;
+        top.frame.count -= 1;
+        if list | (0 < node.kids) {
+            around.push(top);
+            top = Level {
+                frame: Frame::of(node.kids, node.low, node.inside),
+                start: end,
+            };
         }
     }
 }
 
-// Writes the stored form of a record to the front of the output, or leaves the output as it is; `classes` counts if the call brings a class list.
-fn store_brought(
-    edition: Edition,
-    table: &[u8],
-    brings: bool,
-    classes: &[u8],
-    record: &[u8],
-    output: &mut [u8],
-) -> Move
-    ensures answer { result ≡ moved (storing (brought_by edition table.now brings classes.now) «record».now) (length output.old) }
-    ensures contents { output.new ≡ output_after (storing (brought_by edition table.now brings classes.now) «record».now) output.old }
-    ensures demand { StoreDemanded (brought_by edition table.now brings classes.now) «record».now output.old (move_number result) (move_length result) output.new }
+// Writes the stored form of a record to the front of the output, or leaves the output as it is.
+fn store_brought(brought: &Brought<'_>, record: &[u8], output: &mut [u8]) -> Result<usize, Refusal>
+    ensures answer { result ≡ moved (storing (brought_of brought.now) «record».now) (length output.old) }
+    ensures contents { output.new ≡ output_after (storing (brought_of brought.now) «record».now) output.old }
+    ensures demand { StoreDemanded (brought_of brought.now) «record».now output.old (refusal_number result) (size_told result) output.new }
 {
-    if !term::check_table(table) {
-        return Move::Refused(Refusal::Table);
+    if !term::check_table(brought.table) {
+        return Err(Refusal::Table);
     }
-    if !reader::accepts_list(table, brings, classes) {
-        return Move::Refused(Refusal::Class);
+    if !brought.accepts_list() {
+        return Err(Refusal::Class);
     }
-    let list = reader::brought_list(brings, classes);
-    let read = reader::read_record_in(edition, table, list, record);
-    if let Read::Refused(r) = read {
-        return Move::Refused(r);
-    }
-    let size = stored_length(table, record);
+    reader::read_record_in(&brought.language(), record)?;
+    let size = stored_length(brought.table, record);
     if output.len() < size {
-        return Move::Refused(Refusal::Full);
+        return Err(Refusal::Full);
     }
-    put_tree(table, record, output);
-    Move::Written(size)
+    put_tree(brought.table, record, output);
+    Ok(size)
 }
 
 // In edition 1, without a class list.
-pub fn store(table: &[u8], record: &[u8], output: &mut [u8]) -> Move
+pub fn store(table: &[u8], record: &[u8], output: &mut [u8]) -> Result<usize, Refusal>
     ensures answer { result ≡ moved (storing (simply table.now) «record».now) (length output.old) }
     ensures contents { output.new ≡ output_after (storing (simply table.now) «record».now) output.old }
-    ensures demand { StoreDemanded (simply table.now) «record».now output.old (move_number result) (move_length result) output.new }
+    ensures demand { StoreDemanded (simply table.now) «record».now output.old (refusal_number result) (size_told result) output.new }
 {
-    store_brought(Edition::One, table, false, &table[..0], record, output)
+    store_brought(&Brought::simply(table), record, output)
 }
 
 // In an edition, with a class list.
@@ -397,10 +339,10 @@ pub fn store_in(
     classes: &[u8],
     record: &[u8],
     output: &mut [u8],
-) -> Move
+) -> Result<usize, Refusal>
     ensures answer { result ≡ moved (storing (bringing edition table.now classes.now) «record».now) (length output.old) }
     ensures contents { output.new ≡ output_after (storing (bringing edition table.now classes.now) «record».now) output.old }
-    ensures demand { StoreDemanded (bringing edition table.now classes.now) «record».now output.old (move_number result) (move_length result) output.new }
+    ensures demand { StoreDemanded (bringing edition table.now classes.now) «record».now output.old (refusal_number result) (size_told result) output.new }
 {
-    store_brought(edition, table, true, classes, record, output)
+    store_brought(&Brought::bringing(edition, table, classes), record, output)
 }

@@ -6,6 +6,7 @@ pub mod Term
 pub mod Pattern
 pub mod Class
 pub mod Language
+pub mod Lent
 pub mod Splicing
 pub mod Limits
 pub mod Extent

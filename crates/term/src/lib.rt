@@ -36,7 +36,7 @@ pub const LIST: u8 = 255;
 const MOST_CHILDREN: u8 = 8;
 
 // What a byte of a pattern stands for. A name or a run name holds its variable's number.
-#[derive(Clone, Copy)]
+#[derive(Clone, Copy, Debug, PartialEq, Eq)]
 pub enum Code {
     Symbol(u8),
     Name(u8),
@@ -46,17 +46,18 @@ pub enum Code {
 }
 
 // The editions of the rule language (document 02, L6).
-#[derive(Clone, Copy)]
+#[derive(Clone, Copy, Debug, PartialEq, Eq)]
 pub enum Edition {
     One,
     Two,
 }
 
-// Where a node stands: directly in a list, of this symbol, or elsewhere.
+// The language of records and patterns: an edition, a table, and a class list, which is empty where no symbols are alike.
 #[derive(Clone, Copy)]
-pub enum Stand {
-    Elsewhere,
-    InList(u8),
+pub struct Language<'a> {
+    pub edition: Edition,
+    pub table: &'a [u8],
+    pub classes: &'a [u8],
 }
 
 pub fn decode(b: u8) -> Code
@@ -74,10 +75,7 @@ pub fn decode(b: u8) -> Code
 fn accepts_entry(b: u8) -> bool
     ensures { result ≡ entry_accepted b }
 {
-    if b <= MOST_CHILDREN {
-        return true;
-    }
-    b == LIST
+    b <= MOST_CHILDREN || b == LIST
 }
 
 pub fn check_table(table: &[u8]) -> bool
@@ -88,10 +86,8 @@ pub fn check_table(table: &[u8]) -> bool
     }
     // No early exit, so that many entries are checked at a time.
     let mut accepted = true;
-    let mut i = 0;
-    while i < table.len() {
-        accepted = accepted & accepts_entry(table[i]);
-        i += 1;
+    for entry in table {
+        accepted &= accepts_entry(*entry);
     }
     accepted
 }
@@ -100,7 +96,7 @@ pub fn check_table(table: &[u8]) -> bool
 pub fn class_of(classes: &[u8], b: u8) -> u8
     ensures { result ≡ class_of classes.now b }
 {
-    let i = wide(b);
+    let i = usize::from(b);
     if i < classes.len() {
         return classes[i];
     }
@@ -111,13 +107,7 @@ pub fn class_of(classes: &[u8], b: u8) -> u8
 pub fn same_symbol(classes: &[u8], x: u8, y: u8) -> bool
     ensures { result ≡ same_byte classes.now false x y }
 {
-    if x == y {
-        return true;
-    }
-    if classes.len() == 0 {
-        return false;
-    }
-    class_of(classes, x) == class_of(classes, y)
+    x == y || (!classes.is_empty() && class_of(classes, x) == class_of(classes, y))
 }
 
 // Whether an entry is not above its own index and its own class, with the same table byte.
@@ -125,14 +115,9 @@ fn accepts_class(table: &[u8], classes: &[u8], i: usize) -> bool
     requires { (i < length classes.now) × (length classes.now ≡ length table.now) }
     ensures { result ≡ entry_classed table.now classes.now i }
 {
-    let c = wide(classes[i]);
-    if i < c {
-        return false;
-    }
-    if wide(classes[c]) != c {
-        return false;
-    }
-    table[c] == table[i]
+    let class = classes[i];
+    let c = usize::from(class);
+    c <= i && classes[c] == class && table[c] == table[i]
 }
 
 pub fn check_classes(table: &[u8], classes: &[u8]) -> bool
@@ -141,20 +126,12 @@ pub fn check_classes(table: &[u8], classes: &[u8]) -> bool
     if classes.len() != table.len() {
         return false;
     }
-    let mut i: usize = 0;
-    while i < table.len() {
+    for i in 0..table.len() {
         if !accepts_class(table, classes, i) {
             return false;
         }
-        i = i + 1;
     }
     true
-}
-
-fn wide(b: u8) -> usize
-    ensures { result ≡ b }
-{
-    b as usize
 }
 
 // The children of a code that is no symbol of the table: a complement has one.
@@ -162,11 +139,8 @@ fn kids_of(code: Code) -> u8
     ensures { result ≡ kids_of code }
 {
     match code {
-        Code::Symbol(_) => 0,
-        Code::Name(_) => 0,
-        Code::Run(_) => 0,
         Code::Complement => 1,
-        Code::Refused => 0,
+        Code::Symbol(_) | Code::Name(_) | Code::Run(_) | Code::Refused => 0,
     }
 }
 
@@ -174,7 +148,7 @@ fn kids_of(code: Code) -> u8
 pub fn entry_of(table: &[u8], b: u8) -> u8
     ensures { result ≡ entry_of table.now b }
 {
-    let i = wide(b);
+    let i = usize::from(b);
     if i < table.len() {
         return table[i];
     }
@@ -188,18 +162,18 @@ pub fn extents(table: &[u8], s: &[u8], count: u8) -> usize
 {
     let mut at: usize = 0;
     // The earliest place at which they can end: each tree still to come takes a byte at least.
-    let mut end: usize = wide(count);
+    let mut end = usize::from(count);
     while at < end {
         if s.len() <= end {
             return s.len();
         }
         let entry = entry_of(table, s[at]);
         if entry == LIST {
-            end = end + 1 + wide(s[at + 1]);
-            at = at + 2;
+            end = end + 1 + usize::from(s[at + 1]);
+            at += 2;
         } else {
-            end = end + wide(entry);
-            at = at + 1;
+            end += usize::from(entry);
+            at += 1;
         }
     }
     at
@@ -218,12 +192,10 @@ fn same_bytes(x: &[u8], y: &[u8]) -> bool
     requires { length x.now ≡ length y.now }
     ensures { result ≡ same_part [] [] true x.now y.now }
 {
-    let mut at: usize = 0;
-    while at < x.len() {
+    for at in 0..x.len() {
         if x[at] != y[at] {
             return false;
         }
-        at = at + 1;
     }
     true
 }
@@ -245,11 +217,8 @@ pub fn count_next(table: &[u8], counting: bool, x: u8) -> bool
     if counting {
         return false;
     }
-    let i = wide(x);
-    if table.len() <= i {
-        return false;
-    }
-    table[i] == LIST
+    let i = usize::from(x);
+    i < table.len() && table[i] == LIST
 }
 
 // Whether two parts of records are the same up to class.
@@ -264,13 +233,11 @@ pub fn same(table: &[u8], classes: &[u8], x: &[u8], y: &[u8]) -> bool
         return same_bytes(x, y);
     }
     let mut counting = false;
-    let mut i: usize = 0;
-    while i < x.len() {
+    for i in 0..x.len() {
         if !same_byte(classes, counting, x[i], y[i]) {
             return false;
         }
         counting = count_next(table, counting, x[i]);
-        i = i + 1;
     }
     true
 }

@@ -1,18 +1,16 @@
-// Outcomes as text: each word and number with a blank before it. A text that has no more room is cut.
+// Outcomes as text: each word and number with a blank before it.
 use crate::text;
-use answers::{Answer, Applied, Cost, Played, RuleAnswer};
-use byte_answers::{Checked, EntryPlace, Move, Read};
-use term::Edition;
+use answers::{Applied, Fault, Played, Refusal, Shown};
+use arrayvec::ArrayVec;
+use byte_answers::Place;
+use std::io::Write;
+use term::{Edition, VARIABLES};
 
-// The numbers of an entry, the entries of an answer, and those of the buffer around it.
-const ENTRY: usize = parts::ENTRY_WIDTH;
-
-const ANSWER: usize = term::VARIABLES;
-
+// The entries of an answer buffer.
 const ENTRIES: usize = 64;
 
 // The numbers of the buffer.
-pub const BUFFER: usize = ENTRY * ENTRIES;
+pub const BUFFER: usize = parts::ENTRY_WIDTH * ENTRIES;
 
 // The names of an answer come first, then its run names.
 const NAMES: usize = 32;
@@ -29,233 +27,202 @@ const BLANK: u8 = 250;
 // The most bytes of an outcome.
 pub const ROOM: usize = 4096;
 
-// An outcome as text. The bytes past its length are 0.
-#[derive(Clone, Copy)]
-pub struct Shown {
-    pub bytes: [u8; ROOM],
-    pub length: usize,
+// An outcome as text. What has no more room is cut.
+pub type Line = ArrayVec<u8, ROOM>;
+
+// Puts the text after what is there, as far as there is room.
+pub fn put(out: &mut Line, text: &[u8]) {
+    let _ = out.write_all(text);
 }
 
-// What a call of the match answers, of one rule or of a rule sheet; nothing where there is no such call.
-#[derive(Clone, Copy)]
-pub enum Reply {
-    Nothing,
-    ByRule(Answer),
-    BySheet(RuleAnswer),
+// The outcome of one text.
+pub fn show(text: &[u8]) -> Line {
+    let mut out = Line::new();
+    put(&mut out, text);
+    out
 }
 
-// The empty text, which no outcome has.
-pub fn nothing() -> Shown {
-    Shown {
-        bytes: [0u8; ROOM],
-        length: 0,
-    }
+// A word and a number after it.
+fn put_number(out: &mut Line, word: &[u8], value: u64) {
+    put(out, word);
+    let _ = write!(out, " {value}");
 }
 
-// Puts the text after what is there.
-pub fn put(out: Shown, text: &[u8]) -> Shown {
-    let mut more = out;
-    let mut i: usize = 0;
-    while i < text.len() {
-        let at = more.length;
-        if ROOM <= at {
-            return more;
-        }
-        more.bytes[at] = text[i];
-        more.length = at + 1;
-        i += 1;
-    }
-    more
-}
-
-fn put_decimal(out: Shown, value: u64) -> Shown {
-    let mut digits = [0u8; 20];
-    let k = io::decimal(value, &mut digits);
-    put(out, &digits[..k])
-}
-
-// A word or a sign, and a number after it.
-fn put_number(out: Shown, word: &[u8], value: u64) -> Shown {
-    put_decimal(put(out, word), value)
-}
-
-pub fn show_number(word: &[u8], value: u64) -> Shown {
-    put_number(nothing(), word, value)
-}
-
-fn digit(value: u8) -> u8 {
-    let d = value % 16;
-    if d < 10 { b'0' + d } else { b'A' + (d - 10) }
-}
-
-// A byte in hexadecimal.
-fn put_byte(out: Shown, value: u8) -> Shown {
-    put(out, &[digit(value / 16), digit(value)])
+pub fn show_number(value: usize) -> Line {
+    let mut out = Line::new();
+    put_number(&mut out, b"", value as u64);
+    out
 }
 
 // Bytes in hexadecimal, - for none.
-fn put_bytes(out: Shown, bytes: &[u8]) -> Shown {
-    if bytes.len() == 0 {
+fn put_bytes(out: &mut Line, bytes: &[u8]) {
+    if bytes.is_empty() {
         return put(out, b" -");
     }
-    let mut more = put(out, b" ");
-    let mut i: usize = 0;
-    while i < bytes.len() {
-        more = put_byte(more, bytes[i]);
-        i += 1;
+    put(out, b" ");
+    for byte in bytes {
+        let _ = write!(out, "{byte:02X}");
     }
-    more
 }
 
-pub fn show_bytes(bytes: &[u8]) -> Shown {
-    put_bytes(nothing(), bytes)
-}
-
-// A name or a run name, its part and its number of terms.
-fn put_named(out: Shown, sign: &[u8], k: usize, offset: u16, length: u16, terms: u16) -> Shown {
-    let named = put_number(out, sign, k as u64);
-    let at = put_number(named, b"=", offset as u64);
-    let part = put_number(at, b"+", length as u64);
-    put_number(part, b":", terms as u64)
-}
-
-// An entry of the answer, where it is not the absent mark.
-fn put_part(out: Shown, k: usize, offset: u16, length: u16, terms: u16) -> Shown {
-    if offset == ABSENT && length == 0 && terms == 0 {
-        return out;
-    }
-    if k < NAMES {
-        return put_named(out, b" ?", k, offset, length, terms);
-    }
-    put_named(out, b" @", k - NAMES, offset, length, terms)
-}
-
-// An entry of the buffer. Those of a bound answer are shown, all others must be as they were.
-fn put_entry(out: Shown, bound: bool, k: usize, offset: u16, length: u16, terms: u16) -> Shown {
-    if bound && k < ANSWER {
-        return put_part(out, k, offset, length, terms);
-    }
-    if offset == UNTOUCHED && length == UNTOUCHED && terms == UNTOUCHED {
-        return out;
-    }
-    put(out, b" changed")
-}
-
-fn put_buffer(out: Shown, bound: bool, buffer: &[u16; BUFFER]) -> Shown {
-    let mut more = out;
-    let mut k: usize = 0;
-    while k < ENTRIES {
-        let at = ENTRY * k;
-        more = put_entry(more, bound, k, buffer[at], buffer[at + 1], buffer[at + 2]);
-        k += 1;
-    }
-    more
-}
-
-// The word of document 01's number.
-fn show_word(number: u8) -> Shown {
-    match number {
-        0 => put(nothing(), b" bound"),
-        10 => put(nothing(), b" none"),
-        11 => put(nothing(), b" spent"),
-        _ => show_number(b" refused ", number as u64),
-    }
+pub fn show_bytes(bytes: &[u8]) -> Line {
+    let mut out = Line::new();
+    put_bytes(&mut out, bytes);
+    out
 }
 
 // A number that must be 0 and is then not shown.
-fn put_zero(out: Shown, word: &[u8], value: u64) -> Shown {
-    if value == 0 {
-        return out;
-    }
-    put_number(out, word, value)
-}
-
-// A count; a refusal's is 0.
-fn put_count(out: Shown, number: u8, count: u64) -> Shown {
-    match number {
-        0 | 10 | 11 => put_number(out, b" ", count),
-        _ => put_zero(out, b" count ", count),
+fn put_zero(out: &mut Line, word: &[u8], value: u64) {
+    if value != 0 {
+        put_number(out, word, value);
     }
 }
 
-fn show_answer(answer: Answer, buffer: &[u16; BUFFER]) -> Shown {
-    let number = answer.number();
-    let counted = put_count(show_word(number), number, answer.count() as u64);
-    put_buffer(counted, number == 0, buffer)
+// Why something is refused, with the index of the entry at fault where it has one.
+pub trait Refused {
+    fn put(self, out: &mut Line);
 }
 
-fn show_rule_answer(answer: RuleAnswer, buffer: &[u16; BUFFER]) -> Shown {
-    let number = answer.number();
-    let index = put_number(show_word(number), b" ", answer.index() as u64);
-    let counted = put_count(index, number, answer.count());
-    put_buffer(counted, number == 0, buffer)
+impl Refused for Refusal {
+    fn put(self, out: &mut Line) {
+        put_number(out, b" refused", u64::from(self.number()));
+    }
 }
 
-pub fn show_cost(cost: Cost) -> Shown {
-    let number = cost.number();
-    put_count(show_word(number), number, cost.count() as u64)
+impl Refused for Fault {
+    fn put(self, out: &mut Line) {
+        let index = self.index;
+        self.refusal.put(out);
+        let _ = write!(out, " {index}");
+    }
 }
 
-// The answer of a call that is known.
-pub fn show_answered(answered: Reply, buffer: &[u16; BUFFER]) -> Shown {
-    match answered {
-        Reply::Nothing => nothing(),
-        Reply::ByRule(answer) => show_answer(answer, buffer),
-        Reply::BySheet(answer) => show_rule_answer(answer, buffer),
+// What an answer is shown by: document 01's number, the index of a rule where the answer is a sheet's, and the count.
+#[derive(Clone, Copy)]
+pub struct Reply {
+    number: u8,
+    index: Option<usize>,
+    count: u64,
+}
+
+impl Reply {
+    pub fn of<A: Shown + Copy>(answer: A) -> Reply {
+        Reply {
+            number: answer.number(),
+            index: None,
+            count: answer.count(),
+        }
+    }
+
+    // The same of a rule sheet.
+    pub fn of_sheet<A: Shown + Copy>(answer: A) -> Reply {
+        Reply {
+            number: answer.number(),
+            index: Some(answer.index()),
+            count: answer.count(),
+        }
+    }
+
+    fn put(self, out: &mut Line) {
+        let Reply {
+            number,
+            index,
+            count,
+        } = self;
+        match number {
+            0 => put(out, b" bound"),
+            10 => put(out, b" none"),
+            11 => put(out, b" spent"),
+            _ => put_number(out, b" refused", u64::from(number)),
+        }
+        if let Some(i) = index {
+            let _ = write!(out, " {i}");
+        }
+        match number {
+            0 | 10 | 11 => put_number(out, b"", count),
+            // A refusal's is 0.
+            _ => put_zero(out, b" count", count),
+        }
+    }
+
+    pub fn show(self) -> Line {
+        let mut out = Line::new();
+        self.put(&mut out);
+        out
+    }
+
+    // With the buffer that was lent for the parts.
+    pub fn show_parts(self, buffer: &[u16; BUFFER]) -> Line {
+        let mut out = self.show();
+        for (k, entry) in buffer.chunks_exact(parts::ENTRY_WIDTH).enumerate() {
+            put_entry(&mut out, self.number == 0, k, entry);
+        }
+        out
+    }
+}
+
+// An entry of the buffer. Those of a bound answer are shown but for the absent mark, all others must be as they were.
+fn put_entry(out: &mut Line, bound: bool, k: usize, entry: &[u16]) {
+    match *entry {
+        [ABSENT, 0, 0] if bound && k < VARIABLES => {}
+        [offset, length, terms] if bound && k < VARIABLES => {
+            let (sign, place) = if k < NAMES {
+                ('?', k)
+            } else {
+                ('@', k - NAMES)
+            };
+            let _ = write!(out, " {sign}{place}={offset}+{length}:{terms}");
+        }
+        [UNTOUCHED, UNTOUCHED, UNTOUCHED] => {}
+        _ => put(out, b" changed"),
     }
 }
 
 // Accepted, or refused with this number.
-pub fn show_accepted(accepted: bool, number: u64) -> Shown {
+pub fn show_accepted(accepted: bool, refusal: Refusal) -> Line {
+    let mut out = Line::new();
     if accepted {
-        return put(nothing(), b" accepted");
+        put(&mut out, b" accepted");
+    } else {
+        refusal.put(&mut out);
     }
-    show_number(b" refused ", number)
+    out
 }
 
-pub fn show_same(same: bool) -> Shown {
+pub fn show_same(same: bool) -> Line {
     if same {
-        return put(nothing(), b" same");
+        show(b" same")
+    } else {
+        show(b" different")
     }
-    put(nothing(), b" different")
 }
 
-pub fn show_edition(edition: Edition) -> Shown {
+pub fn show_edition(edition: Edition) -> Line {
     match edition {
-        Edition::One => put(nothing(), b" 1"),
-        Edition::Two => put(nothing(), b" 2"),
+        Edition::One => show(b" 1"),
+        Edition::Two => show(b" 2"),
     }
 }
 
-pub fn show_read(read: Read) -> Shown {
-    match read {
-        Read::Ends(_) => show_number(b" read ", read.length() as u64),
-        Read::Refused(_) => show_number(b" refused ", read.number() as u64),
+// A length or a number of entries after a word.
+pub fn show_size<E: Refused>(word: &[u8], size: Result<usize, E>) -> Line {
+    let mut out = Line::new();
+    match size {
+        Ok(n) => put_number(&mut out, word, n as u64),
+        Err(refused) => refused.put(&mut out),
     }
+    out
 }
 
-// A word and two numbers.
-fn show_two(word: &[u8], first: u64, second: u64) -> Shown {
-    put_number(show_number(word, first), b" ", second)
-}
-
-// A refusal's number and index.
-fn show_refused(number: u8, index: usize) -> Shown {
-    show_two(b" refused ", number as u64, index as u64)
-}
-
-pub fn show_checked(checked: Checked) -> Shown {
-    match checked {
-        Checked::Accepted(n) => show_number(b" accepted ", n as u64),
-        Checked::Refused(_, _) => show_refused(checked.number(), checked.index()),
-    }
-}
-
-pub fn show_place(place: EntryPlace) -> Shown {
+pub fn show_place(place: Result<Place, Refusal>) -> Line {
+    let mut out = Line::new();
     match place {
-        EntryPlace::At(offset, length) => show_two(b" at ", offset as u64, length as u64),
-        EntryPlace::Refused(r) => show_number(b" refused ", r.number() as u64),
+        Ok(Place { offset, length }) => {
+            let _ = write!(out, " at {offset} {length}");
+        }
+        Err(refusal) => refusal.put(&mut out),
     }
+    out
 }
 
 // An output before a call.
@@ -264,89 +231,106 @@ pub fn blank() -> [u8; text::ROOM] {
 }
 
 // What is refused leaves the output.
-fn show_unchanged(refused: Shown, output: &[u8; text::ROOM]) -> Shown {
-    if check::same(output, &blank()) {
-        return refused;
-    }
-    put(refused, b" changed")
-}
-
-pub fn show_unwritten(number: u8, index: usize, output: &[u8; text::ROOM]) -> Shown {
-    show_unchanged(show_refused(number, index), output)
-}
-
-// Whether the output is what is stated, of this length, and past it as it was.
-fn is_stated(output: &[u8; text::ROOM], length: usize, stated: &[u8]) -> bool {
-    let mut expected = blank();
-    let size = text::unpack(stated, &mut expected);
-    size == length && check::same(output, &expected)
-}
-
-// What was written, in the words stated where those stand for it.
-fn put_written(out: Shown, length: usize, output: &[u8; text::ROOM], stated: &[u8]) -> Shown {
-    if is_stated(output, length, stated) {
-        return put(put(out, b" "), stated);
-    }
-    put(
-        put_bytes(out, text::start(output, length)),
-        b", another output",
-    )
-}
-
-pub fn show_written(length: usize, output: &[u8; text::ROOM], stated: &[u8]) -> Shown {
-    let written = show_number(b" written ", length as u64);
-    put_written(written, length, output, stated)
-}
-
-// The other form of a record, or why it is refused.
-pub fn show_move(moved: Move, output: &[u8; text::ROOM], stated: &[u8]) -> Shown {
-    match moved {
-        Move::Written(length) => show_written(length, output, stated),
-        Move::Refused(r) => show_unchanged(show_number(b" refused ", r.number() as u64), output),
+fn put_unchanged(out: &mut Line, output: &[u8; text::ROOM]) {
+    if output.iter().any(|b| *b != BLANK) {
+        put(out, b" changed");
     }
 }
 
-// A result's length; that of an answer that is not bound is 0.
-fn put_length(out: Shown, number: u8, length: usize) -> Shown {
-    if number == 0 {
-        return put_number(out, b" ", length as u64);
-    }
-    put_zero(out, b" length ", length as u64)
+// The output's first bytes, and what lies past them.
+fn parts_of(output: &[u8; text::ROOM], length: usize) -> (&[u8], &[u8]) {
+    output.split_at(length.min(text::ROOM))
 }
 
-// The answer of a look.
-pub fn show_look(looked: Applied) -> Shown {
-    let number = looked.number();
-    let counted = put_count(show_word(number), number, looked.count() as u64);
-    put_length(counted, number, looked.length())
+pub fn written(output: &[u8; text::ROOM], length: usize) -> &[u8] {
+    let (written, _) = parts_of(output, length);
+    written
+}
+
+// What was written, in the words stated where those stand for it and what lies past it is as it was.
+fn put_written(out: &mut Line, length: usize, output: &[u8; text::ROOM], stated: &[u8]) {
+    let (written, past) = parts_of(output, length);
+    if let Some(expected) = text::bytes(stated)
+        && expected.as_slice() == written
+        && past.iter().all(|b| *b == BLANK)
+    {
+        put(out, b" ");
+        return put(out, stated);
+    }
+    put_bytes(out, written);
+    put(out, b", another output");
+}
+
+// The length of what was written, and the bytes.
+pub fn show_written<E: Refused>(
+    written: Result<usize, E>,
+    output: &[u8; text::ROOM],
+    stated: &[u8],
+) -> Line {
+    let mut out = Line::new();
+    match written {
+        Ok(length) => {
+            put_number(&mut out, b" written", length as u64);
+            put_written(&mut out, length, output, stated);
+        }
+        Err(refused) => {
+            refused.put(&mut out);
+            put_unchanged(&mut out, output);
+        }
+    }
+    out
+}
+
+// The answer of a look. The length of a result that is not bound is 0.
+pub fn show_look(looked: Result<Applied, Refusal>) -> Line {
+    let mut out = Reply::of(looked).show();
+    if let Ok(applied) = looked {
+        let length = applied.length() as u64;
+        match applied {
+            Applied::Bound(_, _) => put_number(&mut out, b"", length),
+            Applied::None(_) | Applied::Spent(_) => put_zero(&mut out, b" length", length),
+        }
+    }
+    out
 }
 
 // The same of applying, and what it wrote.
-pub fn show_applied(applied: Applied, output: &[u8; text::ROOM], stated: &[u8]) -> Shown {
-    let answered = show_look(applied);
+pub fn show_applied(
+    applied: Result<Applied, Refusal>,
+    output: &[u8; text::ROOM],
+    stated: &[u8],
+) -> Line {
+    let mut out = show_look(applied);
     match applied {
-        Applied::Bound(_, length) => put_written(answered, length, output, stated),
-        _ => show_unchanged(answered, output),
+        Ok(Applied::Bound(_, length)) => put_written(&mut out, length, output, stated),
+        _ => put_unchanged(&mut out, output),
     }
+    out
 }
 
 // The answer of a game. None and spent have index 0, and spent alone a count.
-pub fn show_played(played: Played) -> Shown {
-    let number = played.number();
+pub fn show_played(played: Result<Played, Fault>) -> Line {
     let index = played.index() as u64;
-    let count = played.count() as u64;
-    match number {
-        0 => put_zero(show_number(b" forced ", index), b" count ", count),
-        10 => put_zero(
-            put_zero(show_word(number), b" index ", index),
-            b" count ",
-            count,
-        ),
-        11 => put_zero(show_number(b" spent ", count), b" index ", index),
-        _ => put_zero(
-            show_two(b" refused ", number as u64, index),
-            b" count ",
-            count,
-        ),
+    let count = played.count();
+    let mut out = Line::new();
+    match played {
+        Ok(Played::None) => {
+            put(&mut out, b" none");
+            put_zero(&mut out, b" index", index);
+            put_zero(&mut out, b" count", count);
+        }
+        Ok(Played::Spent(_)) => {
+            put_number(&mut out, b" spent", count);
+            put_zero(&mut out, b" index", index);
+        }
+        Ok(_) => {
+            put_number(&mut out, b" forced", index);
+            put_zero(&mut out, b" count", count);
+        }
+        Err(fault) => {
+            fault.put(&mut out);
+            put_zero(&mut out, b" count", count);
+        }
     }
+    out
 }

@@ -1,446 +1,231 @@
 // The fields of a line and what they stand for.
-ghost use Rattle.std.specs.Prelude.{◌<◌, ◌≤◌, length};
+ghost use Rattle.std.specs.Prelude.{◌<◌, ◌≤◌, length, IfSome};
 
+use arrayvec::ArrayVec;
 use term::Edition;
 
-// The most bytes, and the most numbers of a list, that a field stands for.
+// The most bytes, and the most numbers of a list, that a field stands for; the most bytes of an output.
 pub const ROOM: usize = 40960;
 
-// The value of a field that can't be read; every number is below it.
-pub const UNREAD: usize = 4294967296;
+pub type Bytes = ArrayVec<u8, ROOM>;
 
-// The kinds of fields.
-const BYTES: u8 = b'b';
+pub type Numbers = ArrayVec<u16, ROOM>;
 
-const LIST: u8 = b'l';
-
-const EDITION: u8 = b'e';
-
-// How a call is told its language: by the table alone, or in an edition with a class list.
-#[derive(Clone, Copy)]
-pub enum Told {
-    Simply,
-    In(Edition),
-}
-
-// What a piece of a field stands for: a number of so many bytes, low byte first, so many times, each time larger by a step. The size is
-// the piece's own number of characters, 0 where it can't be read.
-#[derive(Clone, Copy)]
-struct Piece {
-    size: usize,
-    value: usize,
-    width: u8,
-    step: usize,
-    times: usize,
-}
-
-// The number of bytes of s before the first b, or all of s.
-pub fn before(s: &[u8], b: u8) -> usize
-    ensures { result ≤ length s.now }
+// What stands before the first b in s, and what stands after it, if there is one.
+fn split_once(s: &[u8], b: u8) -> Option<(&[u8], &[u8])>
+    ensures { IfSome result (λ p. length p.1.now < length s.now) }
 {
-    let mut n: usize = 0;
-    while n < s.len() {
-        if s[n] == b {
-            return n;
-        }
-        n += 1;
+    let n = s.iter().position(|x| *x == b)?;
+    Some((&s[..n], &s[n + 1..]))
+}
+
+// The same where all of s stands before it if there is none.
+pub fn cut(s: &[u8], b: u8) -> (&[u8], &[u8]) {
+    match split_once(s, b) {
+        Some(parts) => parts,
+        None => (s, &s[s.len()..]),
     }
-    n
 }
 
-// Room for the bytes, and for the numbers of a list, that a field stands for.
-pub fn space() -> [u8; ROOM] {
-    [0u8; ROOM]
-}
-
-pub fn list_space() -> [u16; ROOM] {
-    [0u16; ROOM]
-}
-
-// The first n bytes of s, or all of it.
-pub fn start(s: &[u8], n: usize) -> &[u8] {
-    if n < s.len() {
-        return &s[0..n];
-    }
-    s
-}
-
-// The same of a list of numbers.
-fn start_of_list(s: &[u16], n: usize) -> &[u16] {
-    if n < s.len() {
-        return &s[0..n];
-    }
-    s
-}
-
-// What stands before the first b in s.
-pub fn head(s: &[u8], b: u8) -> &[u8] {
-    start(s, before(s, b))
-}
-
-// The number of bytes of s through the first b, or all of s.
-pub fn through(s: &[u8], b: u8) -> usize
-    ensures within { result ≤ length s.now }
-    ensures moves { 0 < length s.now → 0 < result }
-{
-    let n = before(s, b);
-    if n < s.len() { n + 1 } else { n }
-}
-
-// What stands after the first b in s.
-pub fn tail(s: &[u8], b: u8) -> &[u8] {
-    let n = through(s, b);
-    &s[n..]
-}
-
-// The fields after the first k.
-pub fn after(s: &[u8], k: usize) -> &[u8] {
-    let mut rest = s;
-    let mut left = k;
-    while left > 0 {
-        let n = through(rest, b' ');
-        rest = &rest[n..];
-        left -= 1;
-    }
-    rest
-}
-
-// The field after k others.
-pub fn field(s: &[u8], k: usize) -> &[u8] {
-    head(after(s, k), b' ')
-}
-
-// How many words stand before this one in a text of words, or how many there are.
-pub fn place_among(words: &[u8], word: &[u8]) -> usize {
-    let mut rest = words;
-    let mut k: usize = 0;
-    while rest.len() > 0 {
-        if check::same(head(rest, b' '), word) {
-            return k;
-        }
-        let n = through(rest, b' ');
-        rest = &rest[n..];
-        k = std::num::wrapping_add_usize(k, 1);
-    }
-    k
-}
-
-// What a decimal or hexadecimal digit stands for; 16 for any other character.
-fn digit(b: u8) -> u8
-    ensures { result ≤ 16 }
+// What a decimal or hexadecimal digit stands for.
+fn digit(b: u8) -> Option<u8>
+    ensures { IfSome result (λ d. d < 16) }
 {
     match b {
-        b'0'..=b'9' => b - b'0',
-        b'A'..=b'F' => b - b'A' + 10,
-        _ => 16,
+        b'0'..=b'9' => Some(b - b'0'),
+        b'A'..=b'F' => Some(b - b'A' + 10),
+        _ => None,
     }
 }
 
-fn with_digit(value: usize, b: u8) -> usize {
-    let d = digit(b) as usize;
-    if 9 < d {
-        return UNREAD;
+// A decimal number of 32 bits.
+fn number(s: &[u8]) -> Option<u32> {
+    if s.is_empty() {
+        return None;
     }
-    if UNREAD <= value {
-        return UNREAD;
+    let mut value: u32 = 0;
+    for b in s {
+        let d = digit(*b).filter(|d| *d < 10)?;
+        value = value.checked_mul(10)?.checked_add(u32::from(d))?;
     }
-    let longer = value * 10 + d;
-    if longer < UNREAD { longer } else { UNREAD }
+    Some(value)
 }
 
-// A decimal number.
-pub fn number(s: &[u8]) -> usize {
-    if s.len() == 0 {
-        return UNREAD;
-    }
-    let mut value: usize = 0;
-    let mut i: usize = 0;
-    while i < s.len() {
-        value = with_digit(value, s[i]);
-        i += 1;
-    }
-    value
+// A number of 16 bits.
+fn number_16(s: &[u8]) -> Option<u16> {
+    u16::try_from(number(s)?).ok()
 }
 
-// The same where a call takes a number of 32 bits, as an allowance is; every number that can be read is one.
-pub fn number_32(s: &[u8]) -> u32 {
-    (number(s) % UNREAD) as u32
-}
-
-fn unread() -> Piece {
-    Piece {
-        size: 0,
-        value: 0,
-        width: 0,
-        step: 0,
-        times: 0,
-    }
-}
-
-// A byte, so many times.
-fn bytes_piece(size: usize, value: usize, times: usize) -> Piece {
-    if 255 < value || UNREAD <= times {
-        return unread();
-    }
-    Piece {
-        size: size,
-        value: value,
-        width: 1,
-        step: 0,
-        times: times,
-    }
-}
-
-// The pairs of so many entries of one length that follow one another.
-fn pairs_piece(size: usize, offset: usize, length: usize, times: usize) -> Piece {
-    if 65535 < offset {
-        return unread();
-    }
-    if 65535 < length {
-        return unread();
-    }
-    if UNREAD <= times {
-        return unread();
-    }
-    Piece {
-        size: size,
-        value: offset + 65536 * length,
-        width: 4,
-        step: length,
-        times: times,
-    }
-}
-
-// The byte of two hexadecimal digits, or a larger number.
-fn byte_of(high: u8, low: u8) -> usize {
-    let h = digit(high) as usize;
-    let l = digit(low) as usize;
-    if 15 < l {
-        return UNREAD;
-    }
-    h * 16 + l
-}
-
-// The pairs at the start of s.
-fn next_pairs(s: &[u8]) -> Piece {
-    let end = before(s, b']');
-    if end == s.len() {
-        return unread();
-    }
-    if end == 0 {
-        return unread();
-    }
-    let text = &s[1..end];
-    let more = tail(text, b',');
-    pairs_piece(
-        end + 1,
-        number(head(text, b',')),
-        number(head(more, b',')),
-        number(tail(more, b',')),
-    )
-}
-
-// The piece at the start of s.
-fn next_piece(s: &[u8]) -> Piece {
-    if s.len() < 2 {
-        return unread();
-    }
-    if s[0] == b'[' {
-        return next_pairs(s);
-    }
-    let value = byte_of(s[0], s[1]);
-    if s.len() == 2 || s[2] != b'(' {
-        return bytes_piece(2, value, 1);
-    }
-    let end = before(s, b')');
-    if end == s.len() || end < 3 {
-        return unread();
-    }
-    bytes_piece(end + 1, value, number(&s[3..end]))
-}
-
-fn store_byte(out: &mut [u8], at: usize, value: usize) {
-    if at < out.len() {
-        out[at] = (value % 256) as u8;
-    }
-}
-
-// The bytes of a value, one or four.
-fn store_value(out: &mut [u8], at: usize, width: u8, value: usize) {
-    store_byte(out, at, value);
-    if 1 < width {
-        store_byte(out, std::num::wrapping_add_usize(at, 1), value / 256);
-        store_byte(out, std::num::wrapping_add_usize(at, 2), value / 65536);
-        store_byte(out, std::num::wrapping_add_usize(at, 3), value / 16777216);
-    }
-}
-
-// Stores a piece from n on, where out has room, and answers where it ends.
-fn store(piece: Piece, out: &mut [u8], n: usize) -> usize {
-    let width = piece.width;
-    let step = piece.step;
-    let mut value = piece.value;
-    let mut left = piece.times;
-    let mut end = n;
-    while left > 0 {
-        if ROOM <= end {
-            return UNREAD;
+// How often stands what comes before s: once, or as the brackets at the start of s say; and what comes after it.
+fn times(s: &[u8]) -> Option<(u32, &[u8])>
+    ensures { IfSome result (λ p. length p.1.now ≤ length s.now) }
+{
+    match s {
+        [b'(', rest @ ..] => {
+            let (inside, after) = split_once(rest, b')')?;
+            Some((number(inside)?, after))
         }
-        store_value(out, end, width, value);
-        end += width as usize;
-        value = std::num::wrapping_add_usize(value, step);
-        left -= 1;
+        _ => Some((1, s)),
     }
-    end
 }
 
-fn unpack_pieces(text: &[u8], out: &mut [u8]) -> usize {
+// Puts a byte so many times, and answers what comes after it.
+fn put_byte<'a>(byte: u8, s: &'a [u8], out: &mut Bytes) -> Option<&'a [u8]>
+    ensures { IfSome result (λ r. length r.now ≤ length s.now) }
+{
+    let (count, after) = times(s)?;
+    for _ in 0..count {
+        out.try_push(byte).ok()?;
+    }
+    Some(after)
+}
+
+// Puts the pairs of so many entries of one length that follow one another: each is the offset and the length, low byte first.
+fn put_pairs(text: &[u8], out: &mut Bytes) -> Option<()> {
+    let (offset, more) = cut(text, b',');
+    let (length, count) = cut(more, b',');
+    let step = u32::from(number_16(length)?);
+    let mut pair = u32::from(number_16(offset)?) + 65536 * step;
+    for _ in 0..number(count)? {
+        out.try_extend_from_slice(&pair.to_le_bytes()).ok()?;
+        pair = pair.wrapping_add(step);
+    }
+    Some(())
+}
+
+// Puts what the start of s stands for, and answers what comes after it.
+fn put_piece<'a>(s: &'a [u8], out: &mut Bytes) -> Option<&'a [u8]>
+    ensures { IfSome result (λ r. length r.now < length s.now) }
+{
+    match s {
+        [b'[', rest @ ..] => {
+            let (inside, after) = split_once(rest, b']')?;
+            put_pairs(inside, out)?;
+            Some(after)
+        }
+        [high, low, rest @ ..] => put_byte(16 * digit(*high)? + digit(*low)?, rest, out),
+        _ => None,
+    }
+}
+
+// The bytes that a text stands for.
+pub fn bytes(text: &[u8]) -> Option<Bytes> {
+    let mut out = Bytes::new();
+    match text {
+        [] => return None,
+        b"-" => return Some(out),
+        _ => {}
+    }
     let mut rest = text;
-    let mut n: usize = 0;
-    while rest.len() > 0 {
-        let next = next_piece(rest);
-        let size = next.size;
-        if size == 0 {
-            return UNREAD;
+    while !rest.is_empty() {
+        rest = put_piece(rest, &mut out)?;
+    }
+    Some(out)
+}
+
+// Puts a number of a list as often as it stands there.
+fn put_number(item: &[u8], out: &mut Numbers) -> Option<()> {
+    let end = item.iter().position(|b| *b == b'(').unwrap_or(item.len());
+    let (value, brackets) = item.split_at(end);
+    let (count, after) = times(brackets)?;
+    let n = number_16(value)?;
+    if !after.is_empty() {
+        return None;
+    }
+    for _ in 0..count {
+        out.try_push(n).ok()?;
+    }
+    Some(())
+}
+
+// The list of 16-bit numbers that a text stands for.
+fn list(text: &[u8]) -> Option<Numbers> {
+    let mut out = Numbers::new();
+    if matches!(text, b"-") {
+        return Some(out);
+    }
+    for item in text.split(|b| *b == b',') {
+        put_number(item, &mut out)?;
+    }
+    Some(out)
+}
+
+// The fields of a line that are still to be read, one blank apart. What can't be read as what it is asked for is none.
+#[derive(Clone, Copy)]
+pub struct Fields<'a> {
+    rest: &'a [u8],
+}
+
+impl<'a> Fields<'a> {
+    pub fn of(text: &'a [u8]) -> Fields<'a> {
+        Fields { rest: text }
+    }
+
+    // The next field as it stands.
+    pub fn text(&mut self) -> &'a [u8] {
+        let (field, rest) = cut(self.rest, b' ');
+        self.rest = rest;
+        field
+    }
+
+    // All that is left.
+    pub fn rest(&self) -> &'a [u8] {
+        self.rest
+    }
+
+    // The fields after the first k.
+    pub fn after(mut self, k: usize) -> Fields<'a> {
+        for _ in 0..k {
+            self.text();
         }
-        if rest.len() < size {
-            return UNREAD;
+        self
+    }
+
+    // The field after k others.
+    pub fn field(self, k: usize) -> &'a [u8] {
+        self.after(k).text()
+    }
+
+    pub fn number(&mut self) -> Option<u32> {
+        number(self.text())
+    }
+
+    pub fn number_16(&mut self) -> Option<u16> {
+        number_16(self.text())
+    }
+
+    // A length of at most so many.
+    pub fn room(&mut self, most: usize) -> Option<usize>
+        ensures { IfSome result (λ n. n ≤ most) }
+    {
+        let n = self.number()? as usize;
+        if most < n { None } else { Some(n) }
+    }
+
+    pub fn bytes(&mut self) -> Option<Bytes> {
+        bytes(self.text())
+    }
+
+    pub fn list(&mut self) -> Option<Numbers> {
+        list(self.text())
+    }
+
+    // A list of so many.
+    pub fn array<const N: usize>(&mut self) -> Option<[u16; N]> {
+        let numbers = self.list()?;
+        <[u16; N]>::try_from(numbers.as_slice()).ok()
+    }
+
+    pub fn edition(&mut self) -> Option<Edition> {
+        match self.text() {
+            b"1" => Some(Edition::One),
+            b"2" => Some(Edition::Two),
+            _ => None,
         }
-        n = store(next, out, n);
-        rest = &rest[size..];
     }
-    n
-}
 
-// Puts the bytes that a field stands for at the start of out, as far as it has room, and answers how many there are.
-pub fn unpack(text: &[u8], out: &mut [u8]) -> usize {
-    if text.len() == 0 {
-        return UNREAD;
+    // Nothing, where no field is left.
+    pub fn end(&self) -> Option<()> {
+        if self.rest.is_empty() { Some(()) } else { None }
     }
-    if check::same(text, b"-") {
-        return 0;
-    }
-    unpack_pieces(text, out)
-}
-
-// The bytes that the field after k others stands for, put into out.
-pub fn bytes<'a>(fields: &[u8], k: usize, out: &'a mut [u8]) -> &'a [u8] {
-    let n = unpack(field(fields, k), out);
-    let all = &out[..];
-    start(all, n)
-}
-
-// How often a number of a list stands there: once, or as the brackets after it say.
-fn times_of(item: &[u8]) -> usize {
-    let open = before(item, b'(');
-    if open == item.len() {
-        return 1;
-    }
-    let inside = tail(item, b'(');
-    let end = through(inside, b')');
-    if end == before(inside, b')') || end < inside.len() {
-        return UNREAD;
-    }
-    number(head(inside, b')'))
-}
-
-fn store_number(out: &mut [u16], at: usize, value: u16) {
-    if at < out.len() {
-        out[at] = value;
-    }
-}
-
-// Stores the number so often from n on, where out has room, and answers where it stopped.
-fn store_numbers(value: usize, times: usize, out: &mut [u16], n: usize) -> usize {
-    if 65535 < value {
-        return UNREAD;
-    }
-    let mut end = n;
-    let mut left = times;
-    while left > 0 {
-        if ROOM <= end {
-            return UNREAD;
-        }
-        store_number(out, end, value as u16);
-        end += 1;
-        left -= 1;
-    }
-    end
-}
-
-fn unpack_numbers(text: &[u8], out: &mut [u16]) -> usize {
-    let mut rest = text;
-    let mut n: usize = 0;
-    while rest.len() > 0 {
-        let item = head(rest, b',');
-        n = store_numbers(number(head(item, b'(')), times_of(item), out, n);
-        let size = through(rest, b',');
-        rest = &rest[size..];
-    }
-    n
-}
-
-// The same for a list of 16-bit numbers.
-pub fn unpack_list(text: &[u8], out: &mut [u16]) -> usize {
-    if text.len() == 0 || text[text.len() - 1] == b',' {
-        return UNREAD;
-    }
-    if check::same(text, b"-") {
-        return 0;
-    }
-    unpack_numbers(text, out)
-}
-
-// The numbers that the field after k others stands for, put into out.
-pub fn list<'a>(fields: &[u8], k: usize, out: &'a mut [u16]) -> &'a [u16] {
-    let n = unpack_list(field(fields, k), out);
-    let all = &out[..];
-    start_of_list(all, n)
-}
-
-// The edition that the first field stands for: 1 or 2.
-pub fn edition(fields: &[u8]) -> Edition {
-    if number(field(fields, 0)) == 1 {
-        return Edition::One;
-    }
-    Edition::Two
-}
-
-// The fields after the edition, if the call is told one.
-pub fn after_edition(is_told: bool, fields: &[u8]) -> &[u8] {
-    if is_told {
-        return after(fields, 1);
-    }
-    fields
-}
-
-fn is_edition(text: &[u8]) -> bool {
-    check::same(text, b"1") || check::same(text, b"2")
-}
-
-// Whether a field can be read as one of a kind.
-fn is_field(text: &[u8], kind: u8) -> bool {
-    let mut bytes = [0u8; 1];
-    let mut list = [0u16; 1];
-    match kind {
-        BYTES => unpack(text, &mut bytes) <= ROOM,
-        LIST => unpack_list(text, &mut list) <= ROOM,
-        EDITION => is_edition(text),
-        _ => number(text) < UNREAD,
-    }
-}
-
-// Whether the fields are of these kinds, and no more: b for bytes, l for a list, e for an edition, n for a number.
-pub fn fits(text: &[u8], kinds: &[u8]) -> bool {
-    let mut rest = text;
-    let mut k: usize = 0;
-    while k < kinds.len() {
-        if !is_field(head(rest, b' '), kinds[k]) {
-            return false;
-        }
-        let n = through(rest, b' ');
-        rest = &rest[n..];
-        k += 1;
-    }
-    rest.len() == 0
 }

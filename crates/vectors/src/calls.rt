@@ -1,359 +1,317 @@
 // The calls by their names, each with its fields in the order of its parameters. Lengths are a list; the edition, the index, the allowance
 // and the length of an answer buffer or an output are numbers.
 //
-// A function that is called `with` something reads the fields of the calls of one kind, one that is called `of` something makes the call and
-// shows the outcome as text: nothing where it has no such call or its fields can't be read.
+// A function that is called `with` something reads the fields of the calls of one kind and shows what the call that it is handed answers, one
+// that is called `of` something finds the call: none where it has no such call or its fields can't be read.
 use crate::matches;
-use byte_answers::{Move, Writing};
-use term::Edition;
-use vector_lines::shown::Shown;
-use vector_lines::text::Told;
-use vector_lines::{shown, text};
+use answers::{Fault, Refusal};
+use term::Language;
+use vector_lines::forms::Told;
+use vector_lines::shown::{self, Line, Refused, Reply};
+use vector_lines::text::{self, Fields};
 
-// The calls that give the other form of bytes, by their places among their names, of either form.
-const STORE: usize = 0;
+fn show_checked(checked: Result<usize, Fault>) -> Line {
+    shown::show_size(b" accepted", checked)
+}
 
-const RESTORE: usize = 1;
+fn show_read(read: Result<usize, Refusal>) -> Line {
+    shown::show_size(b" read", read)
+}
 
-const SPLICE_RECORD: usize = 2;
+fn with_bytes<F: FnOnce(&[u8]) -> Line>(mut fields: Fields<'_>, call: F) -> Option<Line>
+    requires { F.IsAlwaysCallable call }
+{
+    let bytes = fields.bytes()?;
+    fields.end()?;
+    Some(call(bytes.as_slice()))
+}
 
-const SPLICE_PATTERN: usize = 3;
-
-fn of_part(name: &[u8], part: &[u8]) -> Shown {
-    let call = text::place_among(b"check_table check_sheet edition_of", name);
-    match call {
-        0 => shown::show_accepted(term::check_table(part), 1),
-        1 => shown::show_checked(sheet::check_sheet(part)),
-        2 => shown::show_edition(sheet::edition_of(part)),
-        _ => shown::nothing(),
+fn of_bytes(name: &[u8], fields: Fields<'_>) -> Option<Line> {
+    match name {
+        b"check_table" => with_bytes(fields, |table| {
+            shown::show_accepted(term::check_table(table), Refusal::Table)
+        }),
+        b"check_sheet" => with_bytes(fields, |sheet| show_checked(sheet::check_sheet(sheet))),
+        b"edition_of" => with_bytes(
+            fields,
+            |sheet| shown::show_edition(sheet::edition_of(sheet)),
+        ),
+        _ => None,
     }
 }
 
+fn with_table<F: FnOnce(&[u8], &[u8]) -> Line>(mut fields: Fields<'_>, call: F) -> Option<Line>
+    requires { F.IsAlwaysCallable call }
+{
+    let table = fields.bytes()?;
+    let bytes = fields.bytes()?;
+    fields.end()?;
+    Some(call(table.as_slice(), bytes.as_slice()))
+}
+
 // Bytes that are read by a table.
-fn of_reading(name: &[u8], table: &[u8], bytes: &[u8]) -> Shown {
-    let call = text::place_among(b"read_record read_pattern extent cost_of", name);
-    match call {
-        0 => shown::show_read(reader::read_record(table, bytes)),
-        1 => shown::show_read(reader::read_pattern(table, bytes)),
-        2 => shown::show_number(b" ", term::extent(table, bytes) as u64),
-        3 => shown::show_cost(cost::cost_of(table, bytes)),
-        _ => shown::nothing(),
+fn of_reading(name: &[u8], fields: Fields<'_>) -> Option<Line> {
+    match name {
+        b"read_record" => with_table(fields, |t, bytes| show_read(reader::read_record(t, bytes))),
+        b"read_pattern" => with_table(fields, |t, bytes| show_read(reader::read_pattern(t, bytes))),
+        b"extent" => with_table(
+            fields,
+            |t, bytes| shown::show_number(term::extent(t, bytes)),
+        ),
+        b"cost_of" => with_table(fields, |t, bytes| Reply::of(cost::cost_of(t, bytes)).show()),
+        _ => None,
     }
 }
 
 // A class list or a sheet that is checked by a table.
-fn of_check(name: &[u8], table: &[u8], bytes: &[u8]) -> Shown {
-    let call = text::place_among(b"check_classes check_states check_rules", name);
-    match call {
-        0 => shown::show_accepted(term::check_classes(table, bytes), 14),
-        1 => shown::show_checked(sheet::check_states(table, bytes)),
-        2 => shown::show_checked(sheet::check_rules(table, bytes)),
-        _ => shown::nothing(),
+fn of_check(name: &[u8], fields: Fields<'_>) -> Option<Line> {
+    match name {
+        b"check_classes" => with_table(fields, |table, classes| {
+            shown::show_accepted(term::check_classes(table, classes), Refusal::Class)
+        }),
+        b"check_states" => with_table(
+            fields,
+            |t, sheet| show_checked(sheet::check_states(t, sheet)),
+        ),
+        b"check_rules" => with_table(
+            fields,
+            |t, sheet| show_checked(sheet::check_rules(t, sheet)),
+        ),
+        _ => None,
     }
 }
 
 // The same of bytes and sheets in a language with a class list.
-fn of_reading_in(
-    name: &[u8],
-    edition: Edition,
-    table: &[u8],
-    classes: &[u8],
-    bytes: &[u8],
-) -> Shown {
-    let call = text::place_among(b"read_record_in read_pattern_in cost_in", name);
-    match call {
-        0 => shown::show_read(reader::read_record_in(edition, table, classes, bytes)),
-        1 => shown::show_read(reader::read_pattern_in(edition, table, classes, bytes)),
-        2 => shown::show_cost(cost::cost_in(edition, table, classes, bytes)),
-        _ => shown::nothing(),
+fn with_language<F: FnOnce(&Language<'_>, &[u8]) -> Line>(
+    mut fields: Fields<'_>,
+    call: F,
+) -> Option<Line>
+    requires { F.IsAlwaysCallable call }
+{
+    let told = Told::in_edition(&mut fields)?;
+    let bytes = fields.bytes()?;
+    fields.end()?;
+    Some(call(&told.language(), bytes.as_slice()))
+}
+
+fn of_reading_in(name: &[u8], fields: Fields<'_>) -> Option<Line> {
+    match name {
+        b"read_record_in" => with_language(fields, |language, bytes| {
+            show_read(reader::read_record_in(language, bytes))
+        }),
+        b"read_pattern_in" => with_language(fields, |language, bytes| {
+            show_read(reader::read_pattern_in(language, bytes))
+        }),
+        b"cost_in" => with_language(fields, |l, bytes| {
+            Reply::of(cost::cost_in(l.edition, l.table, l.classes, bytes)).show()
+        }),
+        _ => None,
     }
 }
 
-fn of_check_in(name: &[u8], table: &[u8], classes: &[u8], sheet: &[u8]) -> Shown {
-    let call = text::place_among(b"check_states_in check_rules_in", name);
-    match call {
-        0 => shown::show_checked(sheet::check_states_in(table, classes, sheet)),
-        1 => shown::show_checked(sheet::check_rules_in(table, classes, sheet)),
-        _ => shown::nothing(),
+fn with_classes<F: FnOnce(&[u8], &[u8], &[u8]) -> Line>(
+    mut fields: Fields<'_>,
+    call: F,
+) -> Option<Line>
+    requires { F.IsAlwaysCallable call }
+{
+    let told = Told::by_class(&mut fields)?;
+    let sheet = fields.bytes()?;
+    fields.end()?;
+    Some(call(told.table(), told.classes(), sheet.as_slice()))
+}
+
+fn of_check_in(name: &[u8], fields: Fields<'_>) -> Option<Line> {
+    match name {
+        b"check_states_in" => with_classes(fields, |table, classes, sheet| {
+            show_checked(sheet::check_states_in(table, classes, sheet))
+        }),
+        b"check_rules_in" => with_classes(fields, |table, classes, sheet| {
+            show_checked(sheet::check_rules_in(table, classes, sheet))
+        }),
+        _ => None,
     }
 }
 
-fn of_index(name: &[u8], sheet: &[u8], index: usize) -> Shown {
-    let call = text::place_among(b"check_entry entry place_of part_at", name);
-    match call {
-        0 => shown::show_checked(sheet::check_entry(sheet, index)),
-        1 => shown::show_bytes(sheet::entry(sheet, index)),
-        2 => shown::show_place(sheet::place_of(sheet, index)),
-        3 => shown::show_bytes(sheet::part_at(sheet, index)),
-        _ => shown::nothing(),
-    }
+fn with_index<F: FnOnce(&[u8], usize) -> Line>(mut fields: Fields<'_>, call: F) -> Option<Line>
+    requires { F.IsAlwaysCallable call }
+{
+    let sheet = fields.bytes()?;
+    let index = fields.number()? as usize;
+    fields.end()?;
+    Some(call(sheet.as_slice(), index))
 }
 
-fn with_part(name: &[u8], fields: &[u8]) -> Shown {
-    let mut space = text::space();
-    if !text::fits(fields, b"b") {
-        return shown::nothing();
+fn of_index(name: &[u8], fields: Fields<'_>) -> Option<Line> {
+    match name {
+        b"check_entry" => with_index(fields, |s, i| show_checked(sheet::check_entry(s, i))),
+        b"entry" => with_index(fields, |s, i| shown::show_bytes(sheet::entry(s, i))),
+        b"place_of" => with_index(fields, |s, i| shown::show_place(sheet::place_of(s, i))),
+        b"part_at" => with_index(fields, |s, i| shown::show_bytes(sheet::part_at(s, i))),
+        _ => None,
     }
-    of_part(name, text::bytes(fields, 0, &mut space))
-}
-
-fn with_two_parts(name: &[u8], fields: &[u8]) -> Shown {
-    let mut table_space = text::space();
-    let mut space = text::space();
-    if !text::fits(fields, b"bb") {
-        return shown::nothing();
-    }
-    let table = text::bytes(fields, 0, &mut table_space);
-    let bytes = text::bytes(fields, 1, &mut space);
-    let read = of_reading(name, table, bytes);
-    if 0 < read.length {
-        return read;
-    }
-    of_check(name, table, bytes)
-}
-
-// A class list after the table, and the edition before it or nowhere.
-fn with_language(name: &[u8], fields: &[u8]) -> Shown {
-    let mut table_space = text::space();
-    let mut classes_space = text::space();
-    let mut space = text::space();
-    let is_told = text::fits(fields, b"ebbb");
-    let language = text::after_edition(is_told, fields);
-    let table = text::bytes(language, 0, &mut table_space);
-    let classes = text::bytes(language, 1, &mut classes_space);
-    let bytes = text::bytes(language, 2, &mut space);
-    if is_told {
-        return of_reading_in(name, text::edition(fields), table, classes, bytes);
-    }
-    if text::fits(fields, b"bbb") {
-        return of_check_in(name, table, classes, bytes);
-    }
-    shown::nothing()
-}
-
-fn with_index(name: &[u8], fields: &[u8]) -> Shown {
-    let mut space = text::space();
-    if !text::fits(fields, b"bn") {
-        return shown::nothing();
-    }
-    let sheet = text::bytes(fields, 0, &mut space);
-    of_index(name, sheet, text::number(text::field(fields, 1)))
 }
 
 // Two parts of records by a table and a class list, or an empty one.
-fn of_parts(fields: &[u8]) -> Shown {
-    let mut table_space = text::space();
-    let mut classes_space = text::space();
-    let mut first_space = text::space();
-    let mut second_space = text::space();
-    let table = text::bytes(fields, 0, &mut table_space);
-    let classes = text::bytes(fields, 1, &mut classes_space);
-    let first = text::bytes(fields, 2, &mut first_space);
-    let second = text::bytes(fields, 3, &mut second_space);
-    shown::show_same(term::same(table, classes, first, second))
-}
-
-fn with_parts(name: &[u8], fields: &[u8]) -> Shown {
-    if !check::same(name, b"same") || !text::fits(fields, b"bbbb") {
-        return shown::nothing();
-    }
-    of_parts(fields)
-}
-
-fn sheet_told(
-    told: Told,
-    table: &[u8],
-    classes: &[u8],
-    records: &[u8],
-    lengths: &[u16],
-    output: &mut [u8],
-) -> Writing {
-    match told {
-        Told::Simply => writing::write_sheet(table, records, lengths, output),
-        Told::In(edition) => {
-            writing::write_sheet_in(edition, table, classes, records, lengths, output)
-        }
-    }
-}
-
-// Writes joined records into an output of so many bytes, and compares it with the sheet that is stated.
-fn write(
-    told: Told,
-    table: &[u8],
-    classes: &[u8],
-    records: &[u8],
-    lengths: &[u16],
-    room: usize,
-    stated: &[u8],
-) -> Shown {
-    let mut output = shown::blank();
-    if text::ROOM < room {
-        return shown::nothing();
-    }
-    let written = sheet_told(told, table, classes, records, lengths, &mut output[0..room]);
-    match written {
-        Writing::Written(_) => shown::show_written(written.length(), &output, stated),
-        Writing::Refused(_, _) => shown::show_unwritten(written.number(), written.index(), &output),
-    }
-}
-
-// The fields after the language.
-fn of_output(told: Told, table: &[u8], classes: &[u8], rest: &[u8], stated: &[u8]) -> Shown {
-    let mut records_space = text::space();
-    let mut lengths_space = text::list_space();
-    let records = text::bytes(rest, 0, &mut records_space);
-    let lengths = text::list(rest, 1, &mut lengths_space);
-    let room = text::number(text::field(rest, 2));
-    write(told, table, classes, records, lengths, room, stated)
-}
-
-// The sheet of a writing is stated after a word and a number.
-fn with_output(name: &[u8], fields: &[u8], stated: &[u8]) -> Shown {
-    let mut table_space = text::space();
-    let mut classes_space = text::space();
-    let sheet = text::field(stated, 3);
-    if check::same(name, b"write_sheet") && text::fits(fields, b"bbln") {
-        let table = text::bytes(fields, 0, &mut table_space);
-        return of_output(Told::Simply, table, &[], text::after(fields, 1), sheet);
-    }
-    if check::same(name, b"write_sheet_in") && text::fits(fields, b"ebbbln") {
-        let told = Told::In(text::edition(fields));
-        let table = text::bytes(fields, 1, &mut table_space);
-        let classes = text::bytes(fields, 2, &mut classes_space);
-        return of_output(told, table, classes, text::after(fields, 3), sheet);
-    }
-    shown::nothing()
-}
-
-fn move_simply(call: usize, table: &[u8], bytes: &[u8], output: &mut [u8]) -> Move {
-    match call {
-        STORE => stored::store(table, bytes, output),
-        RESTORE => stored::restore(table, bytes, output),
-        SPLICE_RECORD => splice::splice_record(table, bytes, output),
-        _ => splice::splice_pattern(table, bytes, output),
-    }
-}
-
-fn move_in(
-    call: usize,
-    edition: Edition,
-    table: &[u8],
-    classes: &[u8],
-    bytes: &[u8],
-    output: &mut [u8],
-) -> Move {
-    match call {
-        STORE => stored::store_in(edition, table, classes, bytes, output),
-        RESTORE => stored::restore_in(edition, table, classes, bytes, output),
-        SPLICE_RECORD => splice::splice_record_in(table, classes, bytes, output),
-        _ => splice::splice_pattern_in(table, classes, bytes, output),
-    }
-}
-
-// Moves bytes to the other form into an output of so many bytes, and compares it with what is stated. The fields are those after the
-// language.
-fn of_move(
-    call: usize,
-    told: Told,
-    table: &[u8],
-    classes: &[u8],
-    rest: &[u8],
-    stated: &[u8],
-) -> Shown {
-    let mut space = text::space();
-    let mut output = shown::blank();
-    let bytes = text::bytes(rest, 0, &mut space);
-    let room = text::number(text::field(rest, 1));
-    if text::ROOM < room {
-        return shown::nothing();
-    }
-    match told {
-        Told::Simply => {
-            let moved = move_simply(call, table, bytes, &mut output[0..room]);
-            shown::show_move(moved, &output, stated)
-        }
-        Told::In(edition) => {
-            let moved = move_in(call, edition, table, classes, bytes, &mut output[0..room]);
-            shown::show_move(moved, &output, stated)
-        }
-    }
-}
-
-// Whether the fields are those of a call with a class list. The converter is not told the edition.
-fn is_move_in(call: usize, fields: &[u8]) -> bool {
-    match call {
-        STORE | RESTORE => text::fits(fields, b"ebbbn"),
-        SPLICE_RECORD | SPLICE_PATTERN => text::fits(fields, b"bbbn"),
-        _ => false,
-    }
-}
-
-fn with_move_in(name: &[u8], fields: &[u8], stated: &[u8]) -> Shown {
-    let mut table_space = text::space();
-    let mut classes_space = text::space();
-    let call = text::place_among(
-        b"store_in restore_in splice_record_in splice_pattern_in",
-        name,
+fn of_parts(mut fields: Fields<'_>) -> Option<Line> {
+    let told = Told::by_class(&mut fields)?;
+    let first = fields.bytes()?;
+    let second = fields.bytes()?;
+    fields.end()?;
+    let same = term::same(
+        told.table(),
+        told.classes(),
+        first.as_slice(),
+        second.as_slice(),
     );
-    if !is_move_in(call, fields) {
-        return shown::nothing();
-    }
-    let language = text::after_edition(call < SPLICE_RECORD, fields);
-    let table = text::bytes(language, 0, &mut table_space);
-    let classes = text::bytes(language, 1, &mut classes_space);
-    let told = Told::In(text::edition(fields));
-    of_move(call, told, table, classes, text::after(language, 2), stated)
+    Some(shown::show_same(same))
 }
 
-fn with_move(name: &[u8], fields: &[u8], stated: &[u8]) -> Shown {
-    let mut space = text::space();
-    let call = text::place_among(b"store restore splice_record splice_pattern", name);
-    if SPLICE_PATTERN < call || !text::fits(fields, b"bbn") {
-        return with_move_in(name, fields, text::field(stated, 3));
+// A call that writes into an output of so many bytes. What it writes is stated after a word and a number.
+fn with_output<E: Refused + Drop, F: FnOnce(&mut [u8]) -> Result<usize, E>>(
+    mut fields: Fields<'_>,
+    stated: Fields<'_>,
+    call: F,
+) -> Option<Line>
+    requires { F.IsAlwaysCallable call }
+{
+    let room = fields.room(text::ROOM)?;
+    fields.end()?;
+    let mut output = shown::blank();
+    let written = call(&mut output[..room]);
+    Some(shown::show_written(written, &output, stated.field(3)))
+}
+
+// Joined records and their lengths, which are written as a sheet.
+fn of_writing(name: &[u8], mut fields: Fields<'_>, stated: Fields<'_>) -> Option<Line> {
+    let told = match name {
+        b"write_sheet" => Told::simply(&mut fields)?,
+        b"write_sheet_in" => Told::in_edition(&mut fields)?,
+        _ => return None,
+    };
+    let records = fields.bytes()?;
+    let lengths = fields.list()?;
+    let (records, lengths) = (records.as_slice(), lengths.as_slice());
+    let table = told.table();
+    with_output(fields, stated, |output| match &told.classes {
+        None => writing::write_sheet(table, records, lengths, output),
+        Some(classes) => {
+            writing::write_sheet_in(
+                told.edition,
+                table,
+                classes.as_slice(),
+                records,
+                lengths,
+                output,
+            )
+        }
+    })
+}
+
+// Bytes that are moved to their other form.
+fn with_move<F: FnOnce(&Language<'_>, &[u8], &mut [u8]) -> Result<usize, Refusal>>(
+    told: &Told,
+    mut fields: Fields<'_>,
+    stated: Fields<'_>,
+    call: F,
+) -> Option<Line>
+    requires { F.IsAlwaysCallable call }
+{
+    let language = told.language();
+    let bytes = fields.bytes()?;
+    with_output(
+        fields,
+        stated,
+        |output| call(&language, bytes.as_slice(), output),
+    )
+}
+
+fn of_store(name: &[u8], mut fields: Fields<'_>, stated: Fields<'_>) -> Option<Line> {
+    match name {
+        b"store" => {
+            let told = Told::simply(&mut fields)?;
+            with_move(
+                &told,
+                fields,
+                stated,
+                |l, bytes, output| stored::store(l.table, bytes, output),
+            )
+        }
+        b"restore" => {
+            let told = Told::simply(&mut fields)?;
+            with_move(
+                &told,
+                fields,
+                stated,
+                |l, bytes, output| stored::restore(l.table, bytes, output),
+            )
+        }
+        b"store_in" => {
+            let told = Told::in_edition(&mut fields)?;
+            with_move(&told, fields, stated, |l, bytes, output| {
+                stored::store_in(l.edition, l.table, l.classes, bytes, output)
+            })
+        }
+        b"restore_in" => {
+            let told = Told::in_edition(&mut fields)?;
+            with_move(&told, fields, stated, |l, bytes, output| {
+                stored::restore_in(l.edition, l.table, l.classes, bytes, output)
+            })
+        }
+        _ => None,
     }
-    let table = text::bytes(fields, 0, &mut space);
-    let rest = text::after(fields, 1);
-    of_move(call, Told::Simply, table, &[], rest, text::field(stated, 3))
+}
+
+// The converter is not told the edition.
+fn of_splice(name: &[u8], mut fields: Fields<'_>, stated: Fields<'_>) -> Option<Line> {
+    match name {
+        b"splice_record" => {
+            let told = Told::simply(&mut fields)?;
+            with_move(&told, fields, stated, |l, bytes, output| {
+                splice::splice_record(l.table, bytes, output)
+            })
+        }
+        b"splice_pattern" => {
+            let told = Told::simply(&mut fields)?;
+            with_move(&told, fields, stated, |l, bytes, output| {
+                splice::splice_pattern(l.table, bytes, output)
+            })
+        }
+        b"splice_record_in" => {
+            let told = Told::by_class(&mut fields)?;
+            with_move(&told, fields, stated, |l, bytes, output| {
+                splice::splice_record_in(l.table, l.classes, bytes, output)
+            })
+        }
+        b"splice_pattern_in" => {
+            let told = Told::by_class(&mut fields)?;
+            with_move(&told, fields, stated, |l, bytes, output| {
+                splice::splice_pattern_in(l.table, l.classes, bytes, output)
+            })
+        }
+        _ => None,
+    }
 }
 
 // A call on one part or several.
-fn with_any_parts(name: &[u8], fields: &[u8]) -> Shown {
-    let part = with_part(name, fields);
-    if 0 < part.length {
-        return part;
+fn of_any_parts(name: &[u8], fields: Fields<'_>) -> Option<Line> {
+    if matches!(name, b"same") {
+        return of_parts(fields);
     }
-    let two_parts = with_two_parts(name, fields);
-    if 0 < two_parts.length {
-        return two_parts;
-    }
-    let parts = with_parts(name, fields);
-    if 0 < parts.length {
-        return parts;
-    }
-    let in_language = with_language(name, fields);
-    if 0 < in_language.length {
-        return in_language;
-    }
-    with_index(name, fields)
+    of_bytes(name, fields)
+        .or_else(|| of_reading(name, fields))
+        .or_else(|| of_check(name, fields))
+        .or_else(|| of_reading_in(name, fields))
+        .or_else(|| of_check_in(name, fields))
+        .or_else(|| of_index(name, fields))
 }
 
 // What is answered to the call of this name.
-pub fn answer(name: &[u8], fields: &[u8], stated: &[u8]) -> Shown {
-    let parts = with_any_parts(name, fields);
-    if 0 < parts.length {
-        return parts;
-    }
-    let found = matches::answer(name, fields);
-    if 0 < found.length {
-        return found;
-    }
-    let state = state_calls::answer(name, fields, stated);
-    if 0 < state.length {
-        return state;
-    }
-    let moved = with_move(name, fields, stated);
-    if 0 < moved.length {
-        return moved;
-    }
-    with_output(name, fields, stated)
+pub fn answer(name: &[u8], fields: Fields<'_>, stated: Fields<'_>) -> Option<Line> {
+    of_any_parts(name, fields)
+        .or_else(|| matches::answer(name, fields, stated))
+        .or_else(|| of_store(name, fields, stated))
+        .or_else(|| of_splice(name, fields, stated))
+        .or_else(|| of_writing(name, fields, stated))
+        .or_else(|| state_calls::answer(name, fields, stated))
 }

@@ -9,92 +9,79 @@ use std::env::Env;
 use std::io;
 use std::io::Read;
 use std::rt::Files;
-use vector_lines::{shown, text};
+use vector_lines::shown::Line;
+use vector_lines::text::{self, Fields};
 
 // The most bytes of a file.
 const FILE: usize = 262144;
 
 // How many lines agree, and how many differ.
-#[derive(Clone, Copy)]
+#[derive(Clone, Copy, Debug, Default, PartialEq, Eq)]
 struct Tally {
     agree: u64,
     differ: u64,
 }
 
 impl Tally {
-    fn agreed(self) -> Tally {
-        Tally {
-            agree: std::num::wrapping_add_u64(self.agree, 1),
-            differ: self.differ,
-        }
-    }
-
-    fn differed(self) -> Tally {
-        Tally {
-            agree: self.agree,
-            differ: std::num::wrapping_add_u64(self.differ, 1),
-        }
+    fn count(&mut self, agrees: bool) {
+        let n = if agrees {
+            &mut self.agree
+        } else {
+            &mut self.differ
+        };
+        *n = n.saturating_add(1);
     }
 }
 
 // A line that can't be read is shown whole.
-fn print_difference(rt: &impl Print, line: &[u8], answered: &[u8]) -> io::Result<()> {
-    if answered.len() == 0 {
-        rt.write_all(b"can't be read: ")?;
-        rt.write_all(line)?;
-    } else {
-        rt.write_all(text::head(line, b' '))?;
-        rt.write_all(b": stated")?;
-        rt.write_all(text::tail(line, b'='))?;
-        rt.write_all(b"; answered")?;
-        rt.write_all(answered)?;
+fn print_difference(rt: &impl Print, line: &[u8], answered: Option<Line>) -> io::Result<()> {
+    match answered {
+        None => {
+            rt.write_all(b"can't be read: ")?;
+            rt.write_all(line)?;
+        }
+        Some(outcome) => {
+            let (label, _) = text::cut(line, b' ');
+            let (_, stated) = text::cut(line, b'=');
+            rt.write_all(label)?;
+            rt.write_all(b": stated")?;
+            rt.write_all(stated)?;
+            rt.write_all(b"; answered")?;
+            rt.write_all(outcome.as_slice())?;
+        }
     }
     rt.write_all(b"\n")
 }
 
 // Whether what is answered is what the line states. An outcome that fills its room may be cut, and counts as another.
 fn run_vector(rt: &impl Print, line: &[u8]) -> io::Result<bool> {
-    let call = text::tail(text::head(line, b'='), b' ');
-    let stated = text::tail(line, b'=');
-    let shown = calls::answer(text::head(call, b' '), text::tail(call, b' '), stated);
-    let bytes = shown.bytes;
-    let n = shown.length;
-    let answered = text::start(&bytes, n);
-    if 0 < n && n < shown::ROOM && check::same(answered, stated) {
+    let (call, stated) = text::cut(line, b'=');
+    let (_label, call) = text::cut(call, b' ');
+    let (name, fields) = text::cut(call, b' ');
+    let answered = calls::answer(name, Fields::of(fields), Fields::of(stated));
+    if let Some(outcome) = &answered
+        && !outcome.is_full()
+        && outcome.as_slice() == stated
+    {
         return Ok(true);
     }
     print_difference(rt, line, answered)?;
     Ok(false)
 }
 
-// A line that is no vector counts as neither.
-fn run_line(rt: &impl Print, tally: Tally, line: &[u8]) -> io::Result<Tally> {
-    if line.len() == 0 || line[0] == b'#' {
-        return Ok(tally);
-    }
-    if run_vector(rt, line)? {
-        return Ok(tally.agreed());
-    }
-    Ok(tally.differed())
-}
-
+// An empty line and one with # are no vectors.
 fn run_lines(rt: &impl Print, text: &[u8]) -> io::Result<Tally> {
-    let mut tally = Tally {
-        agree: 0,
-        differ: 0,
-    };
-    let mut rest = text;
-    while rest.len() > 0 {
-        tally = run_line(rt, tally, text::head(rest, b'\n'))?;
-        let n = text::through(rest, b'\n');
-        rest = &rest[n..];
+    let mut tally = Tally::default();
+    for line in text.split(|b| *b == b'\n') {
+        if !matches!(line, [] | [b'#', ..]) {
+            tally.count(run_vector(rt, line)?);
+        }
     }
     Ok(tally)
 }
 
 fn print_tally(rt: &impl Print, name: &[u8], tally: Tally) -> io::Result<()> {
-    let agree = tally.agree;
-    let differ = tally.differ;
+    let Tally { agree, differ } = tally;
     rt.write_all(name)?;
     println!(rt; ": {agree} agree, {differ} differ")
 }
@@ -111,7 +98,7 @@ fn run_space<R: Read>(
         rt.write_all(name)?;
         return rt.write_all(b": too long\n");
     }
-    let tally = run_lines(rt, text::start(space, n))?;
+    let tally = run_lines(rt, &space[..n])?;
     print_tally(rt, name, tally)
 }
 

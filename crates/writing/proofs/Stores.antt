@@ -1,18 +1,30 @@
 -- A sheet stored: pair by pair, and as a whole.
-use Prim.Native.Nat.{ℕ, ◌+◌, ◌≤◌, ◌<◌}
+use Prim.Native.Nat.{ℕ, ◌+◌, ◌/◌, ◌%◌, ◌≤◌, ◌<◌}
 use native.Mathlib.Omega.{arith}
-use mathlib.Core.Path.{◌≡◌, ap, ◌∙◌}
-use mathlib.Core.List.{List, ◌++◌}
-use lib.ListN.{length, get_or, drop, drop_of_length-le}
-use lib.Seq.{sets}
+use mathlib.Core.Path.{◌≡◌, sym, ap, ◌∙◌}
+use mathlib.Core.List.{List, [], ◌∷◌, ◌++◌, append_assoc}
+use lib.ListN.{length, get_or, take, drop, drop_of_length-le}
+use lib.Seq.{sets, sets-eq, drop-drop}
+use borrow.Rule.Slice.PartMut.{put_mid}
 use Rattle.term.proofs.Lists.{next_at}
 use Rattle.sheet.specs.Word.{word_bytes, word}
+use Rattle.sheet.proofs.Words.{largest_word}
 use Rattle.term.specs.declared.Edition.{Edition}
 use Rattle.sheet.specs.Sheet.{past_pairs, directory, sheet_bytes, marked}
 use Rattle.sheet.proofs.Readings.{directory_length}
 use Rattle.term.proofs.Stores.{sets_append}
 use Rattle.writing.specs.Writing.{split, sum}
 use Rattle.writing.proofs.Lengths.{split_sheet}
+
+-- a word, as two bytes over two others
+pub word_stored : (l ys : List ℕ) (at k n : ℕ) → n ≤ largest_word → at + word_bytes ≤ length l → k ≡ 2 → ys ≡ (n % 256) ∷ (n / 256 % 256) ∷ []
+    → put_mid at k l ys ≡ sets l at (word n)
+unfolding word
+word_stored l ys at k n f h e w =
+    let high : n / 256 % 256 ≡ n / 256 = omega arith in
+    let stored : sets l at (word n) ≡ take at l ++ ((n % 256) ∷ (n / 256) ∷ drop (at + 2) l) =
+    sets-eq (word n) l at h ∙ append_assoc (take at l) (word n) (drop (at + 2) l) in
+    rw (w, high, e, drop-drop 2 at l) (sym stored)
 
 module _ (l : List ℕ) (i at : ℕ) where
   -- the pair at an index

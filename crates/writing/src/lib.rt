@@ -1,11 +1,12 @@
 // The writer of sheets: records that come joined, with their lengths, are checked and put as a sheet to the front of a lent output.
 #![tactic(auto)]
 
-ghost use Rattle.std.specs.Prelude.{◌≡◌, true, ◌+◌, ◌≤◌, ◌<◌, leb, length};
+ghost use Rattle.std.specs.Prelude.{◌≡◌, ◌+◌, ◌≤◌, ◌<◌, leb, length, true};
 ghost use Rattle.std.proofs.lemmas.List.Edits.{sets};
-ghost use Rattle.byte_answers.specs.Answers.{writing_number, writing_length};
-ghost use Rattle.term.specs.Language.{language};
-ghost use Rattle.reader.specs.Brought.{simply, bringing, brought_by};
+ghost use Rattle.answers.specs.Shown.{fault_number, size_told};
+ghost use Rattle.term.specs.Lent.{language_by};
+ghost use Rattle.reader.specs.Brought.{simply, bringing};
+ghost use Rattle.reader.specs.Lent.{brought_of};
 ghost use Rattle.sheet.specs.Word.{word_bytes, word};
 ghost use Rattle.sheet.specs.Sheet.{past_pairs, edition_mark, marked, directory, sheet_bytes};
 ghost use Rattle.sheet.specs.Check.{longest_sheet};
@@ -13,27 +14,22 @@ ghost use Rattle.sheet.specs.Contents.{check_each};
 ghost use Rattle.writing.specs.Writing.{split, sum, lengths_accepted, sheet_length, check_records, writing, output_after};
 ghost use Rattle.writing.specs.Demands.{Demanded, Called};
 
-use answers::Refusal;
-use byte_answers::{Checked, Read, Writing};
+use answers::{Fault, Refusal};
+use reader::Brought;
 use sheet::{EDITION_MARK, LONGEST_SHEET, PAIR, WORD};
-use term::Edition;
+use term::{Edition, Language};
 
 // Whether no length is 0 and together they are `total`.
 fn lengths_accepted(lengths: &[u16], total: usize) -> bool
     ensures { result ≡ lengths_accepted lengths.now total }
 {
     let mut left = total;
-    let mut i: usize = 0;
-    while i < lengths.len() {
-        let n = lengths[i] as usize;
-        if n == 0 {
+    for length in lengths {
+        let n = usize::from(*length);
+        if n == 0 || left < n {
             return false;
         }
-        if left < n {
-            return false;
-        }
-        left = left - n;
-        i = i + 1;
+        left -= n;
     }
     left == 0
 }
@@ -42,65 +38,42 @@ fn lengths_accepted(lengths: &[u16], total: usize) -> bool
 fn fits_sheet(n: usize, total: usize) -> bool
     ensures { result ≡ leb (sheet_length n total) longest_sheet }
 {
-    if LONGEST_SHEET < n {
-        return false;
-    }
-    if LONGEST_SHEET < total {
-        return false;
-    }
-    WORD + PAIR * n + total <= LONGEST_SHEET
+    n <= LONGEST_SHEET && total <= LONGEST_SHEET && WORD + PAIR * n + total <= LONGEST_SHEET
 }
 
 // Each record, in order.
-fn check_each(
-    edition: Edition,
-    table: &[u8],
-    classes: &[u8],
-    records: &[u8],
-    lengths: &[u16],
-) -> Checked
+fn check_each(language: &Language<'_>, records: &[u8], lengths: &[u16]) -> Result<usize, Fault>
     requires { length records.now ≡ sum lengths.now }
-    ensures { result ≡ check_each true (language edition table.now classes.now) 0 (split records.now lengths.now) }
+    ensures { result ≡ check_each true (language_by language.now) 0 (split records.now lengths.now) }
 {
     let mut rest = records;
-    let mut i: usize = 0;
-    while i < lengths.len() {
-        let n = lengths[i] as usize;
-        let read = reader::read_record_in(edition, table, classes, &rest[..n]);
-        if let Read::Refused(r) = read {
-            return Checked::Refused(r, i);
+    for (i, length) in lengths.iter().enumerate() {
+        let (record, after) = rest.split_at(usize::from(*length));
+        if let Err(r) = reader::read_record_in(language, record) {
+            return Err(Fault::at(r, i));
         }
-        rest = &rest[n..];
-        i = i + 1;
+        rest = after;
     }
-    Checked::Accepted(i)
+    Ok(lengths.len())
 }
 
-// The checks of a writing but for the output's room; `classes` counts if the call brings a class list.
-fn check_records(
-    edition: Edition,
-    table: &[u8],
-    brings: bool,
-    classes: &[u8],
-    records: &[u8],
-    lengths: &[u16],
-) -> Checked
-    ensures { result ≡ check_records (brought_by edition table.now brings classes.now) records.now lengths.now }
+// The checks of a writing but for the output's room.
+fn check_records(brought: &Brought<'_>, records: &[u8], lengths: &[u16]) -> Result<usize, Fault>
+    ensures { result ≡ check_records (brought_of brought.now) records.now lengths.now }
 {
-    if !term::check_table(table) {
-        return Checked::Refused(Refusal::Table, 0);
+    if !term::check_table(brought.table) {
+        return Err(Fault::at(Refusal::Table, 0));
     }
-    if !reader::accepts_list(table, brings, classes) {
-        return Checked::Refused(Refusal::Class, 0);
+    if !brought.accepts_list() {
+        return Err(Fault::at(Refusal::Class, 0));
     }
     if !lengths_accepted(lengths, records.len()) {
-        return Checked::Refused(Refusal::Directory, 0);
+        return Err(Fault::at(Refusal::Directory, 0));
     }
     if !fits_sheet(lengths.len(), records.len()) {
-        return Checked::Refused(Refusal::Long, 0);
+        return Err(Fault::at(Refusal::Long, 0));
     }
-    let list = reader::brought_list(brings, classes);
-    check_each(edition, table, list, records, lengths)
+    check_each(&brought.language(), records, lengths)
 }
 
 // The count of a sheet of n entries, with the mark of its edition.
@@ -118,8 +91,7 @@ fn put_word(output: &mut [u8], at: usize, n: u16)
     requires { at + word_bytes ≤ length output.old }
     ensures { output.new ≡ sets output.old at (word n) }
 {
-    output[at] = (n % 256) as u8;
-    output[at + 1] = (n / 256) as u8;
+    output[at..at + WORD].copy_from_slice(&n.to_le_bytes());
 }
 
 // The pairs of entries of these lengths.
@@ -128,14 +100,11 @@ fn put_directory(lengths: &[u16], output: &mut [u8])
     requires lengths_bound { past_pairs (length lengths.now) + sum lengths.now ≤ longest_sheet }
     ensures { output.new ≡ sets output.old word_bytes (directory (past_pairs (length lengths.now)) lengths.now) }
 {
-    let mut at = WORD + PAIR * lengths.len();
-    let mut i: usize = 0;
-    while i < lengths.len() {
-        let n = lengths[i];
-        put_word(output, WORD + PAIR * i, at as u16);
-        put_word(output, WORD + PAIR * i + WORD, n);
-        at = at + n as usize;
-        i = i + 1;
+    let mut at = (WORD + PAIR * lengths.len()) as u16;
+    for (i, length) in lengths.iter().enumerate() {
+        put_word(output, WORD + PAIR * i, at);
+        put_word(output, WORD + PAIR * i + WORD, *length);
+        at += *length;
     }
 }
 
@@ -152,45 +121,36 @@ fn put_sheet(edition: Edition, records: &[u8], lengths: &[u16], output: &mut [u8
     output::put_bytes(output, WORD + PAIR * n, records);
 }
 
-// Writes the sheet of these records to the front of the output, or leaves the output as it is; `classes` counts if the call brings a class list.
+// Writes the sheet of these records to the front of the output, or leaves the output as it is.
 fn write_brought(
-    edition: Edition,
-    table: &[u8],
-    brings: bool,
-    classes: &[u8],
+    brought: &Brought<'_>,
     records: &[u8],
     lengths: &[u16],
     output: &mut [u8],
-) -> Writing
-    ensures { Called (brought_by edition table.now brings classes.now) records.now lengths.now output.old result output.new }
+) -> Result<usize, Fault>
+    ensures { Called (brought_of brought.now) records.now lengths.now output.old result output.new }
 {
-    let checked = check_records(edition, table, brings, classes, records, lengths);
-    if let Checked::Refused(r, i) = checked {
-        return Writing::Refused(r, i);
-    }
+    check_records(brought, records, lengths)?;
     let size = WORD + PAIR * lengths.len() + records.len();
     if size <= output.len() {
-        put_sheet(edition, records, lengths, output);
-        return Writing::Written(size);
+        put_sheet(brought.edition, records, lengths, output);
+        return Ok(size);
     }
-    Writing::Refused(Refusal::Full, 0)
+    Err(Fault::at(Refusal::Full, 0))
 }
 
 // Writes the sheet of these records to the front of the output, or leaves the output as it is.
-pub fn write_sheet(table: &[u8], records: &[u8], lengths: &[u16], output: &mut [u8]) -> Writing
+pub fn write_sheet(
+    table: &[u8],
+    records: &[u8],
+    lengths: &[u16],
+    output: &mut [u8],
+) -> Result<usize, Fault>
     ensures answer { result ≡ writing (simply table.now) records.now lengths.now (length output.old) }
     ensures contents { output.new ≡ output_after (simply table.now) records.now lengths.now output.old }
-    ensures demand { Demanded (simply table.now) records.now lengths.now output.old (writing_number result) (writing_length result) output.new }
+    ensures demand { Demanded (simply table.now) records.now lengths.now output.old (fault_number result) (size_told result) output.new }
 {
-    write_brought(
-        Edition::One,
-        table,
-        false,
-        &table[..0],
-        records,
-        lengths,
-        output,
-    )
+    write_brought(&Brought::simply(table), records, lengths, output)
 }
 
 // The same in an edition, with a class list.
@@ -201,10 +161,11 @@ pub fn write_sheet_in(
     records: &[u8],
     lengths: &[u16],
     output: &mut [u8],
-) -> Writing
+) -> Result<usize, Fault>
     ensures answer { result ≡ writing (bringing edition table.now classes.now) records.now lengths.now (length output.old) }
     ensures contents { output.new ≡ output_after (bringing edition table.now classes.now) records.now lengths.now output.old }
-    ensures demand { Demanded (bringing edition table.now classes.now) records.now lengths.now output.old (writing_number result) (writing_length result) output.new }
+    ensures demand { Demanded (bringing edition table.now classes.now) records.now lengths.now output.old (fault_number result) (size_told result) output.new }
 {
-    write_brought(edition, table, true, classes, records, lengths, output)
+    let brought = Brought::bringing(edition, table, classes);
+    write_brought(&brought, records, lengths, output)
 }

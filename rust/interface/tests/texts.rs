@@ -71,12 +71,17 @@ fn numbers_of_the_header() {
 
 #[test]
 fn numbers_of_the_proved_crates() {
-    let code = rattle();
-    let arms: Vec<(String, u32)> = between(&code, "fn number(self)", "\n    }\n")
+    let code = code_of("answers");
+    let refusals = between(&code, "pub enum Refusal {", "\n}\n")[0];
+    let refusals =
+        refusals.lines().filter_map(|line| line.trim().trim_end_matches(',').split_once(" = "));
+    let answers = between(&code, "fn number(self)", "\n    }\n")
         .into_iter()
         .flat_map(|body| between(body, "::", ",\n"))
-        .filter_map(|arm| arm.split_once(" => "))
-        .filter_map(|(name, number)| Some((variant(name), number.parse().ok()?)))
+        .filter_map(|arm| arm.split_once(" => "));
+    let arms: Vec<(String, u32)> = refusals
+        .chain(answers)
+        .map(|(name, number)| (variant(name), value(&code, number) as u32))
         .collect();
     for word in Word::ALL {
         let name = if word == Word::Code { "badcode".into() } else { word.text().replace(' ', "") };

@@ -5,7 +5,7 @@ use crate::svg;
 const BOX: (f64, f64) = (104.0, 28.0);
 const GAP: (f64, f64) = (22.0, 46.0);
 /// The kit's libraries are not drawn.
-const KIT: [&str; 2] = ["io", "check"];
+const KIT: [&str; 2] = ["io", "arrayvec"];
 
 /// A crate and the crates that it builds on, as places in the list.
 pub struct Crate<'a> {

@@ -1,12 +1,8 @@
 -- `example::keep_symbols` meets its contract.
 use lib.ListN.{length}
 use mathlib.Core.Path.{◌≡◌}
-use Prim.Native.Nat.{◌≤◌, ◌-◌}
 use Rattle.example.proofs.Notes.{MarksTo}
 use Rattle.example.proofs.keep_symbols.Given as goal
 
-abbrev pub invariant-loop-i : goal.invariant-loop-i
-invariant-loop-i l = (l.i ≤ length l.pattern) × (length l.kept ≡ 256) × MarksTo l.classes l.pattern l.kept l.i
-
-abbrev pub decreases-loop-i : goal.decreases-loop-i
-decreases-loop-i l = length l.pattern - l.i
+abbrev pub invariant-loop-b : goal.invariant-loop-b
+invariant-loop-b l = record { long : length l.kept ≡ 256; marks : MarksTo l.classes l.pattern l.kept l.b-index }

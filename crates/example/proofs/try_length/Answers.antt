@@ -1,46 +1,31 @@
 -- `example::try_length` meets its contract.
-use mathlib.Core.Path.{subst}
-use Rattle.anti_pattern.specs.Language.{language}
-use Rattle.example.specs.declared.Tried.{Tried}
-use Rattle.example.specs.Inner.{TriesNext}
-use Rattle.example.proofs.Trying.{running_start, running_bound, running_spent, running_steps, running_ends}
+use Rattle.std.proofs.lemmas.Result.{err_from_is_err_and}
+use Rattle.term.specs.Lent.{language_by}
 use Rattle.term.proofs.Pairs.{together}
-use Rattle.term.proofs.Pairs.{together}
-use Rattle.term.proofs.Pairs.{together}
+use Rattle.example.proofs.Trials.{running_start, running_stops, running_steps, running_ends}
 use Rattle.example.proofs.try_length.Goals as goal
 
-pub loop-n-init : goal.loop-n-init
-loop-n-init c = let a = c.args in running_start (language a.edition a.table.now a.classes.now) a.lower.now a.pattern.now a.allowance
-    a.s.now c.requires.s_value
+pub loop-shared-init : goal.loop-shared-init
+loop-shared-init c = let a = c.args.search.now in running_start (language_by a.language) a.lower a.pattern.now a.allowance c.args.s.now c.requires.s_value
 
-pub try_next-turn-requires : goal.try_next-turn-requires
-try_next-turn-requires c = c.requires.lower_len
-
-pub returns-in-Bound : goal.returns-in-Bound
-returns-in-Bound c = let a = c.args in let n = c.loop-n in together (running_bound (language a.edition a.table.now a.classes.now) a.lower.now a.pattern.now a.allowance a.s.now n.s n.invariant _ c.try_next-turn.result.shared
-    (subst (λ (x : Tried). TriesNext (language a.edition a.table.now a.classes.now) a.lower.now a.pattern.now n.s a.allowance x c.try_next-turn.result.shared) c.in-Bound.is c.try_next-turn.ensures.tries_next)) (λ first rest. record { tries_length = first; cleared = rest })
-
-pub returns-in-Spent : goal.returns-in-Spent
-returns-in-Spent c = let a = c.args in let n = c.loop-n in together (running_spent (language a.edition a.table.now a.classes.now) a.lower.now a.pattern.now a.allowance a.s.now n.s n.invariant c.try_next-turn.result.shared
-    (subst (λ (x : Tried). TriesNext (language a.edition a.table.now a.classes.now) a.lower.now a.pattern.now n.s a.allowance x c.try_next-turn.result.shared) c.in-Spent.is c.try_next-turn.ensures.tries_next)) (λ first rest. record { tries_length = first; cleared = rest })
-
-pub advance-requires : goal.advance-requires
-advance-requires c = c.try_next-turn.ensures.shared_in_bounds
+pub returns-in_err-shared : goal.returns-in_err-shared
+returns-in_err-shared c = let a = c.args.search.now in let n = c.loop-shared in
+    let p = err_from_is_err_and c.from_residual.result c.from_residual.ensures.1 in
+    together (rw (p.1, p.2) (running_stops (language_by a.language) a.lower a.pattern.now a.allowance c.args.s.now n.s n.invariant _ c.in_err-shared.ensures.tries_next))
+    (λ first rest. record { tries_length = first; cleared = rest })
 
 pub returns-then-not-advance : goal.returns-then-not-advance
-returns-then-not-advance c = let a = c.args in let n = c.loop-n in together (running_ends (language a.edition a.table.now a.classes.now) a.lower.now a.pattern.now a.allowance a.s.now n.s n.invariant c.try_next-turn.result.shared c.try_next-turn.ensures.shared_in_bounds
-    (subst (λ (x : Tried). TriesNext (language a.edition a.table.now a.classes.now) a.lower.now a.pattern.now n.s a.allowance x c.try_next-turn.result.shared)
-    c.in-Over.is c.try_next-turn.ensures.tries_next)
-    _ _ c.advance.ensures c.if-not-advance.true) (λ first rest. record { tries_length = first; cleared = rest })
+returns-then-not-advance c = let a = c.args.search.now in let n = c.loop-shared in
+    together (running_ends (language_by a.language) a.lower a.pattern.now a.allowance c.args.s.now n.s n.invariant c.in_ok-shared.shared
+    c.in_ok-shared.ensures.shared_in_bounds c.in_ok-shared.ensures.tries_next _ _ c.advance.ensures c.if-not-advance.true)
+    (λ first rest. record { tries_length = first; cleared = rest })
 
-pub loop-n-smaller : goal.loop-n-smaller
-loop-n-smaller c = let a = c.args in let n = c.loop-n in (running_steps (language a.edition a.table.now a.classes.now) a.lower.now a.pattern.now a.allowance a.s.now n.s n.invariant c.try_next-turn.result.shared c.try_next-turn.ensures.shared_in_bounds
-    (subst (λ (x : Tried). TriesNext (language a.edition a.table.now a.classes.now) a.lower.now a.pattern.now n.s a.allowance x c.try_next-turn.result.shared)
-    c.in-Over.is c.try_next-turn.ensures.tries_next)
-    _ _ c.advance.ensures c.if-not-advance.false).1
+pub loop-shared-smaller : goal.loop-shared-smaller
+loop-shared-smaller c = let a = c.args.search.now in let n = c.loop-shared in
+    (running_steps (language_by a.language) a.lower a.pattern.now a.allowance c.args.s.now n.s n.invariant c.in_ok-shared.shared
+    c.in_ok-shared.ensures.shared_in_bounds c.in_ok-shared.ensures.tries_next _ _ c.advance.ensures c.if-not-advance.false).1
 
-pub loop-n-preserved : goal.loop-n-preserved
-loop-n-preserved c = let a = c.args in let n = c.loop-n in (running_steps (language a.edition a.table.now a.classes.now) a.lower.now a.pattern.now a.allowance a.s.now n.s n.invariant c.try_next-turn.result.shared c.try_next-turn.ensures.shared_in_bounds
-    (subst (λ (x : Tried). TriesNext (language a.edition a.table.now a.classes.now) a.lower.now a.pattern.now n.s a.allowance x c.try_next-turn.result.shared)
-    c.in-Over.is c.try_next-turn.ensures.tries_next)
-    _ _ c.advance.ensures c.if-not-advance.false).0
+pub loop-shared-preserved : goal.loop-shared-preserved
+loop-shared-preserved c = let a = c.args.search.now in let n = c.loop-shared in
+    (running_steps (language_by a.language) a.lower a.pattern.now a.allowance c.args.s.now n.s n.invariant c.in_ok-shared.shared
+    c.in_ok-shared.ensures.shared_in_bounds c.in_ok-shared.ensures.tries_next _ _ c.advance.ensures c.if-not-advance.false).0

@@ -1,13 +1,13 @@
 -- `example::try_length` meets its contract.
 use lib.ListN.{length}
 use Prim.Native.Nat.{◌-◌}
-use Rattle.anti_pattern.specs.Language.{language}
+use Rattle.term.specs.Lent.{language_by}
 use Rattle.example.proofs.Ranks.{rank, power_of}
-use Rattle.example.proofs.Trying.{Running}
+use Rattle.example.proofs.Trials.{Running}
 use Rattle.example.proofs.try_length.Given as goal
 
-abbrev pub invariant-loop-n : goal.invariant-loop-n
-invariant-loop-n l = Running (language l.edition l.table l.classes) l.lower l.pattern l.allowance l.initial.s l.s
+abbrev pub invariant-loop-shared : goal.invariant-loop-shared
+invariant-loop-shared l = Running (language_by l.search.language) l.search.lower l.search.pattern.now l.search.allowance l.initial.s l.s
 
-abbrev pub decreases-loop-n : goal.decreases-loop-n
-decreases-loop-n l = power_of (length l.s) - rank l.s
+abbrev pub decreases-loop-shared : goal.decreases-loop-shared
+decreases-loop-shared l = power_of (length l.s) - rank l.s

@@ -1,65 +1,37 @@
 -- `example::try_sizes` meets its contract.
-use mathlib.Core.Path.{sym}
-use lib.Seq.{length-take-le}
-use Rattle.anti_pattern.specs.Language.{language}
 use native.Mathlib.Omega.{arith}
-use Rattle.example.proofs.Trying.{sizing_start, sizing_long, sizing_part, sizing_bound, sizing_spent, sizing_again, sizing_end}
+use mathlib.Core.Path.{refl}
+use mathlib.Core.List.{◌++◌}
+use lib.ListN.{drop}
+use Prim.Native.Nat.{◌+◌}
+use Rattle.term.specs.Lent.{language_by}
+use Rattle.example.proofs.Trials.{sizing_start, sizing_part, sizing_stops, sizing_again, sizing_end}
 use Rattle.example.proofs.try_sizes.Goals as goal
 
-pub loop-n-init : goal.loop-n-init
-loop-n-init c = let a = c.args in sizing_start (language a.edition a.table.now a.classes.now) a.lower.now a.pattern.now a.allowance
-    a.size c.requires.size_le_largest_size a.s.now c.requires.s_value
+pub loop-length-init : goal.loop-length-init
+loop-length-init c = let a = c.args.search.now in
+    sizing_start (language_by a.language) a.lower a.pattern.now a.allowance c.args.size c.requires.size_le_largest_size c.args.s.now c.requires.s_value
 
-pub slice_bounds-try_length-end : goal.slice_bounds-try_length-end
-slice_bounds-try_length-end c = let a = c.args in let n = c.loop-n in
-    sizing_long (language a.edition a.table.now a.classes.now) a.lower.now a.pattern.now a.allowance a.size
-    c.requires.size_le_largest_size n.s n.n n.invariant c.loop-n-test.true
+pub try_length-requires : goal.try_length-requires
+try_length-requires c = let a = c.args.search.now in let n = c.loop-length in
+    record { s_value = sizing_part (language_by a.language) a.lower a.pattern.now a.allowance c.args.size c.requires.size_le_largest_size n.s n.length n.invariant (omega arith) }
 
-pub slice_bounds-try_length-end-in-loop-n : goal.slice_bounds-try_length-end-in-loop-n
-slice_bounds-try_length-end-in-loop-n c = let a = c.args in let n = c.loop-n in
-    sym (length-take-le n.n n.s (sizing_long (language a.edition a.table.now a.classes.now) a.lower.now a.pattern.now a.allowance a.size
-    c.requires.size_le_largest_size n.s n.n n.invariant c.loop-n-test.true))
+pub returns-in-Err-clause-tries_sizes : goal.returns-in-Err-clause-tries_sizes
+returns-in-Err-clause-tries_sizes c = let a = c.args.search.now in let n = c.loop-length in
+    sizing_stops (language_by a.language) a.lower a.pattern.now a.allowance c.args.size c.requires.size_le_largest_size n.s n.length n.invariant (omega arith)
+    c.try_length.result c.try_length.new.s c.try_length.auto.s c.try_length.ensures.tries_length c.in-Err.end c.in-Err.is n.length refl
 
-pub try_length-tried-requires-clause-lower_len : goal.try_length-tried-requires-clause-lower_len
-try_length-tried-requires-clause-lower_len c = let a = c.args in let n = c.loop-n in c.requires.lower_len
+pub loop-length-preserved : goal.loop-length-preserved
+loop-length-preserved c = let a = c.args.search.now in let n = c.loop-length in
+    sizing_again (language_by a.language) a.lower a.pattern.now a.allowance c.args.size c.requires.size_le_largest_size n.s n.length n.invariant (omega arith)
+    c.try_length.result c.try_length.new.s c.try_length.auto.s c.try_length.ensures.tries_length c.in_default.is c.try_length.ensures.cleared
 
-pub try_length-tried-requires-clause-s_value : goal.try_length-tried-requires-clause-s_value
-try_length-tried-requires-clause-s_value c = let a = c.args in let n = c.loop-n in sizing_part (language a.edition a.table.now a.classes.now) a.lower.now a.pattern.now a.allowance
-    a.size c.requires.size_le_largest_size n.s n.n n.invariant c.loop-n-test.true
-
-pub returns-in-Bound-clause-tries_sizes : goal.returns-in-Bound-clause-tries_sizes
-returns-in-Bound-clause-tries_sizes c = let a = c.args in let n = c.loop-n in sizing_bound (language a.edition a.table.now a.classes.now) a.lower.now a.pattern.now a.allowance a.size
-    c.requires.size_le_largest_size n.s n.n n.invariant
-    c.loop-n-test.true
-    c.try_length-tried.result c.try_length-tried.new.s c.try_length-tried.auto.s c.try_length-tried.ensures.tries_length c.in-Bound.c c.in-Bound.is
-
-pub returns-in-Bound-clause-length_le_size : goal.returns-in-Bound-clause-length_le_size
-returns-in-Bound-clause-length_le_size c = let a = c.args in let n = c.loop-n in c.loop-n-test.true
-
-pub returns-in-Spent-clause-tries_sizes : goal.returns-in-Spent-clause-tries_sizes
-returns-in-Spent-clause-tries_sizes c = let a = c.args in let n = c.loop-n in sizing_spent (language a.edition a.table.now a.classes.now) a.lower.now a.pattern.now a.allowance a.size
-    c.requires.size_le_largest_size n.s n.n n.invariant
-    c.loop-n-test.true
-    c.try_length-tried.result c.try_length-tried.new.s c.try_length-tried.auto.s c.try_length-tried.ensures.tries_length c.in-Spent.is
-
-pub returns-in-Spent-clause-length_le_size : goal.returns-in-Spent-clause-length_le_size
-returns-in-Spent-clause-length_le_size c = let a = c.args in let n = c.loop-n in c.loop-n-test.true
-
-pub overflow_add-n : goal.overflow_add-n
-overflow_add-n c = omega arith
-
-pub loop-n-smaller : goal.loop-n-smaller
-loop-n-smaller c = omega (arith, c.loop-n-test.true)
-
-pub loop-n-preserved : goal.loop-n-preserved
-loop-n-preserved c = let a = c.args in let n = c.loop-n in sizing_again (language a.edition a.table.now a.classes.now) a.lower.now a.pattern.now a.allowance a.size
-    c.requires.size_le_largest_size n.s n.n n.invariant
-    c.loop-n-test.true
-    c.try_length-tried.result c.try_length-tried.new.s c.try_length-tried.auto.s c.try_length-tried.ensures.tries_length c.in-Over.is c.try_length-tried.ensures.cleared
+pub returns-in_default-clause-tries_sizes : goal.returns-in_default-clause-tries_sizes
+returns-in_default-clause-tries_sizes c = let a = c.args.search.now in let n = c.loop-length in
+    sizing_end (language_by a.language) a.lower a.pattern.now a.allowance c.args.size c.requires.size_le_largest_size _ (n.length + 1)
+    (sizing_again (language_by a.language) a.lower a.pattern.now a.allowance c.args.size c.requires.size_le_largest_size n.s n.length n.invariant (omega arith)
+    c.try_length.result c.try_length.new.s c.try_length.auto.s c.try_length.ensures.tries_length c.in_default.is c.try_length.ensures.cleared) (omega arith) (c.try_length.new.s ++ drop n.length n.s)
 
 pub returns-clause-tries_sizes : goal.returns-clause-tries_sizes
-returns-clause-tries_sizes c = let a = c.args in let n = c.loop-n in sizing_end (language a.edition a.table.now a.classes.now) a.lower.now a.pattern.now a.allowance a.size
-    c.requires.size_le_largest_size n.s n.n n.invariant (omega arith) n.s
-
-pub returns-clause-length_le_size : goal.returns-clause-length_le_size
-returns-clause-length_le_size c = let a = c.args in let n = c.loop-n in omega arith
+returns-clause-tries_sizes c = let a = c.args.search.now in let n = c.loop-length in
+    sizing_end (language_by a.language) a.lower a.pattern.now a.allowance c.args.size c.requires.size_le_largest_size n.s n.length n.invariant (omega arith) n.s

@@ -1,11 +1,7 @@
 -- `example::try_sizes` meets its contract.
-use Prim.Native.Nat.{suc, ◌-◌}
-use Rattle.anti_pattern.specs.Language.{language}
-use Rattle.example.proofs.Trying.{Sizing}
+use Rattle.term.specs.Lent.{language_by}
+use Rattle.example.proofs.Trials.{Sizing}
 use Rattle.example.proofs.try_sizes.Given as goal
 
-abbrev pub invariant-loop-n : goal.invariant-loop-n
-invariant-loop-n l = Sizing (language l.edition l.table l.classes) l.lower l.pattern l.allowance l.size l.s l.n
-
-abbrev pub decreases-loop-n : goal.decreases-loop-n
-decreases-loop-n l = suc l.size - l.n
+abbrev pub invariant-loop-length : goal.invariant-loop-length
+invariant-loop-length l = Sizing (language_by l.search.language) l.search.lower l.search.pattern.now l.search.allowance l.size l.s l.length

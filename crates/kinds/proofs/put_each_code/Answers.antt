@@ -1,6 +1,4 @@
--- `kinds::put_each_code` meets its contract. The invariant: the lines of the codes from `code` on are still to be stored. The measure is how
--- many they are.
-use native.Mathlib.Omega.{arith}
+-- `kinds::put_each_code` meets its contract. The invariant: the lines of the codes from `code` on are still to be stored.
 use Rattle.kinds.proofs.Codes.{codes_start, code_room, code_next, codes_done}
 use Rattle.kinds.proofs.put_each_code.Goals as goal
 
@@ -9,12 +7,6 @@ loop-code-init c = codes_start _
 
 pub put_code-at-requires : goal.put_code-at-requires
 put_code-at-requires c = code_room _ _ _ _ c.loop-code.invariant c.loop-code-test.true c.requires
-
-pub overflow_add-code : goal.overflow_add-code
-overflow_add-code c = omega (arith, c.loop-code-test.true)
-
-pub loop-code-smaller : goal.loop-code-smaller
-loop-code-smaller c = omega (arith, c.loop-code-test.true)
 
 pub loop-code-preserved : goal.loop-code-preserved
 loop-code-preserved c = code_next _ _ _ _ c.loop-code.invariant c.loop-code-test.true _ _ c.put_code-at.ensures.out_value c.put_code-at.ensures.value

@@ -1,22 +1,27 @@
 -- `matcher::next_brought` meets its contract.
 use native.Mathlib.Omega.{arith}
-use Rattle.reader.specs.Brought.{brought_by}
+use Rattle.std.proofs.lemmas.Result.{err_from_is_err_and}
+use Rattle.term.specs.Lent.{language_by}
+use Rattle.reader.specs.Lent.{brought_of}
 use Rattle.matcher.proofs.NextDemanded.{next_fails, next_passes}
 use borrow.Author.Rules.{rules}
 use Rattle.matcher.proofs.next_brought.Goals as goal
 
-pub returns-in-Failed : goal.returns-in-Failed
-returns-in-Failed c = next_fails (brought_by c.args.edition c.args.table.now c.args.brings c.args.classes.now) c.args.pattern.now c.args.«record».now c.args.given.now c.args.answer.now c.args.allowance
+pub returns-in_err-check_input : goal.returns-in_err-check_input
+returns-in_err-check_input c = let a = c.args in
+    let p = err_from_is_err_and c.from_residual.result c.from_residual.ensures.1 in
+    rw (p.1, p.2) (next_fails (brought_of a.brought.now) a.pattern.now a.«record».now a.given.now a.answer.now a.allowance
     (λ i. omega (arith, c.type_inv.pattern i))
     (λ i. omega (arith, c.type_inv.«record» i))
-    c.check_input-checks.ensures c.in-Failed.is
+    c.check_input.ensures c.in_err-check_input.was)
 
 pub shape_of-answer : goal.shape_of-answer
 shape_of-answer c = search rules
 
-pub returns-in-Passed : goal.returns-in-Passed
-returns-in-Passed c = next_passes (brought_by c.args.edition c.args.table.now c.args.brings c.args.classes.now) c.args.pattern.now c.args.«record».now c.args.given.now c.args.answer.now c.args.allowance
+pub returns : goal.returns
+returns c = let a = c.args in
+    next_passes (brought_of a.brought.now) a.pattern.now a.«record».now a.given.now a.answer.now a.allowance
     (λ i. omega (arith, c.type_inv.pattern i))
     (λ i. omega (arith, c.type_inv.«record» i))
-    c.check_input-checks.ensures c.in-Passed.is c.args.classes.now c.requires _ _
+    c.check_input.ensures c.in_ok-check_input.was (language_by c.language-language.result) c.language-language.ensures _ _
     (c.next_checked.ensures.is, c.next_checked.ensures.buffer) (shape_of-answer c)

@@ -6,33 +6,9 @@ use Rattle.parts.proofs.show.Goals as goal
 pub returns-then-answer-lt-ANSWER_WIDTH : goal.returns-then-answer-lt-ANSWER_WIDTH
 returns-then-answer-lt-ANSWER_WIDTH c = narrow_unshown _ _ c.if-answer-lt-ANSWER_WIDTH.true
 
-pub show_from-requires-clause-assigned_bound : goal.show_from-requires-clause-assigned_bound
-show_from-requires-clause-assigned_bound c = let args = c.args in
-    omega arith
-
-pub show_from-requires-clause-first_le_variables : goal.show_from-requires-clause-first_le_variables
-show_from-requires-clause-first_le_variables c = let args = c.args in
-    omega arith
-
-pub show_from-requires-clause-answer_width_in_bounds : goal.show_from-requires-clause-answer_width_in_bounds
-show_from-requires-clause-answer_width_in_bounds c = let args = c.args in
-    omega arith
-
 pub show_from-requires-clause-answer_value : goal.show_from-requires-clause-answer_value
 show_from-requires-clause-answer_value c = let args = c.args in
     first_next _ args.answer.now _ c.clear.ensures _
-
-pub show_from-requires-2-clause-assigned_bound : goal.show_from-requires-2-clause-assigned_bound
-show_from-requires-2-clause-assigned_bound c = let args = c.args in
-    omega arith
-
-pub show_from-requires-2-clause-first_le_variables : goal.show_from-requires-2-clause-first_le_variables
-show_from-requires-2-clause-first_le_variables c = let args = c.args in
-    omega arith
-
-pub show_from-requires-2-clause-answer_width_in_bounds : goal.show_from-requires-2-clause-answer_width_in_bounds
-show_from-requires-2-clause-answer_width_in_bounds c = let args = c.args in
-    omega arith
 
 pub show_from-requires-2-clause-answer_value : goal.show_from-requires-2-clause-answer_value
 show_from-requires-2-clause-answer_value c = let args = c.args in

@@ -1,16 +1,17 @@
 -- `qonveshir::edition_of` meets its contract.
-use borrow.Author.Tests.{eq-eqb, ne_eqb}
+use mathlib.Core.Path.{refl}
+use borrow.Author.Tests.{ne_eqb}
 use Rattle.qonveshir.specs.Edition.{told_by}
 use Rattle.qonveshir.proofs.edition_of.Goals as goal
 
-pub returns-then-number-eq1 : goal.returns-then-number-eq1
+pub returns-in-1 : goal.returns-in-1
 unfolding told_by
-returns-then-number-eq1 c = rw (eq-eqb c.args.number 1 c.if-number-eq1.true)
+returns-in-1 c = rw c.in-1.is refl
 
-pub returns-then-number-eq2 : goal.returns-then-number-eq2
+pub returns-in-2 : goal.returns-in-2
 unfolding told_by
-returns-then-number-eq2 c = rw (ne_eqb c.args.number 1 c.if-number-eq1.false, eq-eqb c.args.number 2 c.if-number-eq2.true)
+returns-in-2 c = rw c.in-2.is refl
 
-pub returns : goal.returns
+pub returns-in_default : goal.returns-in_default
 unfolding told_by
-returns c = rw (ne_eqb c.args.number 1 c.if-number-eq1.false, ne_eqb c.args.number 2 c.if-number-eq2.false)
+returns-in_default c = rw (ne_eqb c.args.number 1 c.in_default.in_default-own.rest.0.1, ne_eqb c.args.number 2 c.in_default.in_default-own.rest.1) refl

@@ -1,17 +1,16 @@
 -- `qonveshir::qonveshir_check_states_in` meets its contract.
-use mathlib.Core.Path.{refl, sym, ap, ◌∙◌}
+use mathlib.Core.Path.{ap, ◌∙◌}
 use native.Mathlib.Omega.{arith}
-use mathlib.Core.Bool.{true, false}
-use mathlib.Core.Option.{none, some}
-use Rattle.byte_answers.specs.Answers.{checked_index}
-use Rattle.sheet.specs.declared.Editions.TheVariants.{Any}
+use mathlib.Core.Bool.{true}
+use Rattle.answers.specs.Shown.{fault_index}
 use Rattle.qonveshir.specs.Shown.{check_shown}
 use Rattle.qonveshir.proofs.Indices.{contents_index}
 use Rattle.qonveshir.proofs.qonveshir_check_states_in.Goals as goal
+use Rattle.std.specs.Prelude.{None, Some}
 
 pub check_shown-requires : goal.check_shown-requires
 check_shown-requires c = let a = c.args in
-    omega (arith, ap checked_index c.check_states_in.ensures, contents_index true Any a.table.now (some a.classes.now) a.sheet.now)
+    omega (arith, ap fault_index c.check_states_in.ensures, contents_index true None a.table.now (Some a.classes.now) a.sheet.now)
 
 pub returns : goal.returns
 returns c = c.check_shown.ensures ∙ ap check_shown c.check_states_in.ensures

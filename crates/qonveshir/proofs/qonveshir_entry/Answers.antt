@@ -1,7 +1,7 @@
 -- `qonveshir::qonveshir_entry` meets its contract.
-use mathlib.Core.Path.{◌∙◌}
+use mathlib.Core.Path.{ap, ◌∙◌}
+use Rattle.qonveshir.specs.Shown.{place_shown}
 use Rattle.qonveshir.proofs.qonveshir_entry.Goals as goal
 
 pub returns : goal.returns
-returns c = c.part_shown.ensures
-    ∙ rw (c.number.ensures, c.offset.ensures, c.length.ensures, c.place_of-place.ensures)
+returns c = c.place_shown.ensures ∙ ap place_shown c.place_of.ensures

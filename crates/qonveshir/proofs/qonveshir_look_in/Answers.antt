@@ -8,21 +8,21 @@ use Rattle.qonveshir.specs.Shown.{applied_shown}
 use Rattle.qonveshir.proofs.qonveshir_look_in.Goals as goal
 
 pub returns-in_default-clause-is : goal.returns-in_default-clause-is
-returns-in_default-clause-is c = let none = sym c.edition_of-t.ensures ∙ c.in_default.is in
+returns-in_default-clause-is c = let none = sym c.edition_of.ensures ∙ c.in_default.is in
     rw none c.none_written.ensures
 
 pub returns-in_default-clause-demand : goal.returns-in_default-clause-demand
-returns-in_default-clause-demand c = let none = sym c.edition_of-t.ensures ∙ c.in_default.is in
+returns-in_default-clause-demand c = let none = sym c.edition_of.ensures ∙ c.in_default.is in
     rw none tt
 
 pub applied_shown-requires : goal.applied_shown-requires
 applied_shown-requires c = let a = c.args in
-    omega (arith, ap applied_length c.look_in-a.ensures.is, look_short (bringing c.in-In.e a.table.now a.classes.now) a.pattern.now a.template.now a.«record».now a.allowance)
+    omega (arith, ap applied_length c.look_in.ensures.is, look_short (bringing c.in-Some.edition a.table.now a.classes.now) a.pattern.now a.template.now a.«record».now a.allowance)
 
 pub returns-clause-is : goal.returns-clause-is
-returns-clause-is c = let told = sym c.edition_of-t.ensures ∙ c.in-In.is in
-    rw told (c.applied_shown.ensures ∙ ap applied_shown c.look_in-a.ensures.is)
+returns-clause-is c = let told = sym c.edition_of.ensures ∙ c.in-Some.is in
+    rw told (c.applied_shown.ensures ∙ ap applied_shown c.look_in.ensures.is)
 
 pub returns-clause-demand : goal.returns-clause-demand
-returns-clause-demand c = let told = sym c.edition_of-t.ensures ∙ c.in-In.is in
-    rw told (rw c.look_in-a.ensures.is at c.look_in-a.ensures.demand)
+returns-clause-demand c = let told = sym c.edition_of.ensures ∙ c.in-Some.is in
+    rw told (rw c.look_in.ensures.is at c.look_in.ensures.demand)

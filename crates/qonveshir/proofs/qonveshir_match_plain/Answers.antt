@@ -1,13 +1,17 @@
 -- `qonveshir::qonveshir_match_plain` meets its contract.
-use mathlib.Core.Path.{refl, sym, ap, ◌∙◌}
+use mathlib.Core.Path.{ap, ◌∙◌}
 use Rattle.qonveshir.specs.Shown.{answer_shown}
+use Rattle.qonveshir.proofs.Showing.{answer_told, no_index}
 use Rattle.qonveshir.proofs.qonveshir_match_plain.Goals as goal
 
+pub outcome_of-requires : goal.outcome_of-requires
+outcome_of-requires c = no_index _
+
 pub returns-clause-is : goal.returns-clause-is
-returns-clause-is c = c.answer_shown.ensures ∙ ap answer_shown c.match_plain-a.ensures.is
+returns-clause-is c = c.outcome_of.ensures ∙ answer_told _ ∙ ap answer_shown c.match_plain.ensures.is
 
 pub returns-clause-buffer : goal.returns-clause-buffer
-returns-clause-buffer c = c.match_plain-a.ensures.buffer
+returns-clause-buffer c = c.match_plain.ensures.buffer
 
 pub returns-clause-demand : goal.returns-clause-demand
-returns-clause-demand c = rw c.match_plain-a.ensures.is at c.match_plain-a.ensures.demand
+returns-clause-demand c = rw c.match_plain.ensures.is at c.match_plain.ensures.demand

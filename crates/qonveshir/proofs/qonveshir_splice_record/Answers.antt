@@ -1,13 +1,17 @@
 -- `qonveshir::qonveshir_splice_record` meets its contract.
-use mathlib.Core.Path.{refl, sym, ap, ◌∙◌}
+use mathlib.Core.Path.{ap, ◌∙◌}
 use Rattle.qonveshir.specs.Shown.{move_shown}
+use Rattle.qonveshir.proofs.Showing.{move_told, no_index}
 use Rattle.qonveshir.proofs.qonveshir_splice_record.Goals as goal
 
+pub outcome_of-requires : goal.outcome_of-requires
+outcome_of-requires c = no_index _
+
 pub returns-clause-shown : goal.returns-clause-shown
-returns-clause-shown c = c.move_shown.ensures ∙ ap move_shown c.splice_record-m.ensures.answer
+returns-clause-shown c = c.outcome_of.ensures ∙ move_told _ ∙ ap move_shown c.splice_record.ensures.answer
 
 pub returns-clause-contents : goal.returns-clause-contents
-returns-clause-contents c = c.splice_record-m.ensures.contents
+returns-clause-contents c = c.splice_record.ensures.contents
 
 pub returns-clause-demand : goal.returns-clause-demand
-returns-clause-demand c = rw c.move_shown.ensures c.splice_record-m.ensures.demand
+returns-clause-demand c = rw (c.outcome_of.ensures ∙ move_told _) c.splice_record.ensures.demand

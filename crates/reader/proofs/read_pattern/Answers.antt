@@ -10,4 +10,4 @@ returns-then-is_leaf c = sym (rw c.if-is_leaf.true at c.is_leaf.ensures) ∙ sym
 
 pub returns : goal.returns
 unfolding read_pattern
-returns c = c.simple_whole.ensures ∙ sym (shown_map _ _)
+returns c = c.read_whole.ensures ∙ sym (shown_map _ _)

@@ -10,4 +10,4 @@ returns-in-One c = rw c.in-One.is (c.read_pattern.ensures ∙ sym (ap shown (pat
 
 pub returns-in-Two : goal.returns-in-Two
 unfolding read_pattern
-returns-in-Two c = rw c.in-Two.is (c.read_whole.ensures ∙ sym (shown_map _ _))
+returns-in-Two c = c.read_whole.ensures ∙ sym (shown_map _ _)

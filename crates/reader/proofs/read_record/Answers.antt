@@ -10,4 +10,4 @@ returns-then-is_shallow c = sym (rw c.if-is_shallow.true at c.is_shallow.ensures
 
 pub returns : goal.returns
 unfolding read_record
-returns c = c.simple_whole.ensures ∙ sym (shown_map _ _)
+returns c = c.read_whole.ensures ∙ sym (shown_map _ _)

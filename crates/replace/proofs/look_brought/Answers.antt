@@ -1,15 +1,20 @@
 -- `replace::look_brought` meets its contract.
 use native.Mathlib.Omega.{arith}
-use Rattle.reader.specs.Brought.{brought_by}
+use Rattle.std.proofs.lemmas.Result.{err_from_is_err_and}
+use Rattle.reader.specs.Lent.{brought_of}
 use Rattle.replace.proofs.Calls.{look_fails, look_passes}
-use Rattle.term.proofs.Pairs.{together}
 use Rattle.term.proofs.Pairs.{together}
 use Rattle.replace.proofs.look_brought.Goals as goal
 
-pub returns-in-Failed : goal.returns-in-Failed
-returns-in-Failed c = let a = c.args in
-    together (look_fails (brought_by a.edition a.table.now a.brings a.classes.now) c.brought_list-list.result.now a.rule.now a.template.now a.«record».now a.allowance c.brought_list-list.ensures (λ i. omega (arith, c.type_inv.rule i)) (λ i. omega (arith, c.type_inv.template i)) (λ i. omega (arith, c.type_inv.«record» i)) c.check_input-checks.ensures c.in-Failed.is) (λ first rest. record { is = first; demand = rest })
+pub returns-in_err-check_input : goal.returns-in_err-check_input
+returns-in_err-check_input c = let a = c.args in
+    let p = err_from_is_err_and c.from_residual.result c.from_residual.ensures.1 in
+    rw (p.1, p.2) (together (look_fails (brought_of a.brought.now) a.rule.now a.template.now a.«record».now a.allowance
+    (λ i. omega (arith, c.type_inv.rule i)) (λ i. omega (arith, c.type_inv.template i)) (λ i. omega (arith, c.type_inv.«record» i))
+    c.check_input.ensures c.in_err-check_input.was) (λ first rest. record { is = first; demand = rest }))
 
-pub returns-in-Passed : goal.returns-in-Passed
-returns-in-Passed c = let a = c.args in
-    together (look_passes (brought_by a.edition a.table.now a.brings a.classes.now) c.brought_list-list.result.now a.rule.now a.template.now a.«record».now a.allowance c.brought_list-list.ensures (λ i. omega (arith, c.type_inv.rule i)) (λ i. omega (arith, c.type_inv.template i)) (λ i. omega (arith, c.type_inv.«record» i)) c.check_input-checks.ensures c.in-Passed.is _ c.look_checked.ensures) (λ first rest. record { is = first; demand = rest })
+pub returns : goal.returns
+returns c = let a = c.args in
+    together (look_passes (brought_of a.brought.now) a.rule.now a.template.now a.«record».now a.allowance
+    (λ i. omega (arith, c.type_inv.rule i)) (λ i. omega (arith, c.type_inv.template i)) (λ i. omega (arith, c.type_inv.«record» i))
+    c.check_input.ensures c.in_ok-check_input.was _ c.language.ensures _ c.look_checked.ensures) (λ first rest. record { is = first; demand = rest })

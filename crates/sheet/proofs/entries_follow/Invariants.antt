@@ -1,5 +1,5 @@
 -- `sheet::entries_follow` meets its contract. The invariant: the entries from `i` on decide, the first of which starts at `at`; an offset and
--- a length past the sheet keep the sum from wrapping. The measure is what is left of the entries.
+-- a length past the sheet keep the sum from wrapping.
 use Prim.Native.Nat.{◌≤◌, ◌-◌, ◌+◌}
 use mathlib.Core.Path.{◌≡◌}
 use lib.ListN.{length}
@@ -9,7 +9,4 @@ use Rattle.sheet.proofs.Words.{largest_word}
 use Rattle.sheet.proofs.entries_follow.Given as goal
 
 abbrev pub invariant-loop-i : goal.invariant-loop-i
-invariant-loop-i l = (l.i ≤ l.n) × (l.at ≤ length l.sheet + largest_word + largest_word) × (entries_follow l.sheet l.n 0 (past_pairs l.n) ≡ entries_follow l.sheet (l.n - l.i) l.i l.at)
-
-abbrev pub decreases-loop-i : goal.decreases-loop-i
-decreases-loop-i l = l.n - l.i
+invariant-loop-i l = (l.at ≤ length l.sheet + largest_word + largest_word) × (entries_follow l.sheet l.n 0 (past_pairs l.n) ≡ entries_follow l.sheet (l.n - l.i) l.i l.at)

@@ -1,6 +1,6 @@
 -- `skips::affordable` meets its contract. Assumes nothing.
 use native.Mathlib.Omega.{arith}
-use Rattle.skips.proofs.Passing.{dearest_some, afford_fits, afford_less, afford_all}
+use Rattle.skips.proofs.Passing.{afford_fits, afford_less, afford_all}
 use Rattle.skips.proofs.affordable.Goals as goal
 
 pub overflow_mul-each : goal.overflow_mul-each
@@ -9,17 +9,5 @@ overflow_mul-each c = omega (arith, afford_fits _ c.args.elements 0 _ c.dearest-
 pub returns-then-each-elements-clause-is : goal.returns-then-each-elements-clause-is
 returns-then-each-elements-clause-is c = let e = afford_all _ c.args.elements c.args.left _ c.dearest-each.ensures (omega (arith, c.if-each-elements.true)) in e.0
 
-pub returns-then-each-elements-clause-fits : goal.returns-then-each-elements-clause-fits
-returns-then-each-elements-clause-fits c = let e = afford_all _ c.args.elements c.args.left _ c.dearest-each.ensures (omega (arith, c.if-each-elements.true)) in (omega arith, e.1)
-
-pub nonzero_div-result : goal.nonzero_div-result
-nonzero_div-result c = omega (arith, c.dearest-each.ensures, dearest_some c.args.symbols)
-
-pub overflow_cast-result : goal.overflow_cast-result
-overflow_cast-result c = let e = afford_less _ c.args.elements c.args.left _ c.dearest-each.ensures (omega (arith, c.if-each-elements.false)) in omega (arith, e.1)
-
 pub returns-clause-is : goal.returns-clause-is
 returns-clause-is c = let e = afford_less _ c.args.elements c.args.left _ c.dearest-each.ensures (omega (arith, c.if-each-elements.false)) in e.0
-
-pub returns-clause-fits : goal.returns-clause-fits
-returns-clause-fits c = let e = afford_less _ c.args.elements c.args.left _ c.dearest-each.ensures (omega (arith, c.if-each-elements.false)) in (e.1, e.2)

@@ -6,6 +6,3 @@ use Rattle.skips.proofs.element.Goals as goal
 
 pub returns-then-entry_of-eq0-clause-is : goal.returns-then-entry_of-eq0-clause-is
 returns-then-entry_of-eq0-clause-is c = leaf_extent _ _ (omega arith) (sym c.entry_of.ensures ∙ c.if-entry_of-eq0.true)
-
-pub returns-then-entry_of-eq0-clause-within : goal.returns-then-entry_of-eq0-clause-within
-returns-then-entry_of-eq0-clause-within c = omega arith

@@ -1,10 +1,6 @@
 -- `skips::seek_chain` meets its contract. Assumes nothing.
-use Prim.Native.Nat.{◌-◌}
 use Rattle.skips.proofs.Passing.{Seeking}
 use Rattle.skips.proofs.seek_chain.Given as goal
 
-abbrev pub invariant-loop-n : goal.invariant-loop-n
-invariant-loop-n l = Seeking l.table l.classes l.symbols l.x l.r l.most l.n l.at l.count
-
-abbrev pub decreases-loop-n : goal.decreases-loop-n
-decreases-loop-n l = l.most - l.n
+abbrev pub invariant-loop-elements : goal.invariant-loop-elements
+invariant-loop-elements l = Seeking l.table l.classes l.symbols l.x l.r l.most l.elements l.size l.count

@@ -6,45 +6,15 @@ use mathlib.Core.Bool.{false}
 use lib.ListN.{length, take, drop}
 use Rattle.term.proofs.Lists.{rest_length}
 use Rattle.skips.specs.Passed.{starts_of}
-use Rattle.skips.proofs.Passing.{part_starts, alike_apart, alike_within, starts_empty, failing_stands, failing_part, seek_first, seek_none, seek_last, seek_out, seek_stop, seek_more}
+use Rattle.skips.proofs.Passing.{part_starts, alike_apart, alike_within, starts_empty, failing_stands, failing_part, seek_none, seek_last, seek_out, seek_stop, seek_more}
 use Rattle.skips.proofs.seek_part.Goals as goal
-use Rattle.skips.proofs.seek_part.Goals.{then-alike+else-same, else-alike}
+use Rattle.skips.proofs.seek_part.Goals.{else-alike-via-then-alike+else-same, else-alike-via-else-alike}
 
 pub returns-then-size-eq0 : goal.returns-then-size-eq0
 returns-then-size-eq0 c = c.at_one_pair.ensures ∙ seek_none _ _ _ _ _ _ (sym (failing_stands _ _ _ _ _ refl (starts_empty _ _ _ _ c.if-size-eq0.true)))
 
-pub bounds-x-0 : goal.bounds-x-0
-bounds-x-0 c = omega arith
-
-pub overflow_sub-size : goal.overflow_sub-size
-overflow_sub-size c = omega arith
-
-pub bounds-x-size : goal.bounds-x-size
-bounds-x-size c = omega arith
-
-pub loop-n-init : goal.loop-n-init
-loop-n-init c = seek_first _ _ _ _ _ _
-
 pub returns-then-r-at : goal.returns-then-r-at
 returns-then-r-at c = c.at_one_pair-then-r-at.ensures ∙ seek_out _ _ _ _ c.loop-n.invariant (omega arith)
-
-pub slice_bounds-alike-count : goal.slice_bounds-alike-count
-slice_bounds-alike-count c = omega arith
-
-pub slice_bounds-alike-start : goal.slice_bounds-alike-start
-slice_bounds-alike-start c = omega arith
-
-pub slice_bounds-alike-end : goal.slice_bounds-alike-end
-slice_bounds-alike-end c = omega arith
-
-pub overflow_add-at : goal.overflow_add-at
-overflow_add-at c = omega arith
-
-pub slice_bounds-same-count : goal.slice_bounds-same-count
-slice_bounds-same-count c = omega arith
-
-pub slice_bounds-same-start : goal.slice_bounds-same-start
-slice_bounds-same-start c = omega arith
 
 pub slice_bounds-same-end : goal.slice_bounds-same-end
 slice_bounds-same-end c = omega (arith, alike_within _ _ _ _ _ (sym c.alike.ensures ∙ c.if-alike.true), rest_length c.loop-n.at c.args.r.now)
@@ -58,36 +28,18 @@ returns-then-same c = let loop = c.loop-n in
     ∙ sym c.same.ensures.is ∙ c.if-same.true))
     refl
 
-pub slice_bounds-small_element-count : goal.slice_bounds-small_element-count
-slice_bounds-small_element-count c = omega arith
-
-pub slice_bounds-small_element-start : goal.slice_bounds-small_element-start
-slice_bounds-small_element-start c = omega arith
-
-pub slice_bounds-small_element-end : goal.slice_bounds-small_element-end
-slice_bounds-small_element-end c = omega arith
-
-pub overflow_add-at-in-loop-n : goal.overflow_add-at-in-loop-n
-overflow_add-at-in-loop-n c = omega (arith, c.small_element-at.ensures.within, rest_length c.loop-n.at c.args.r.now)
-
-pub overflow_add-n : goal.overflow_add-n
-overflow_add-n c = omega arith
-
-pub loop-n-smaller : goal.loop-n-smaller
-loop-n-smaller c = omega arith
-
 pub loop-n-preserved : goal.loop-n-preserved
 loop-n-preserved c = let args = c.args in
     let loop = c.loop-n in
     let alike = c.alike.ensures in
     let apart : starts_of args.table.now args.classes.now args.x.now (take (length args.r.now - loop.at) (drop loop.at args.r.now)) ≡ false =
-    elim c.if-alike.branch [
-      | then-alike+else-same w ↦ sym (part_starts _ _ _ _ loop.at (alike_within _ _ _ _ _ (sym alike ∙ w.if-alike.true))) ∙ sym w.same.ensures.is ∙ w.if-same.false
-      | else-alike w ↦ alike_apart _ _ _ _ _ _ c.class_of-first.ensures c.class_of-last.ensures (omega arith) (sym alike ∙ w.if-alike.false)
+    elim c.else-alike.branch [
+      | else-alike-via-then-alike+else-same w ↦ sym (part_starts _ _ _ _ loop.at (alike_within _ _ _ _ _ (sym alike ∙ w.if-alike.true))) ∙ sym w.same.ensures.is ∙ w.if-same.false
+      | else-alike-via-else-alike w ↦ alike_apart _ _ _ _ _ _ c.class_of-first.ensures c.class_of-last.ensures (omega arith) (sym alike ∙ w.if-alike.false)
     ] in
     seek_more _ _ _ _ loop.invariant (omega arith) 1 (failing_part _ _ _ _ 0 refl apart) (omega arith) (λ z. omega (arith, z)) (omega arith) _
     c.small_element-at.ensures.is
     (omega (arith, loop.invariant.within, c.small_element-at.ensures.within, rest_length loop.at args.r.now)) _ (omega arith)
 
 pub returns : goal.returns
-returns c = c.at_one_pair-2.ensures ∙ seek_last _ _ _ _ c.loop-n.invariant (omega arith)
+returns c = c.at_one_pair-2.ensures ∙ seek_last _ _ _ _ c.loop-n.invariant (omega arith) _ (omega (arith, c.loop-n.invariant.few))

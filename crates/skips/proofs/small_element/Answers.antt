@@ -7,9 +7,6 @@ use Rattle.skips.proofs.small_element.Goals as goal
 pub returns-then-entry-eq0-clause-is : goal.returns-then-entry-eq0-clause-is
 returns-then-entry-eq0-clause-is c = leaf_extent _ _ (omega arith) (sym c.entry_of-entry.ensures ∙ c.if-entry-eq0.true)
 
-pub returns-then-entry-eq0-clause-within : goal.returns-then-entry-eq0-clause-within
-returns-then-entry-eq0-clause-within c = omega arith
-
 pub returns-then-leaf-clause-is : goal.returns-then-leaf-clause-is
 returns-then-leaf-clause-is c = (one_leaf _ _ (sym c.entry_of-entry.ensures ∙ c.if-entry-eq1.true) (sym c.leaf.ensures ∙ c.if-leaf.true)).0
 

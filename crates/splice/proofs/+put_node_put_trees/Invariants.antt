@@ -11,7 +11,7 @@ abbrev pub decreases-put_node : goal.decreases-put_node
 decreases-put_node l = 2 * length l.s.now
 
 abbrev pub invariant-put_trees-loop-trees : goal.invariant-put_trees-loop-trees
-invariant-put_trees-loop-trees l = Passing l.table l.classes l.s l.count l.listed l.around l.at l.initial.out l.out l.trees l.done
+invariant-put_trees-loop-trees l = Passing l.language.table.now l.language.classes.now l.s l.count l.around l.at l.initial.out l.out l.trees l.done
 
 abbrev pub decreases-put_trees-loop-trees : goal.decreases-put_trees-loop-trees
 decreases-put_trees-loop-trees l = length l.s - l.done.used

@@ -1,59 +1,22 @@
-use mathlib.Core.Path.{sym, ◌∙◌}
-use lib.ListN.{get_or}
-use Rattle.term.specs.Extent.{entry_of}
+-- `splice::head_of` meets its contract.
 use native.Mathlib.Omega.{arith}
-use lib.ListN.{length}
-use Rattle.splice.specs.Pass.{head_of}
-use borrow.Author.Tests.{lt-ltb, le-ltb, eq-eqb, ne_eqb}
+use mathlib.Core.Path.{sym, ◌∙◌}
+use Rattle.splice.proofs.Heads.{head_nothing, head_plain, head_short, head_list}
 use Rattle.splice.proofs.head_of.Goals as goal
 
-pub returns-then-s-eq0-clause-is : goal.returns-then-s-eq0-clause-is
-unfolding head_of
-returns-then-s-eq0-clause-is c = let args = c.args in rw (eq-eqb (length args.s.now) 0 (omega arith))
-
-pub returns-then-s-eq0-clause-within : goal.returns-then-s-eq0-clause-within
-unfolding head_of
-returns-then-s-eq0-clause-within c = let args = c.args in omega arith
+pub returns-in_err-b-clause-is : goal.returns-in_err-b-clause-is
+returns-in_err-b-clause-is c = c.from_residual.ensures ∙ head_nothing _ _ _ (omega (arith, c.in_err-b.ensures.item))
 
 pub returns-then-entry-clause-is : goal.returns-then-entry-clause-is
-unfolding head_of
-returns-then-entry-clause-is c = let args = c.args in
-    rw (
-      ne_eqb (length args.s.now) 0 (λ z. omega arith),
-      ne_eqb (entry_of args.table.now (get_or args.s.now 0 0)) 255 (λ z. c.if-entry.true (c.entry_of-entry.ensures ∙ z)),
-      ← c.entry_of-entry.ensures,
-    )
+returns-then-entry-clause-is c = let first = c.in_ok-b.ensures.item.3 in
+    rw c.entry_of-entry.ensures (head_plain _ _ _ first.0 _ (first.1 0) (λ e. c.if-entry.true (c.entry_of-entry.ensures ∙ e)))
 
-pub returns-then-entry-clause-within : goal.returns-then-entry-clause-within
-unfolding head_of
-returns-then-entry-clause-within c = let args = c.args in
-    omega arith
-
-pub returns-then-s-lt2-clause-is : goal.returns-then-s-lt2-clause-is
-unfolding head_of
-returns-then-s-lt2-clause-is c = let args = c.args in
-    rw (
-      ne_eqb (length args.s.now) 0 (λ z. omega arith),
-      eq-eqb (entry_of args.table.now (get_or args.s.now 0 0)) 255 (sym c.entry_of-entry.ensures ∙ c.if-entry.false),
-      lt-ltb (length args.s.now) 2 (omega arith),
-    )
-
-pub returns-then-s-lt2-clause-within : goal.returns-then-s-lt2-clause-within
-unfolding head_of
-returns-then-s-lt2-clause-within c = let args = c.args in
-    omega arith
+pub returns-in_err-kids-clause-is : goal.returns-in_err-kids-clause-is
+returns-in_err-kids-clause-is c = let first = c.in_ok-b.ensures.item.3 in
+    c.from_residual-in_err-kids.ensures
+    ∙ head_short _ _ _ first.0 _ (first.1 0) (sym c.entry_of-entry.ensures ∙ c.if-entry.false) c.in_err-kids.ensures.lookup.3
 
 pub returns-clause-is : goal.returns-clause-is
-unfolding head_of
-returns-clause-is c = let args = c.args in
-    rw (
-      ne_eqb (length args.s.now) 0 (λ z. omega arith),
-      eq-eqb (entry_of args.table.now (get_or args.s.now 0 0)) 255 (sym c.entry_of-entry.ensures ∙ c.if-entry.false),
-      le-ltb (length args.s.now) 2 (omega arith),
-      c.class_of-class.ensures,
-    )
-
-pub returns-clause-within : goal.returns-clause-within
-unfolding head_of
-returns-clause-within c = let args = c.args in
-    omega arith
+returns-clause-is c = let first = c.in_ok-b.ensures.item.3 in
+    let second = c.in_ok-kids.ensures.lookup.3 in
+    rw (second.1 0, c.class_of.ensures) (head_list _ _ _ first.0 _ (first.1 0) (sym c.entry_of-entry.ensures ∙ c.if-entry.false) second.0)

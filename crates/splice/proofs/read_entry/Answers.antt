@@ -8,6 +8,6 @@ pub returns-then-records : goal.returns-then-records
 unfolding read_record
 returns-then-records c = rw c.if-records.true (c.read_record.ensures ∙ shown_map _ _)
 
-pub returns : goal.returns
+pub returns-else-records : goal.returns-else-records
 unfolding read_pattern
-returns c = rw c.if-records.false (c.read_pattern.ensures ∙ shown_map _ _)
+returns-else-records c = rw c.if-records.false (c.read_pattern.ensures ∙ shown_map _ _)

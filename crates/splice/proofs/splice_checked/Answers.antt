@@ -1,79 +1,86 @@
 -- `splice::splice_checked` meets its contract.
 use native.Mathlib.Omega.{arith}
-use mathlib.Core.Path.{refl, sym, ◌∙◌}
+use mathlib.Core.Path.{refl, sym, ◌≡◌, ◌∙◌}
 use lib.ListN.{length}
-use borrow.Author.Tests.{not-true, not-false}
-use Rattle.term.specs.Limits.{Octets}
+use Rattle.answers.specs.declared.Refusal.TheVariants.{Long}
+use Rattle.std.proofs.lemmas.Result.{err_from_is_err_and}
 use Rattle.splice.proofs.Conversions.{call_refused, not_long, call_long, call_full, written_shown, written_output}
 use Rattle.splice.proofs.splice_checked.Goals as goal
 
-pub returns-in-Refused-clause-answer : goal.returns-in-Refused-clause-answer
-returns-in-Refused-clause-answer c = let args = c.args in
-    let e = call_refused args.records args.table.now args.classes.now args.bytes.now c.requires (length args.output.now) c.in-Refused.r (sym c.read_entry-entry.ensures ∙ c.in-Refused.is) in
-    rw e refl
+pub returns-in_err-read_entry-clause-answer : goal.returns-in_err-read_entry-clause-answer
+returns-in_err-read_entry-clause-answer c = let args = c.args in
+    let l = args.language.now in
+    let p = err_from_is_err_and c.from_residual.result c.from_residual.ensures.1 in
+    rw (p.1, p.2, call_refused args.records l.table.now l.classes.now args.bytes.now c.requires (length args.output.now) _ (sym c.read_entry.ensures ∙ c.in_err-read_entry.was)) refl
 
-pub returns-in-Refused-clause-contents : goal.returns-in-Refused-clause-contents
-returns-in-Refused-clause-contents c = let args = c.args in
-    let e = call_refused args.records args.table.now args.classes.now args.bytes.now c.requires (length args.output.now) c.in-Refused.r (sym c.read_entry-entry.ensures ∙ c.in-Refused.is) in
-    rw e refl
-
-pub measure-plan-requires : goal.measure-plan-requires
-measure-plan-requires c = let args = c.args in
-    let oct : Octets args.bytes.now = λ i. omega (arith, c.type_inv.bytes i) in
-    let ends = sym c.read_entry-entry.ensures ∙ c.in_default.is in
-    omega (arith, not_long args.records args.table.now args.classes.now args.bytes.now c.requires oct c.in_default.field-0 ends)
-
-pub returns-then-not-plan-clause-answer : goal.returns-then-not-plan-clause-answer
-returns-then-not-plan-clause-answer c = let args = c.args in
-    let oct : Octets args.bytes.now = λ i. omega (arith, c.type_inv.bytes i) in
-    let ends = sym c.read_entry-entry.ensures ∙ c.in_default.is in
-    let e = call_long args.records args.table.now args.classes.now args.bytes.now c.requires oct c.in_default.field-0 ends
-    c.measure-plan.result c.measure-plan.ensures (length args.output.now) (not-true _ c.if-not-plan.true) in
-    rw e refl
-
-pub returns-then-not-plan-clause-contents : goal.returns-then-not-plan-clause-contents
-returns-then-not-plan-clause-contents c = let args = c.args in
-    let oct : Octets args.bytes.now = λ i. omega (arith, c.type_inv.bytes i) in
-    let ends = sym c.read_entry-entry.ensures ∙ c.in_default.is in
-    let e = call_long args.records args.table.now args.classes.now args.bytes.now c.requires oct c.in_default.field-0 ends
-    c.measure-plan.result c.measure-plan.ensures (length args.output.now) (not-true _ c.if-not-plan.true) in
-    rw e refl
-
-pub returns-then-full-clause-answer : goal.returns-then-full-clause-answer
-returns-then-full-clause-answer c = let args = c.args in
-    let oct : Octets args.bytes.now = λ i. omega (arith, c.type_inv.bytes i) in
-    let ends = sym c.read_entry-entry.ensures ∙ c.in_default.is in
-    let e = call_full args.records args.table.now args.classes.now args.bytes.now c.requires oct c.in_default.field-0 ends
-    c.measure-plan.result c.measure-plan.ensures (not-false _ (cc)) (length args.output.now) (c.if-full.true) in
-    rw e refl
-
-pub returns-then-full-clause-contents : goal.returns-then-full-clause-contents
-returns-then-full-clause-contents c = let args = c.args in
-    let oct : Octets args.bytes.now = λ i. omega (arith, c.type_inv.bytes i) in
-    let ends = sym c.read_entry-entry.ensures ∙ c.in_default.is in
-    let e = call_full args.records args.table.now args.classes.now args.bytes.now c.requires oct c.in_default.field-0 ends
-    c.measure-plan.result c.measure-plan.ensures (not-false _ (cc)) (length args.output.now) (c.if-full.true) in
-    rw e refl
+pub returns-in_err-read_entry-clause-contents : goal.returns-in_err-read_entry-clause-contents
+returns-in_err-read_entry-clause-contents c = let args = c.args in
+    let l = args.language.now in
+    rw (call_refused args.records l.table.now l.classes.now args.bytes.now c.requires (length args.output.now) _ (sym c.read_entry.ensures ∙ c.in_err-read_entry.was)) refl
 
 pub put_trees-requires : goal.put_trees-requires
 put_trees-requires c = let args = c.args in
-    let oct : Octets args.bytes.now = λ i. omega (arith, c.type_inv.bytes i) in
-    let ends = sym c.read_entry-entry.ensures ∙ c.in_default.is in
-    omega (arith, not_long args.records args.table.now args.classes.now args.bytes.now c.requires oct c.in_default.field-0 ends)
+    let l = args.language.now in
+    omega (
+      arith,
+      not_long args.records l.table.now l.classes.now args.bytes.now c.requires
+          (λ i. omega (arith, c.type_inv.bytes i)) _ (sym c.read_entry.ensures ∙ c.in_ok-read_entry.was),
+    )
+
+pub returns-in_err-plan-clause-answer : goal.returns-in_err-plan-clause-answer
+returns-in_err-plan-clause-answer c = let args = c.args in
+    let l = args.language.now in
+    let p = err_from_is_err_and c.from_residual-in_err-plan.result c.from_residual-in_err-plan.ensures.1 in
+    let value = rw c.in_err-plan.ensures.ok_part at c.in_err-plan.ensures.value in
+    let long : c.in_err-plan.field-0.0 ≡ Long = cc in
+    rw (
+      p.1,
+      p.2,
+      long,
+      call_long args.records l.table.now l.classes.now args.bytes.now c.requires
+          (λ i. omega (arith, c.type_inv.bytes i)) _ (sym c.read_entry.ensures ∙ c.in_ok-read_entry.was) (length args.output.now) (rw c.in_err-plan.ensures.ok_part at c.put_trees.ensures.is),
+    ) refl
+
+pub returns-in_err-plan-clause-contents : goal.returns-in_err-plan-clause-contents
+returns-in_err-plan-clause-contents c = let args = c.args in
+    let l = args.language.now in
+    rw (call_long args.records l.table.now l.classes.now args.bytes.now c.requires
+    (λ i. omega (arith, c.type_inv.bytes i)) _ (sym c.read_entry.ensures ∙ c.in_ok-read_entry.was) (length args.output.now) (rw c.in_err-plan.ensures.ok_part at c.put_trees.ensures.is)) refl
+
+pub returns-then-output-plan-clause-answer : goal.returns-then-output-plan-clause-answer
+returns-then-output-plan-clause-answer c = let args = c.args in
+    let l = args.language.now in
+    rw (call_full args.records l.table.now l.classes.now args.bytes.now c.requires
+    (λ i. omega (arith, c.type_inv.bytes i)) _ (sym c.read_entry.ensures ∙ c.in_ok-read_entry.was)
+    c.in_ok-plan.plan (rw c.in_ok-plan.ensures.ok_part at c.put_trees.ensures.is) (length args.output.now) c.if-output-plan.true) refl
+
+pub returns-then-output-plan-clause-contents : goal.returns-then-output-plan-clause-contents
+returns-then-output-plan-clause-contents c = let args = c.args in
+    let l = args.language.now in
+    rw (call_full args.records l.table.now l.classes.now args.bytes.now c.requires
+    (λ i. omega (arith, c.type_inv.bytes i)) _ (sym c.read_entry.ensures ∙ c.in_ok-read_entry.was)
+    c.in_ok-plan.plan (rw c.in_ok-plan.ensures.ok_part at c.put_trees.ensures.is) (length args.output.now) c.if-output-plan.true) refl
+
+pub put_trees-requires-2 : goal.put_trees-requires-2
+put_trees-requires-2 c = let args = c.args in
+    let l = args.language.now in
+    omega (
+      arith,
+      not_long args.records l.table.now l.classes.now args.bytes.now c.requires
+          (λ i. omega (arith, c.type_inv.bytes i)) _ (sym c.read_entry.ensures ∙ c.in_ok-read_entry.was),
+    )
 
 pub returns-clause-answer : goal.returns-clause-answer
 returns-clause-answer c = let args = c.args in
-    let oct : Octets args.bytes.now = λ i. omega (arith, c.type_inv.bytes i) in
-    let ends = sym c.read_entry-entry.ensures ∙ c.in_default.is in
-    let room = c.if-full.false in
-    let narrow = not-false _ (cc) in written_shown args.records args.table.now args.classes.now args.bytes.now c.requires oct c.in_default.field-0 ends
-    c.measure-plan.result c.measure-plan.ensures narrow (length args.output.now) (omega (arith, room))
+    let l = args.language.now in
+    written_shown args.records l.table.now l.classes.now args.bytes.now c.requires
+    (λ i. omega (arith, c.type_inv.bytes i)) _ (sym c.read_entry.ensures ∙ c.in_ok-read_entry.was)
+    c.in_ok-plan.plan (rw c.in_ok-plan.ensures.ok_part at c.put_trees.ensures.is) (length args.output.now) (omega (arith, c.if-output-plan.false))
 
 pub returns-clause-contents : goal.returns-clause-contents
 returns-clause-contents c = let args = c.args in
-    let oct : Octets args.bytes.now = λ i. omega (arith, c.type_inv.bytes i) in
-    let ends = sym c.read_entry-entry.ensures ∙ c.in_default.is in
-    let room = c.if-full.false in
-    let narrow = not-false _ (cc) in written_output args.records args.table.now args.classes.now args.bytes.now c.requires oct c.in_default.field-0 ends
-    c.measure-plan.result c.measure-plan.ensures narrow args.output.now c.put_trees.new.out (omega (arith, room))
-    c.put_trees.ensures.stores
+    let l = args.language.now in
+    written_output args.records l.table.now l.classes.now args.bytes.now c.requires
+    (λ i. omega (arith, c.type_inv.bytes i)) _ (sym c.read_entry.ensures ∙ c.in_ok-read_entry.was)
+    c.in_ok-plan.plan (rw c.in_ok-plan.ensures.ok_part at c.put_trees.ensures.is) args.output.now c.put_trees-2.new.out (omega (arith, c.if-output-plan.false))
+    c.put_trees-2.ensures.stores

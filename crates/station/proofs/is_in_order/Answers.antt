@@ -1,17 +1,13 @@
 -- `station::is_in_order` meets its contract.
 use mathlib.Core.Path.{sym, ◌∙◌}
-use borrow.Author.Tests.{not-true, not-false}
 use Rattle.station.proofs.Checks.{order_over, order_unfit, order_names}
-use mathlib.Core.Bool.{not}
-use mathlib.Core.Path.{ap}
 use Rattle.station.proofs.is_in_order.Goals as goal
 
 pub returns-then-n-gt-KEPT : goal.returns-then-n-gt-KEPT
-returns-then-n-gt-KEPT c = sym (order_over c.args.station c.if-n-gt-KEPT.true)
+returns-then-n-gt-KEPT c = sym (order_over c.args.station c.from-n.result c.from-n.ensures c.if-n-gt-KEPT.true)
 
 pub returns-then-not-all_fit : goal.returns-then-not-all_fit
-returns-then-not-all_fit c = sym (order_unfit c.args.station c.if-n-gt-KEPT.false (sym c.all_fit.ensures ∙ not-true c.all_fit.result (ap not c.if-not-all_fit.true)))
+returns-then-not-all_fit c = sym (order_unfit c.args.station c.from-n.result c.from-n.ensures c.if-n-gt-KEPT.false (sym c.all_fit.ensures ∙ c.if-not-all_fit.true))
 
 pub returns : goal.returns
-returns c = c.is_distinct.ensures ∙ sym (order_names c.args.station c.if-n-gt-KEPT.false
-    (sym c.all_fit.ensures ∙ not-false c.all_fit.result (ap not c.if-not-all_fit.false)))
+returns c = c.is_distinct.ensures ∙ order_names c.args.station c.from-n.result c.from-n.ensures c.if-n-gt-KEPT.false (sym c.all_fit.ensures ∙ c.if-not-all_fit.false)

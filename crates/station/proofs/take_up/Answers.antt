@@ -1,47 +1,25 @@
 -- `station::take_up` meets its contract.
-use Prim.Native.Nat.{◌≤◌}
 use native.Mathlib.Omega.{arith}
-use mathlib.Core.Path.{sym, ◌∙◌}
-use lib.Seq.{length-take-le}
-use Rattle.answers.specs.declared.Applied.{Applied}
+use mathlib.Core.Path.{ap, ◌∙◌}
+use Rattle.std.specs.Prelude.{Ok}
 use Rattle.station.specs.Call.{outcome}
-use Rattle.station.proofs.Changes.{bound_short, take_bound, take_none, take_spent, take_refused}
+use Rattle.station.proofs.Changes.{take_bound, take_refused, take_unbound, bound_short}
 use Rattle.station.proofs.take_up.Goals as goal
 
-pub slice_bounds-put_current-end : goal.slice_bounds-put_current-end
-slice_bounds-put_current-end c = let a = c.args in
-    let short : c.in-Bound.n ≤ 4096 = bound_short a.answer a.output.now a.station a.records.now c.in-Bound.count c.in-Bound.n 4096 c.in-Bound.is c.requires.0 in
-    let part = length-take-le c.in-Bound.n a.output.now (omega (arith, short, c.requires.1)) in
-    sym part
+pub returns-in_default : goal.returns-in_default
+returns-in_default c = let a = c.args in
+    take_refused a.answer _ a.station a.records.now _ c.in_default.is
 
-pub put_current-requires : goal.put_current-requires
-put_current-requires c = let a = c.args in
-    let short : c.in-Bound.n ≤ 4096 = bound_short a.answer a.output.now a.station a.records.now c.in-Bound.count c.in-Bound.n 4096 c.in-Bound.is c.requires.0 in
-    let part = length-take-le c.in-Bound.n a.output.now (omega (arith, short, c.requires.1)) in
-    omega (arith, part, short, c.requires.2)
+pub returns-in_default-applied : goal.returns-in_default-applied
+returns-in_default-applied c = let a = c.args in
+    take_unbound a.answer _ a.station a.records.now _ c.in-Ok.is c.in_default-applied.not-Bound
 
-pub overflow_cast-n : goal.overflow_cast-n
-overflow_cast-n c = let a = c.args in
-    omega (arith, bound_short a.answer a.output.now a.station a.records.now c.in-Bound.count c.in-Bound.n 4096 c.in-Bound.is c.requires.0)
-
-pub returns-in-Bound : goal.returns-in-Bound
-returns-in-Bound c = let a = c.args in
-    (λ i. outcome (Applied.Bound c.in-Bound.count c.in-Bound.n) (c.lengthened_at.ensures i) (c.put_current.ensures i))
-    ∙ take_bound a.answer a.output.now a.station a.records.now c.in-Bound.count c.in-Bound.n c.in-Bound.is (omega (
+pub returns : goal.returns
+returns c = let a = c.args in
+    let e = c.in-Ok.is ∙ ap Ok c.in-Bound.is in
+    (λ i. outcome (ap Ok c.in-Bound.is i) (c.lengthened_at.ensures i) (c.put_current.ensures i))
+    ∙ take_bound a.answer a.output.now a.station a.records.now c.in-Bound.field-0 c.in-Bound.n e (omega (
       arith,
-      bound_short a.answer a.output.now a.station a.records.now
-          c.in-Bound.count c.in-Bound.n 4096 c.in-Bound.is c.requires.0,
+      bound_short a.answer a.output.now a.station a.records.now c.in-Bound.field-0 c.in-Bound.n 4096 e c.requires.0,
       c.requires.1,
     ))
-
-pub returns-in-None : goal.returns-in-None
-returns-in-None c = let a = c.args in
-    take_none a.answer a.output.now a.station a.records.now c.in-None.count c.in-None.is
-
-pub returns-in-Spent : goal.returns-in-Spent
-returns-in-Spent c = let a = c.args in
-    take_spent a.answer a.output.now a.station a.records.now c.in-Spent.count c.in-Spent.is
-
-pub returns-in-Refused : goal.returns-in-Refused
-returns-in-Refused c = let a = c.args in
-    take_refused a.answer a.output.now a.station a.records.now c.in-Refused.r c.in-Refused.is

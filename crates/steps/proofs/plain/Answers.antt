@@ -3,7 +3,7 @@ use native.Mathlib.Omega.{arith}
 use mathlib.Core.Path.{◌∙◌}
 use lib.ListN.{drop, length-drop}
 use borrow.Author.Tests.{eq-eqb, ne_eqb}
-use Rattle.term.proofs.Lists.{some_left, none_left, rest_part, rest_length}
+use Rattle.term.proofs.Lists.{some_left, none_left, rest_part}
 use Rattle.steps.specs.Turn.{plain_step}
 use Rattle.steps.proofs.Turns.{plain_pair}
 use Rattle.steps.proofs.plain.Goals as goal
@@ -21,11 +21,6 @@ pub returns-then-left-eq0 : goal.returns-then-left-eq0
 unfolding plain_step
 returns-then-left-eq0 c = let args = c.args in
     simp (ne_eqb _ _ c.if-elements-eq0.false, some_left args.«record».now args.node c.if-record-node.false, eq-eqb _ _ c.if-left-eq0.true)
-
-pub pair-requires : goal.pair-requires
-pair-requires c = let args = c.args in
-    let r = rest_length args.node args.«record».now in
-    omega arith
 
 pub returns : goal.returns
 returns c = let args = c.args in

@@ -1,8 +1,5 @@
 -- `steps::stands` meets its contract. Assumes nothing.
-use native.Mathlib.Omega.{arith}
-use mathlib.Core.Path.{sym}
 use lib.ListN.{length}
-use lib.Seq.{length-take-le}
 use borrow.Author.Tests.{le-leb, lt-leb}
 use Rattle.steps.specs.Turn.{stands_of}
 use Rattle.steps.proofs.stands.Goals as goal
@@ -11,9 +8,6 @@ pub returns-then-r-n : goal.returns-then-r-n
 unfolding stands_of
 returns-then-r-n c = simp (lt-leb c.args.part.length (length c.args.r.now)
     c.if-r-n.true)
-
-pub slice_bounds-same-end : goal.slice_bounds-same-end
-slice_bounds-same-end c = sym (length-take-le _ _ (omega arith))
 
 pub returns : goal.returns
 unfolding stands_of

@@ -5,8 +5,8 @@ use Prim.Native.Nat.{◌+◌, ◌-◌, ◌*◌}
 use lib.ListN.{length}
 use Rattle.stored.proofs.put_tree.Given as goal
 
-abbrev pub invariant-loop-top : goal.invariant-loop-top
-invariant-loop-top l = Writing (simple l.table) l.s l.initial.output l.around l.starts l.depth l.top l.at l.end l.output
+abbrev pub invariant-loop-stand : goal.invariant-loop-stand
+invariant-loop-stand l = Writing (simple l.table) l.s l.initial.output l.around.items l.top l.at l.end l.output
 
-abbrev pub decreases-loop-top : goal.decreases-loop-top
-decreases-loop-top l = 2 * (length l.s - l.at) + l.depth
+abbrev pub decreases-loop-stand : goal.decreases-loop-stand
+decreases-loop-stand l = 2 * (length l.s - l.at) + length l.around.items

@@ -14,7 +14,7 @@ pub returns-then-classes-table : goal.returns-then-classes-table
 returns-then-classes-table c = sym (classes_long _ _ c.if-classes-table.true)
 
 pub loop-i-init : goal.loop-i-init
-loop-i-init c = (zero-le, entries_none _ _)
+loop-i-init c = entries_none _ _
 
 pub accepts_class-requires : goal.accepts_class-requires
 accepts_class-requires c = (omega arith, omega arith)
@@ -25,20 +25,14 @@ returns-then-not-accepts_class c = let args = c.args in
     sym (classes_checked args.table.now args.classes.now (omega arith)
     ∙ entries_fail args.table.now args.classes.now _ turn.i (omega arith) (sym c.accepts_class.ensures ∙ c.if-not-accepts_class.true))
 
-pub overflow_add-i : goal.overflow_add-i
-overflow_add-i c = omega arith
-
-pub loop-i-smaller : goal.loop-i-smaller
-loop-i-smaller c = omega arith
-
 pub loop-i-preserved : goal.loop-i-preserved
 loop-i-preserved c = let args = c.args in
     let turn = c.loop-i in
-    (omega arith, entries_more args.table.now args.classes.now turn.i (sym c.accepts_class.ensures ∙ c.if-not-accepts_class.false) turn.invariant.1)
+    entries_more args.table.now args.classes.now turn.i (sym c.accepts_class.ensures ∙ c.if-not-accepts_class.false) turn.invariant
 
 pub returns : goal.returns
 returns c = let args = c.args in
     let turn = c.loop-i in
     let z : turn.i ≡ length args.table.now = omega arith in
     sym (classes_checked args.table.now args.classes.now (omega arith)
-    ∙ subst (λ (n : ℕ). entries_classed args.table.now args.classes.now n ≡ true) z turn.invariant.1)
+    ∙ subst (λ (n : ℕ). entries_classed args.table.now args.classes.now n ≡ true) z turn.invariant)

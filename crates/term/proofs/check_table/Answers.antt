@@ -8,21 +8,12 @@ use Rattle.term.proofs.check_table.Goals as goal
 pub returns-then-table-gt-LARGEST_TABLE : goal.returns-then-table-gt-LARGEST_TABLE
 returns-then-table-gt-LARGEST_TABLE c = sym (table_long _ c.if-table-gt-LARGEST_TABLE.true)
 
-pub loop-i-init : goal.loop-i-init
-loop-i-init c = (zero-le, refl)
+pub loop-entry-init : goal.loop-entry-init
+loop-entry-init c = refl
 
-pub bounds-table-i : goal.bounds-table-i
-bounds-table-i c = omega arith
-
-pub overflow_add-i : goal.overflow_add-i
-overflow_add-i c = omega arith
-
-pub loop-i-smaller : goal.loop-i-smaller
-loop-i-smaller c = omega arith
-
-pub loop-i-preserved : goal.loop-i-preserved
-loop-i-preserved c = let turn = c.loop-i in
-    (omega arith, rw c.accepts_entry-accepted.ensures (entries_next _ _ turn.accepted c.loop-i-test.true turn.invariant.1))
+pub loop-entry-preserved : goal.loop-entry-preserved
+loop-entry-preserved c = let turn = c.loop-entry in
+    (rw c.accepts_entry-accepted.ensures (entries_next _ _ turn.accepted c.loop-entry-test.true turn.invariant))
 
 pub returns : goal.returns
-returns c = table_checked _ _ _ c.if-table-gt-LARGEST_TABLE.false c.loop-i-test.false c.loop-i.invariant.1
+returns c = table_checked _ _ _ c.if-table-gt-LARGEST_TABLE.false c.loop-entry-test.false c.loop-entry.invariant

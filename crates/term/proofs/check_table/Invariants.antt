@@ -1,13 +1,9 @@
--- `term::check_table` meets its contract. The invariant: the entries so far and those from `i` on decide.
-use Prim.Native.Nat.{◌≤◌, ◌-◌}
+-- `term::check_table` meets its contract. The invariant: the entries so far and those that are left decide.
 use mathlib.Core.Path.{◌≡◌}
 use mathlib.Core.Bool.{◌&&◌}
-use lib.ListN.{length, drop}
+use lib.ListN.{drop}
 use Rattle.term.specs.Table.{entries_accepted}
 use Rattle.term.proofs.check_table.Given as goal
 
-abbrev pub invariant-loop-i : goal.invariant-loop-i
-invariant-loop-i l = (l.i ≤ length l.table) × (l.accepted && entries_accepted (drop l.i l.table) ≡ entries_accepted l.table)
-
-abbrev pub decreases-loop-i : goal.decreases-loop-i
-decreases-loop-i l = length l.table - l.i
+abbrev pub invariant-loop-entry : goal.invariant-loop-entry
+invariant-loop-entry l = l.accepted && entries_accepted (drop l.entry-index l.table) ≡ entries_accepted l.table

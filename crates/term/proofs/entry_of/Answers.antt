@@ -9,7 +9,7 @@ use Rattle.term.proofs.entry_of.Goals as goal
 pub returns-then-i-table : goal.returns-then-i-table
 unfolding entry_of
 returns-then-i-table c = let args = c.args in
-    rw (c.wide-i.ensures, lt-ltb args.b (length args.table.now) (omega arith))
+    rw (c.from-i.ensures, lt-ltb args.b (length args.table.now) (omega arith))
 
 pub returns : goal.returns
 unfolding entry_of

@@ -7,7 +7,7 @@ use mathlib.Core.Path.{sym, ◌∙◌}
 use Rattle.term.proofs.extents.Goals as goal
 
 pub loop-at-init : goal.loop-at-init
-loop-at-init c = (omega arith, omega arith, extent_start _ _ _ _ c.wide-end.ensures)
+loop-at-init c = (omega arith, omega arith, extent_start _ _ _ _ c.from-end.ensures)
 
 pub returns-then-s-end-clause-is : goal.returns-then-s-end-clause-is
 returns-then-s-end-clause-is c = let turn = c.loop-at in
@@ -40,7 +40,7 @@ loop-at-smaller-then-entry c = omega arith
 
 pub loop-at-preserved-then-entry : goal.loop-at-preserved-then-entry
 loop-at-preserved-then-entry c = let turn = c.loop-at in
-    (omega arith, omega arith, turn.invariant.2 ∙ extent_list _ _ turn.at turn.end c.wide.result (omega arith) (omega arith) (sym c.entry_of-entry.ensures ∙ c.if-entry.true) c.wide.ensures)
+    (omega arith, omega arith, turn.invariant.2 ∙ extent_list _ _ turn.at turn.end c.from.result (omega arith) (omega arith) (sym c.entry_of-entry.ensures ∙ c.if-entry.true) c.from.ensures)
 
 pub overflow_add-end-else-entry : goal.overflow_add-end-else-entry
 overflow_add-end-else-entry c = omega arith
@@ -53,7 +53,7 @@ loop-at-smaller c = omega arith
 
 pub loop-at-preserved : goal.loop-at-preserved
 loop-at-preserved c = let turn = c.loop-at in
-    (omega arith, omega arith, turn.invariant.2 ∙ extent_fixed _ _ turn.at turn.end c.wide-end-else-entry.result (omega arith) (omega arith) (c.wide-end-else-entry.ensures ∙ c.entry_of-entry.ensures) (λ e. c.if-entry.false (sym c.wide-end-else-entry.ensures ∙ e)))
+    (omega arith, omega arith, turn.invariant.2 ∙ extent_fixed _ _ turn.at turn.end c.from-end-else-entry.result (omega arith) (omega arith) (c.from-end-else-entry.ensures ∙ c.entry_of-entry.ensures) (λ e. c.if-entry.false (sym c.from-end-else-entry.ensures ∙ e)))
 
 pub returns-clause-is : goal.returns-clause-is
 returns-clause-is c = let turn = c.loop-at in

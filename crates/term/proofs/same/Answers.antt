@@ -27,7 +27,7 @@ returns-then-classes-eq0-clause-demand c = let args = c.args in
     (c.same_bytes.ensures ∙ sym (same_none args.table.now args.classes.now args.x.now args.y.now (omega arith)))).1
 
 pub loop-i-init : goal.loop-i-init
-loop-i-init c = (omega arith, refl)
+loop-i-init c = refl
 
 pub bounds-x-i : goal.bounds-x-i
 bounds-x-i c = omega arith
@@ -39,41 +39,32 @@ pub returns-then-not-same_byte-clause-is : goal.returns-then-not-same_byte-claus
 returns-then-not-same_byte-clause-is c = let args = c.args in
     let turn = c.loop-i in
     (compared _ _ _ _ _
-    (sym (turn.invariant.1 ∙ same_differs args.table.now args.classes.now turn.counting args.x.now args.y.now turn.i (omega arith) (omega arith)
+    (sym (turn.invariant ∙ same_differs args.table.now args.classes.now turn.counting args.x.now args.y.now turn.i (omega arith) (omega arith)
     (sym c.same_byte.ensures ∙ c.if-not-same_byte.true)))).0
 
 pub returns-then-not-same_byte-clause-demand : goal.returns-then-not-same_byte-clause-demand
 returns-then-not-same_byte-clause-demand c = let args = c.args in
     let turn = c.loop-i in
     (compared _ _ _ _ _
-    (sym (turn.invariant.1 ∙ same_differs args.table.now args.classes.now turn.counting args.x.now args.y.now turn.i (omega arith) (omega arith)
+    (sym (turn.invariant ∙ same_differs args.table.now args.classes.now turn.counting args.x.now args.y.now turn.i (omega arith) (omega arith)
     (sym c.same_byte.ensures ∙ c.if-not-same_byte.true)))).1
 
 pub bounds-x-i-in-loop-i : goal.bounds-x-i-in-loop-i
 bounds-x-i-in-loop-i c = omega arith
 
-pub overflow_add-i : goal.overflow_add-i
-overflow_add-i c = omega arith
-
-pub loop-i-smaller : goal.loop-i-smaller
-loop-i-smaller c = omega arith
-
 pub loop-i-preserved : goal.loop-i-preserved
 loop-i-preserved c = let args = c.args in
-    let turn = c.loop-i in (
-      omega arith,
-      turn.invariant.1 ∙ same_next args.table.now args.classes.now turn.counting args.x.now args.y.now turn.i (omega arith)
-          (omega arith) (sym c.same_byte.ensures ∙ c.if-not-same_byte.false) _ c.count_next-counting.ensures,
-    )
+    let turn = c.loop-i in turn.invariant ∙ same_next args.table.now args.classes.now turn.counting args.x.now args.y.now turn.i (omega arith)
+    (omega arith) (sym c.same_byte.ensures ∙ c.if-not-same_byte.false) _ c.count_next-counting.ensures
 
 pub returns-clause-is : goal.returns-clause-is
 returns-clause-is c = let args = c.args in
     let turn = c.loop-i in
     (compared _ _ _ _ _
-    (sym (turn.invariant.1 ∙ same_end args.table.now args.classes.now turn.counting args.x.now args.y.now turn.i (omega arith) (omega arith)))).0
+    (sym (turn.invariant ∙ same_end args.table.now args.classes.now turn.counting args.x.now args.y.now turn.i (omega arith) (omega arith)))).0
 
 pub returns-clause-demand : goal.returns-clause-demand
 returns-clause-demand c = let args = c.args in
     let turn = c.loop-i in
     (compared _ _ _ _ _
-    (sym (turn.invariant.1 ∙ same_end args.table.now args.classes.now turn.counting args.x.now args.y.now turn.i (omega arith) (omega arith)))).1
+    (sym (turn.invariant ∙ same_end args.table.now args.classes.now turn.counting args.x.now args.y.now turn.i (omega arith) (omega arith)))).1

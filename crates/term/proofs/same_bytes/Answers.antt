@@ -8,7 +8,7 @@ use Rattle.term.proofs.SameParts.{same_byte_step, same_end}
 use Rattle.term.proofs.same_bytes.Goals as goal
 
 pub loop-at-init : goal.loop-at-init
-loop-at-init c = (omega arith, refl)
+loop-at-init c = refl
 
 pub bounds-x-at : goal.bounds-x-at
 bounds-x-at c = omega arith
@@ -19,20 +19,14 @@ bounds-y-at c = omega arith
 pub returns-then-x-at : goal.returns-then-x-at
 returns-then-x-at c = let args = c.args in
     let turn = c.loop-at in
-    sym (turn.invariant.1 ∙ same_byte_step args.x.now args.y.now turn.at (omega arith) (omega arith) ∙ simp (ne_eqb _ _ c.if-x-at.true))
-
-pub overflow_add-at : goal.overflow_add-at
-overflow_add-at c = omega arith
-
-pub loop-at-smaller : goal.loop-at-smaller
-loop-at-smaller c = omega arith
+    sym (turn.invariant ∙ same_byte_step args.x.now args.y.now turn.at (omega arith) (omega arith) ∙ simp (ne_eqb _ _ c.if-x-at.true))
 
 pub loop-at-preserved : goal.loop-at-preserved
 loop-at-preserved c = let args = c.args in
     let turn = c.loop-at in
-    (omega arith, turn.invariant.1 ∙ same_byte_step args.x.now args.y.now turn.at (omega arith) (omega arith) ∙ simp (eq-eqb _ _ c.if-x-at.false))
+    turn.invariant ∙ same_byte_step args.x.now args.y.now turn.at (omega arith) (omega arith) ∙ simp (eq-eqb _ _ c.if-x-at.false)
 
 pub returns : goal.returns
 returns c = let args = c.args in
     let turn = c.loop-at in
-    sym (turn.invariant.1 ∙ same_end [] [] true args.x.now args.y.now turn.at (omega arith) (omega arith))
+    sym (turn.invariant ∙ same_end [] [] true args.x.now args.y.now turn.at (omega arith) (omega arith))

@@ -1,14 +1,10 @@
 -- `term::same_bytes` meets its contract. The invariant: the parts are the same exactly if what is left of them is.
-use Prim.Native.Nat.{◌≤◌, ◌-◌}
 use mathlib.Core.Path.{◌≡◌}
 use mathlib.Core.List.{[]}
 use mathlib.Core.Bool.{true}
-use lib.ListN.{length, drop}
+use lib.ListN.{drop}
 use Rattle.term.specs.Same.{same_part}
 use Rattle.term.proofs.same_bytes.Given as goal
 
 abbrev pub invariant-loop-at : goal.invariant-loop-at
-invariant-loop-at l = (l.at ≤ length l.x) × (same_part [] [] true l.x l.y ≡ same_part [] [] true (drop l.at l.x) (drop l.at l.y))
-
-abbrev pub decreases-loop-at : goal.decreases-loop-at
-decreases-loop-at l = length l.x - l.at
+invariant-loop-at l = same_part [] [] true l.x l.y ≡ same_part [] [] true (drop l.at l.x) (drop l.at l.y)

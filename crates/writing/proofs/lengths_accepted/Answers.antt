@@ -1,36 +1,23 @@
--- `writing::lengths_accepted` meets its contract. The invariant: the lengths from `i` on decide, of which the bytes left are to be the sum.
--- The measure is what is left of the lengths.
+-- `writing::lengths_accepted` meets its contract.
 use native.Mathlib.Omega.{arith}
-use mathlib.Core.Path.{refl, sym, ◌∙◌}
+use mathlib.Core.Path.{sym, ◌∙◌}
 use Rattle.writing.proofs.Lengths.{lengths_zero, lengths_over, lengths_next, lengths_end}
 use Rattle.writing.proofs.lengths_accepted.Goals as goal
-
-pub loop-i-init : goal.loop-i-init
-loop-i-init c = (omega arith, omega arith, refl)
-
-pub offset_bounds-lengths-i : goal.offset_bounds-lengths-i
-offset_bounds-lengths-i c = omega arith
-
-pub bounds-lengths-i : goal.bounds-lengths-i
-bounds-lengths-i c = omega arith
-
-pub overflow_cast-n : goal.overflow_cast-n
-overflow_cast-n c = omega (arith, c.type_inv.lengths c.loop-i.i)
+use Rattle.writing.proofs.lengths_accepted.Goals.{then-n-eq0-via-then-n-eq0, then-n-eq0-via-else-n-eq0+then-left-n}
 
 pub returns-then-n-eq0 : goal.returns-then-n-eq0
-returns-then-n-eq0 c = sym (c.loop-i.invariant.2 ∙ lengths_zero c.args.lengths.now c.loop-i.i c.loop-i.left (omega arith) (omega arith))
+returns-then-n-eq0 c = let turn = c.loop-length in
+    let ns = c.args.lengths.now in
+    elim c.then-n-eq0.branch [
+      | then-n-eq0-via-then-n-eq0 w ↦ sym (turn.invariant.1 ∙ lengths_zero ns turn.length-index turn.left (omega arith) (omega arith))
+      | then-n-eq0-via-else-n-eq0+then-left-n w ↦ sym (turn.invariant.1 ∙ lengths_over ns turn.length-index turn.left (omega arith) (omega arith))
+    ]
 
-pub returns-then-left-n : goal.returns-then-left-n
-returns-then-left-n c = sym (c.loop-i.invariant.2 ∙ lengths_over c.args.lengths.now c.loop-i.i c.loop-i.left (omega arith) (omega arith))
-
-pub overflow_add-i : goal.overflow_add-i
-overflow_add-i c = omega arith
-
-pub loop-i-smaller : goal.loop-i-smaller
-loop-i-smaller c = omega arith
-
-pub loop-i-preserved : goal.loop-i-preserved
-loop-i-preserved c = (omega arith, omega arith, c.loop-i.invariant.2 ∙ lengths_next c.args.lengths.now c.loop-i.i c.loop-i.left (omega arith) (omega arith) c.if-left-n.false)
+pub loop-length-preserved : goal.loop-length-preserved
+loop-length-preserved c = let turn = c.loop-length in
+    let next = lengths_next c.args.lengths.now turn.length-index turn.left (omega arith) (omega arith) (omega arith) in
+    (omega arith, turn.invariant.1 ∙ next ∙ rw c.from-n.ensures)
 
 pub returns : goal.returns
-returns c = sym (c.loop-i.invariant.2 ∙ lengths_end c.args.lengths.now c.loop-i.i c.loop-i.left (omega arith))
+returns c = let turn = c.loop-length in
+    sym (turn.invariant.1 ∙ lengths_end c.args.lengths.now turn.length-index turn.left (omega arith))

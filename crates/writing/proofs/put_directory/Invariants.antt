@@ -1,6 +1,6 @@
 -- `writing::put_directory` meets its contract. The invariant: the pairs from `i` on are still to be stored, and entries of their lengths end
--- within the longest sheet. The measure is how many pairs they are.
-use Prim.Native.Nat.{◌≤◌, ◌-◌, ◌+◌}
+-- within the longest sheet.
+use Prim.Native.Nat.{◌≤◌, ◌+◌}
 use mathlib.Core.Path.{◌≡◌}
 use lib.Seq.{sets}
 use lib.ListN.{length, drop}
@@ -11,7 +11,4 @@ use Rattle.writing.specs.Writing.{sum}
 use Rattle.writing.proofs.put_directory.Given as goal
 
 abbrev pub invariant-loop-i : goal.invariant-loop-i
-invariant-loop-i l = (l.i ≤ length l.lengths) × (length l.output ≡ length l.initial.output) × (l.at + sum (drop l.i l.lengths) ≤ longest_sheet) × (sets l.initial.output word_bytes (directory (past_pairs (length l.lengths)) l.lengths) ≡ sets l.output (past_pairs l.i) (directory l.at (drop l.i l.lengths)))
-
-abbrev pub decreases-loop-i : goal.decreases-loop-i
-decreases-loop-i l = length l.lengths - l.i
+invariant-loop-i l = (l.at + sum (drop l.i l.lengths) ≤ longest_sheet) × (sets l.initial.output word_bytes (directory (past_pairs (length l.lengths)) l.lengths) ≡ sets l.output (past_pairs l.i) (directory l.at (drop l.i l.lengths)))

@@ -1,13 +1,8 @@
 -- `writing::put_word` meets its contract.
-use native.Mathlib.Numerals.{add-one}
 use native.Mathlib.Omega.{arith}
-use lib.ListN.{length-set}
-use Rattle.sheet.specs.Word.{word}
+use mathlib.Core.Path.{◌∙◌}
+use Rattle.writing.proofs.Stores.{word_stored}
 use Rattle.writing.proofs.put_word.Goals as goal
 
-pub bounds-output-at-2 : goal.bounds-output-at-2
-bounds-output-at-2 c = simp length-set (omega arith)
-
 pub returns : goal.returns
-unfolding word
-returns c = rw (add-one c.args.at)
+returns c = word_stored c.args.output.now _ c.args.at _ c.args.n (omega arith) c.requires (omega arith) (c.copy_from_slice.ensures.after ∙ c.to_le_bytes.ensures)

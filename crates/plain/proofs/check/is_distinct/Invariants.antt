@@ -1,11 +1,6 @@
 -- `plain::check::is_distinct` meets its contract. The invariant: from here on the bytes must be distinct after the variables seen so far.
-use Prim.Native.Nat.{◌-◌}
-use lib.ListN.{length}
 use Rattle.plain.proofs.Sight.{Sighted}
 use Rattle.plain.proofs.check.is_distinct.Given as goal
 
-abbrev pub invariant-loop-at : goal.invariant-loop-at
-invariant-loop-at l = Sighted l.pattern l.initial.at l.at l.seen l.runs
-
-abbrev pub decreases-loop-at : goal.decreases-loop-at
-decreases-loop-at l = length l.pattern - l.at
+abbrev pub invariant-loop-b : goal.invariant-loop-b
+invariant-loop-b l = Sighted l.b-items l.b-index l.seen l.runs

@@ -1,19 +1,9 @@
 -- `plain::check::is_light` meets its contract.
 use native.Mathlib.Omega.{arith}
 use mathlib.Core.Path.{◌∙◌, ap}
-use mathlib.Core.Bool.{false≢true}
 use Rattle.plain.specs.Bytes.{root_bytes}
 use Rattle.plain.proofs.Sight.{root_within, light_pattern}
 use Rattle.plain.proofs.check.is_light.Goals as goal
-
-pub returns-then-n-eq0 : goal.returns-then-n-eq0
-returns-then-n-eq0 c = λ h. absurd (false≢true h)
-
-pub returns-then-n-gt-LONGEST_PATTERN : goal.returns-then-n-gt-LONGEST_PATTERN
-returns-then-n-gt-LONGEST_PATTERN c = λ h. absurd (false≢true h)
-
-pub returns-then-entry_of : goal.returns-then-entry_of
-returns-then-entry_of c = λ h. absurd (false≢true h)
 
 pub slice_bounds-weights-count : goal.slice_bounds-weights-count
 slice_bounds-weights-count c = let a = c.args in

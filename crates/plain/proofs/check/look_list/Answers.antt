@@ -1,6 +1,5 @@
 -- `plain::check::look_list` meets its contract.
 use Rattle.plain.proofs.Nodes.{look_short, look_many, look_few}
-use native.Mathlib.Omega.{arith}
 use Rattle.plain.proofs.check.look_list.Goals as goal
 
 pub returns-then-q-lt2-clause-is : goal.returns-then-q-lt2-clause-is
@@ -10,9 +9,4 @@ pub returns-then-runs-gt1-clause-is : goal.returns-then-runs-gt1-clause-is
 returns-then-runs-gt1-clause-is c = look_many _ _ _ c.if-q-lt2.false _ c.runs_among-runs.ensures.is c.if-runs-gt1.true
 
 pub returns-clause-is : goal.returns-clause-is
-returns-clause-is c = let wide = c.if-q-lt2.false in
-    look_few _ _ _ wide _ c.runs_among-runs.ensures.is c.if-runs-gt1.false
-
-pub returns-clause-within : goal.returns-clause-within
-returns-clause-within c = let wide = c.if-q-lt2.false in
-    (omega arith, omega arith, wide)
+returns-clause-is c = look_few _ _ _ c.if-q-lt2.false _ c.runs_among-runs.ensures.is c.if-runs-gt1.false

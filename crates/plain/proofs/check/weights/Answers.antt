@@ -5,24 +5,15 @@ use Rattle.plain.proofs.Among.{summed_first, summed_next, summed_end}
 use Rattle.plain.proofs.Sight.{weight_most}
 use Rattle.plain.proofs.check.weights.Goals as goal
 
-pub loop-at-init : goal.loop-at-init
-loop-at-init c = summed_first weight_of 2 weight_most _
-
-pub bounds-s-at : goal.bounds-s-at
-bounds-s-at c = omega (arith, c.loop-at-test.true)
+pub loop-b-init : goal.loop-b-init
+loop-b-init c = summed_first weight_of 2 weight_most _
 
 pub overflow_add-found : goal.overflow_add-found
-overflow_add-found c = omega (arith, c.requires, c.loop-at.invariant.few, c.loop-at-test.true, c.weight-found.ensures, weight_most c.decode.result)
+overflow_add-found c = omega (arith, c.requires, c.loop-b.invariant.few, c.loop-b-test.true, c.weight-found.ensures, weight_most c.decode.result)
 
-pub overflow_add-at : goal.overflow_add-at
-overflow_add-at c = omega (arith, c.loop-at-test.true)
-
-pub loop-at-smaller : goal.loop-at-smaller
-loop-at-smaller c = omega (arith, c.loop-at-test.true)
-
-pub loop-at-preserved : goal.loop-at-preserved
-loop-at-preserved c = summed_next weight_of 2 weight_most _ _ _ c.loop-at.invariant c.loop-at-test.true _ c.decode.ensures _
+pub loop-b-preserved : goal.loop-b-preserved
+loop-b-preserved c = summed_next weight_of 2 weight_most _ _ _ c.loop-b.invariant c.loop-b-test.true _ c.decode.ensures _
     c.weight-found.ensures
 
 pub returns : goal.returns
-returns c = summed_end weight_of 2 weight_most _ _ _ c.loop-at.invariant c.loop-at-test.false
+returns c = summed_end weight_of 2 weight_most _ _ _ c.loop-b.invariant c.loop-b-test.false

@@ -2,8 +2,5 @@
 use Rattle.plain.proofs.Among.{Among}
 use Rattle.plain.proofs.runs.runs_among.Given as goal
 
-abbrev pub invariant-loop-left : goal.invariant-loop-left
-invariant-loop-left l = Among l.table l.s l.n l.found l.at l.left
-
-abbrev pub decreases-loop-left : goal.decreases-loop-left
-decreases-loop-left l = l.left
+abbrev pub invariant-loop-i : goal.invariant-loop-i
+invariant-loop-i l = Among l.table l.s l.n l.found l.at l.i

@@ -1,11 +1,6 @@
 -- `plain::tier::list_step` meets its contract.
 use Rattle.plain.proofs.Nodes.{list_short, list_cut, list_equal, list_none, list_few, list_notes}
 use Rattle.term.proofs.Pairs.{together}
-use Rattle.term.proofs.Pairs.{together}
-use Rattle.term.proofs.Pairs.{together}
-use Rattle.term.proofs.Pairs.{together}
-use Rattle.term.proofs.Pairs.{together}
-use Rattle.term.proofs.Pairs.{together}
 use Rattle.plain.proofs.tier.list_step.Goals as goal
 
 pub returns-then-q-lt2 : goal.returns-then-q-lt2

@@ -5,7 +5,7 @@ use Rattle.plain.proofs.Turns.{Turning}
 use Rattle.plain.proofs.tier.tier.Given as goal
 
 abbrev pub invariant-loop-at : goal.invariant-loop-at
-invariant-loop-at l = Turning l.table l.classes l.«record» l.pattern l.initial.parts l.lengths l.at l.node l.count l.assigned l.parts
+invariant-loop-at l = Turning l.language.table.now l.language.classes.now l.«record» l.pattern l.initial.parts l.lengths l.at l.node l.count l.assigned l.parts
 
 abbrev pub decreases-loop-at : goal.decreases-loop-at
 decreases-loop-at l = length l.pattern - l.at

@@ -9,29 +9,29 @@ use Rattle.qonveshir.specs.Shown.{applied_shown}
 use Rattle.qonveshir.proofs.example_calls.qonveshir_example_in.Goals as goal
 
 pub returns-in_default-clause-is : goal.returns-in_default-clause-is
-returns-in_default-clause-is c = let none = sym c.edition_of-t.ensures ∙ c.in_default.is in
+returns-in_default-clause-is c = let none = sym c.edition_of.ensures ∙ c.in_default.is in
     rw none c.none_written.ensures
 
 pub returns-in_default-clause-contents : goal.returns-in_default-clause-contents
-returns-in_default-clause-contents c = let none = sym c.edition_of-t.ensures ∙ c.in_default.is in
+returns-in_default-clause-contents c = let none = sym c.edition_of.ensures ∙ c.in_default.is in
     rw none refl
 
 pub returns-in_default-clause-demand : goal.returns-in_default-clause-demand
-returns-in_default-clause-demand c = let none = sym c.edition_of-t.ensures ∙ c.in_default.is in
+returns-in_default-clause-demand c = let none = sym c.edition_of.ensures ∙ c.in_default.is in
     rw none tt
 
 pub applied_shown-requires : goal.applied_shown-requires
 applied_shown-requires c = let a = c.args in
-    omega (arith, ap applied_length c.example_in-a.ensures.is, example_short (bringing c.in-In.e a.table.now a.classes.now) a.pattern.now a.size a.allowance (length a.output.now))
+    omega (arith, ap applied_length c.example_in.ensures.is, example_short (bringing c.in-Some.edition a.table.now a.classes.now) a.pattern.now a.size a.allowance (length a.output.now))
 
 pub returns-clause-is : goal.returns-clause-is
-returns-clause-is c = let told = sym c.edition_of-t.ensures ∙ c.in-In.is in
-    rw told (c.applied_shown.ensures ∙ ap applied_shown c.example_in-a.ensures.is)
+returns-clause-is c = let told = sym c.edition_of.ensures ∙ c.in-Some.is in
+    rw told (c.applied_shown.ensures ∙ ap applied_shown c.example_in.ensures.is)
 
 pub returns-clause-contents : goal.returns-clause-contents
-returns-clause-contents c = let told = sym c.edition_of-t.ensures ∙ c.in-In.is in
-    rw told c.example_in-a.ensures.contents
+returns-clause-contents c = let told = sym c.edition_of.ensures ∙ c.in-Some.is in
+    rw told c.example_in.ensures.contents
 
 pub returns-clause-demand : goal.returns-clause-demand
-returns-clause-demand c = let told = sym c.edition_of-t.ensures ∙ c.in-In.is in
-    rw told (rw c.example_in-a.ensures.is at c.example_in-a.ensures.demand)
+returns-clause-demand c = let told = sym c.edition_of.ensures ∙ c.in-Some.is in
+    rw told (rw c.example_in.ensures.is at c.example_in.ensures.demand)

@@ -2,7 +2,7 @@
 -- Assumes nothing.
 use Prim.Native.Nat.{ℕ, ◌+◌, ◌-◌, ◌%◌, ◌^◌, ◌<◌, ◌≤◌}
 use native.Mathlib.Omega.{arith}
-use mathlib.Core.Path.{◌≡◌, sym, ap, subst, ◌∙◌}
+use mathlib.Core.Path.{◌≡◌, ap, subst, ◌∙◌}
 use mathlib.Core.List.{List}
 use mathlib.Core.Bool.{false}
 use lib.Bits.{bit_or}
@@ -18,6 +18,7 @@ use Rattle.search.specs.declared.marks.Marks.{Marks}
 use Rattle.search.specs.Inner.Lent.{input_of, lent_of}
 use Rattle.search.specs.Inner.Replies.{failure}
 use Rattle.search.specs.declared.place.Place.{Place}
+use Rattle.search.proofs.Findings.{same_failed, resumed_by}
 use Rattle.search.proofs.Reporting.{pairs_walk}
 use Rattle.search.proofs.Givens.{given_follows, given_spent, given_ends, given_unknown, given_run, given_none, given_unfit, Taken, taken_holding, taken_again, given_stays, given_goes_on}
 use Rattle.search.proofs.given.+given_length_given_rest.Goals as goal
@@ -94,10 +95,6 @@ pub given_length-given_rest-x-requires : goal.given_length-given_rest-x-requires
 given_length-given_rest-x-requires t c = let at = ap (λ (x : Place). x.at) c.passed-past.ensures in
     (omega (arith, at, c.requires.ready.0.at), (taken_holding _ _ _ _ _ _ _ _ (given_length_taken {classes = c.args.classes.now} c.requires.holding c.requires.ready c.requires.short c.if-left-eq0.false (omega (arith, c.if-place-length.false)) (omega (arith, c.struct_known-1.given)) c.behind-node.ensures c.passed-past.ensures c.packed.ensures c.bound.ensures c.also.ensures), c.requires.short))
 
-pub given_length-returns-then-not-is_resumed : goal.given_length-returns-then-not-is_resumed
-given_length-returns-then-not-is_resumed t c = given_stays _ _ _ _ _ _ _ _ (given_length_taken c.requires.holding c.requires.ready c.requires.short c.if-left-eq0.false (omega (arith, c.if-place-length.false)) (omega (arith, c.struct_known-1.given)) c.behind-node.ensures c.passed-past.ensures c.packed.ensures c.bound.ensures c.also.ensures) c.given_rest-x.ensures
-    (sym c.is_resumed.ensures ∙ c.if-not-is_resumed.true)
-
 pub given_length-further-requires-clause-holding : goal.given_length-further-requires-clause-holding
 given_length-further-requires-clause-holding t c = taken_again _ _ _ _ _ _ _ _ (given_length_taken c.requires.holding c.requires.ready c.requires.short c.if-left-eq0.false (omega (arith, c.if-place-length.false)) (omega (arith, c.struct_known-1.given)) c.behind-node.ensures c.passed-past.ensures c.packed.ensures c.bound.ensures c.also.ensures) c.given_rest-x.ensures
 
@@ -112,7 +109,7 @@ given_length-further-requires-clause-short t c = c.requires.short
 
 pub given_length-returns : goal.given_length-returns
 given_length-returns t c = given_goes_on _ _ _ _ _ _ _ _ (given_length_taken c.requires.holding c.requires.ready c.requires.short c.if-left-eq0.false (omega (arith, c.if-place-length.false)) (omega (arith, c.struct_known-1.given)) c.behind-node.ensures c.passed-past.ensures c.packed.ensures c.bound.ensures c.also.ensures) c.given_rest-x.ensures
-    (sym c.is_resumed.ensures ∙ c.if-not-is_resumed.false) c.further.ensures
+    (resumed_by _ _ same_failed c.ne.ensures c.if-ne.false) c.further.ensures
 
 pub given_rest-pairs-walked-requires-clause-holding : goal.given_rest-pairs-walked-requires-clause-holding
 given_rest-pairs-walked-requires-clause-holding t c = c.requires.holding
@@ -134,7 +131,7 @@ pub given_rest-given_length-requires : goal.given_rest-given_length-requires
 given_rest-given_length-requires t c = let is_run = c.in-RunName.is in
     let walks = pairs_walk c.pairs-walked.ensures c.requires.short (ap failure is_run) in
     let w = walks c.requires.holding.state c.requires.holding.holds in
-    rw c.wide.ensures (
+    rw c.from.ensures (
       omega (arith, w.moved.further),
       (record { state = w.end; holds = w.moved.holds }, ((subst (StopsAt _ _) is_run w.stops, subst (Unassigned _) is_run w.unassigned), c.requires.short)),
     )
@@ -153,4 +150,7 @@ given_rest-returns-in-NoPair t c = let none = c.in-NoPair.is in
 pub given_rest-returns-in-RunName : goal.given_rest-returns-in-RunName
 given_rest-returns-in-RunName t c = let is_run = c.in-RunName.is in
     given_follows _ c.requires.holding (pairs_walk c.pairs-walked.ensures c.requires.short (ap failure is_run))
-    (given_run _ _ _ _ _ _ _ _ is_run c.wide.ensures c.given_length.ensures)
+    (given_run _ _ _ _ _ _ _ _ is_run c.from.ensures c.given_length.ensures)
+
+pub given_length-returns-then-ne : goal.given_length-returns-then-ne
+given_length-returns-then-ne t c = given_stays _ _ _ _ _ _ _ _ (given_length_taken c.requires.holding c.requires.ready c.requires.short c.if-left-eq0.false (omega (arith, c.if-place-length.false)) (omega (arith, c.struct_known-1.given)) c.behind-node.ensures c.passed-past.ensures c.packed.ensures c.bound.ensures c.also.ensures) c.given_rest-x.ensures (resumed_by _ _ same_failed c.ne.ensures c.if-ne.true)

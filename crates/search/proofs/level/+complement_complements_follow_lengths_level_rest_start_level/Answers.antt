@@ -2,13 +2,13 @@
 -- Assumes nothing.
 use Prim.Native.Nat.{ℕ}
 use native.Mathlib.Omega.{arith}
-use mathlib.Core.Path.{◌≡◌, sym, ap, subst, ◌∙◌}
+use mathlib.Core.Path.{◌≡◌, ap, subst, ◌∙◌}
 use mathlib.Core.Bool.{Bool, false}
 use mathlib.Core.List.{List}
 use Rattle.parts.specs.Packed.{packed}
 use Rattle.search.specs.Inner.Memory.{put_by_in}
 use Rattle.search.specs.Inner.Bounds.{StopsAt, Unassigned}
-use Rattle.search.specs.Inner.Replies.{DecidesInside}
+use Rattle.search.specs.Inner.Replies.{failure, DecidesInside}
 use Rattle.search.specs.Inner.Halts.{Begun, BegunAt}
 use Rattle.search.specs.Inner.Memory.{marks_of}
 use Rattle.search.specs.State.{place_from}
@@ -19,6 +19,7 @@ use Rattle.search.specs.declared.place.Remaining.{Remaining}
 use Rattle.search.specs.declared.place.Next.{Next}
 use Rattle.search.specs.declared.place.Place.{Place}
 use Rattle.search.proofs.Skips.{skips_fair, behind_passed}
+use Rattle.search.proofs.Findings.{found_by, failed_by, no_failure}
 use Rattle.search.proofs.FirstPairs.{complement_ends}
 use Rattle.search.proofs.Begins.{level_from, none_begun, run_begun}
 use Rattle.search.proofs.Levels.{rest_fails_by, rest_reports, rest_follows_by, rest_starts, level_run, level_skipped, level_over, turn_first, turn_holding, turn_hit, turn_last, turn_spent, turn_room, turn_more, turn_over, test_first, test_end, test_next, test_stop, test_on, inside_length, inside_holding, complement_tests, follow_fails, follow_spent, follow_none, follow_tests, follow_tries}
@@ -55,11 +56,11 @@ pub complement-slice_bounds-inside-end : goal.complement-slice_bounds-inside-end
 complement-slice_bounds-inside-end t c = omega (arith, c.requires.testable.within)
 
 pub complement-overflow_sub-left : goal.complement-overflow_sub-left
-complement-overflow_sub-left t c = (subst (DecidesInside _ _ _ _ _ _ _ _) c.in-Decided.is c.at_once-first.ensures).some
+complement-overflow_sub-left t c = (subst (DecidesInside _ _ _ _ _ _ _ _) c.in-Some.is c.at_once-first.ensures).some
 
-pub complement-returns-in-Decided : goal.complement-returns-in-Decided
-complement-returns-in-Decided t c = complement_ends _ _ c.requires.testable.within _ _ _ _ c.args.marks
-    (subst (DecidesInside _ _ _ _ _ _ _ _) c.in-Decided.is c.at_once-first.ensures) c.opposite.ensures
+pub complement-returns-in-Some : goal.complement-returns-in-Some
+complement-returns-in-Some t c = complement_ends _ _ c.requires.testable.within _ _ _ _ c.args.marks
+    (subst (DecidesInside _ _ _ _ _ _ _ _) c.in-Some.is c.at_once-first.ensures) c.opposite.ensures
 
 pub complement-start_level-requires : goal.complement-start_level-requires
 complement-start_level-requires t c = let w = c.requires.testable.within in
@@ -88,21 +89,13 @@ complements-bounds-stack-i t c = omega arith
 pub complements-complement-x-requires : goal.complements-complement-x-requires
 complements-complement-x-requires t c = (omega arith, (test_next _ _ _ c.loop-i.invariant c.loop-i-test.true c.requires.resting, c.requires.short))
 
-pub complements-returns-then-not-is_found : goal.complements-returns-then-not-is_found
-complements-returns-then-not-is_found t c = test_stop _ _ _ c.loop-i.invariant
-    c.loop-i-test.true c.complement-x.ensures
-    (sym c.is_found.ensures ∙ c.if-not-is_found.true)
-
-pub complements-overflow_add-i : goal.complements-overflow_add-i
-complements-overflow_add-i t c = omega arith
-
 pub complements-loop-i-smaller : goal.complements-loop-i-smaller
 complements-loop-i-smaller t c = omega arith
 
 pub complements-loop-i-preserved : goal.complements-loop-i-preserved
 complements-loop-i-preserved t c = test_on _ _ _ c.loop-i.invariant
     c.loop-i-test.true c.complement-x.ensures
-    (sym c.is_found.ensures ∙ c.if-not-is_found.false)
+    (found_by _ c.ne.ensures c.if-ne.false)
 
 pub complements-returns : goal.complements-returns
 complements-returns t c = test_end _ _ _ c.loop-i.invariant (omega arith)
@@ -155,10 +148,10 @@ pub lengths-overflow_sub-k : goal.lengths-overflow_sub-k
 lengths-overflow_sub-k t c = omega (arith, (skips_fair c.skip_where-k.ensures).further, ap (λ (x : Place). x.node) c.passed-past.ensures)
 
 pub lengths-offset_bounds-parts-i : goal.lengths-offset_bounds-parts-i
-lengths-offset_bounds-parts-i t c = omega (arith, c.wide-i.ensures, c.requires.stops_at.0.variable)
+lengths-offset_bounds-parts-i t c = omega (arith, c.from-i.ensures, c.requires.stops_at.0.variable)
 
 pub lengths-bounds-parts-i : goal.lengths-bounds-parts-i
-lengths-bounds-parts-i t c = omega (arith, c.wide-i.ensures, c.requires.stops_at.0.variable)
+lengths-bounds-parts-i t c = omega (arith, c.from-i.ensures, c.requires.stops_at.0.variable)
 
 pub lengths-level-requires : goal.lengths-level-requires
 lengths-level-requires t c = let fair = skips_fair c.skip_where-k.ensures in
@@ -169,7 +162,7 @@ lengths-level-requires t c = let fair = skips_fair c.skip_where-k.ensures in
       c.remaining.ensures,
       c.queue.ensures,
       c.nodes.ensures,
-      c.wide-i.ensures,
+      c.from-i.ensures,
       c.behind-first.ensures ∙ behind_passed _ _ _ _ c.passed-past.ensures (omega (arith, fair.further, node)),
     ) (
       omega (arith, c.requires.stops_at.0.at),
@@ -187,7 +180,7 @@ lengths-returns t c = let fair = skips_fair c.skip_where-k.ensures in
     let node = ap (λ (x : Place). x.node) c.passed-past.ensures in
     follow_tries _ c.if-left-eq0.false c.requires.stops_at.0.at
     (level_skipped _ _ c.requires.stops_at.1 c.skip_where-k.ensures c.passed-past.ensures (omega arith) _ (omega (arith, fair.further, node))
-    (level_run _ _ _ _ _ c.wide-i.ensures c.requires.holding c.requires.stops_at.0.at c.requires.stops_at.0.variable c.requires.stops_at.1 (omega (arith, fair.few, elements)) (omega (arith, c.well_formed))
+    (level_run _ _ _ _ _ c.from-i.ensures c.requires.holding c.requires.stops_at.0.at c.requires.stops_at.0.variable c.requires.stops_at.1 (omega (arith, fair.few, elements)) (omega (arith, c.well_formed))
     (omega (arith, fair.further, node, fair.within (omega (arith, node, c.requires.holding.holds.node)))) (c.packed.ensures ∙ ap packed c.bound.ensures) _
     (c.behind-first.ensures ∙ behind_passed _ _ _ _ c.passed-past.ensures (omega (arith, fair.further, node)))
     (level_from (rw (c.queue.ensures, c.nodes.ensures)) (rw (c.next.ensures, c.remaining.ensures)) c.level.ensures)))
@@ -217,25 +210,21 @@ level-loop-place-smaller t c = omega (arith, ap (λ (x : Place). x.elements) c.l
 
 pub level-loop-place-preserved : goal.level-loop-place-preserved
 level-loop-place-preserved t c = turn_more _ _ _ _ _ _ _ c.loop-place.invariant c.requires.short.of_record c.also-seen.ensures c.rest-x.ensures
-    (sym c.is_failed.ensures ∙ c.if-not-is_failed.false) (omega (arith, c.if-place-least.false)) c.if-left-eq0.false c.lengthen-k.ensures
+    (failed_by _ c.ne.ensures c.if-ne.false) (omega (arith, c.if-place-least.false)) c.if-left-eq0.false c.lengthen-k.ensures
 
 pub level-returns-then-place-least : goal.level-returns-then-place-least
 level-returns-then-place-least t c = level_from c.of-marks.ensures c.of-start.ensures
     (turn_last _ _ _ _ _ _ _ c.loop-place.invariant c.requires.short.of_record c.also-seen.ensures c.rest-x.ensures c.if-place-least.true)
 
-pub level-returns-then-not-is_failed : goal.level-returns-then-not-is_failed
-level-returns-then-not-is_failed t c = level_from c.of-marks.ensures c.of-start.ensures
-    (turn_hit _ _ _ _ _ _ _ c.loop-place.invariant c.requires.short.of_record c.also-seen.ensures c.rest-x.ensures (sym c.is_failed.ensures ∙ c.if-not-is_failed.true))
-
 pub level-returns-then-left-eq0 : goal.level-returns-then-left-eq0
 level-returns-then-left-eq0 t c = level_from c.of-marks.ensures c.of-start.ensures
     (turn_spent _ _ _ _ _ _ _ c.loop-place.invariant c.requires.short.of_record c.also-seen.ensures c.rest-x.ensures
-    (sym c.is_failed.ensures ∙ c.if-not-is_failed.false) (omega (arith, c.if-place-least.false)) c.if-left-eq0.true)
+    (failed_by _ c.ne.ensures c.if-ne.false) (omega (arith, c.if-place-least.false)) c.if-left-eq0.true)
 
 pub level-returns-then-k : goal.level-returns-then-k
 level-returns-then-k t c = level_from c.of-marks.ensures c.of-start.ensures
     (turn_over _ _ _ _ _ _ _ c.loop-place.invariant c.requires.short.of_record c.also-seen.ensures c.rest-x.ensures
-    (sym c.is_failed.ensures ∙ c.if-not-is_failed.false) (omega (arith, c.if-place-least.false)) c.if-left-eq0.false c.lengthen-k.ensures c.if-k.true)
+    (failed_by _ c.ne.ensures c.if-ne.false) (omega (arith, c.if-place-least.false)) c.if-left-eq0.false c.lengthen-k.ensures c.if-k.true)
 
 pub rest-onward-w-requires-clause-holding : goal.rest-onward-w-requires-clause-holding
 rest-onward-w-requires-clause-holding t c = c.requires.holding
@@ -243,11 +232,8 @@ rest-onward-w-requires-clause-holding t c = c.requires.holding
 pub rest-onward-w-requires-clause-short : goal.rest-onward-w-requires-clause-short
 rest-onward-w-requires-clause-short t c = c.requires.short
 
-pub rest-returns-then-is_failure : goal.rest-returns-then-is_failure
-rest-returns-then-is_failure t c = rest_fails_by _ c.onward-w.ensures c.requires.holding (sym c.is_failure.ensures ∙ c.if-is_failure.true)
-
 pub rest-returns-then-halts : goal.rest-returns-then-halts
-rest-returns-then-halts t c = rest_reports _ c.onward-w.ensures c.if-halts.true (sym c.is_failure.ensures ∙ c.if-is_failure.false) c.report.ensures
+rest-returns-then-halts t c = rest_reports _ c.onward-w.ensures c.if-halts.true (no_failure _ c.in_default.not-Failure) c.report.ensures
 
 pub rest-follow-requires : goal.rest-follow-requires
 rest-follow-requires t c = let w = c.onward-w.ensures.going c.requires.holding.state c.requires.holding.holds in
@@ -267,3 +253,14 @@ start_level-level-requires t c = rw (
 pub start_level-returns : goal.start_level-returns
 start_level-returns t c = rest_starts c.requires.holding (omega (arith, c.well_formed))
     (level_from (rw (c.queue.ensures, c.nodes.ensures)) (rw (c.next.ensures, c.remaining.ensures)) c.level.ensures)
+
+pub level-returns-then-ne : goal.level-returns-then-ne
+level-returns-then-ne t c = level_from c.of-marks.ensures c.of-start.ensures
+    (turn_hit _ _ _ _ _ _ _ c.loop-place.invariant c.requires.short.of_record c.also-seen.ensures c.rest-x.ensures (failed_by _ c.ne.ensures c.if-ne.true))
+
+pub complements-returns-then-ne : goal.complements-returns-then-ne
+complements-returns-then-ne t c = test_stop _ _ _ c.loop-i.invariant
+    c.loop-i-test.true c.complement-x.ensures (found_by _ c.ne.ensures c.if-ne.true)
+
+pub rest-returns-in-Failure : goal.rest-returns-in-Failure
+rest-returns-in-Failure t c = rest_fails_by _ c.onward-w.ensures c.requires.holding (ap failure c.in-Failure.is)

@@ -1,10 +1,11 @@
 -- `search::show::show_found` meets its contract. Assumes nothing.
 use mathlib.Core.Path.{sym, ◌∙◌}
+use Rattle.search.proofs.Findings.{same_found}
 use Rattle.search.proofs.Shown.{found_shown, other_unshown}
 use Rattle.search.proofs.show.show_found.Goals as goal
 
-pub returns-then-is_found : goal.returns-then-is_found
-returns-then-is_found c = found_shown _ _ _ _ (sym c.is_found.ensures ∙ c.if-is_found.true) c.show.ensures
+pub returns-then-eq : goal.returns-then-eq
+returns-then-eq c = found_shown _ _ _ _ (sym (same_found _) ∙ sym c.eq.ensures ∙ c.if-eq.true) c.show.ensures
 
-pub returns-else-is_found : goal.returns-else-is_found
-returns-else-is_found c = other_unshown _ _ _ (sym c.is_found.ensures ∙ c.if-is_found.false)
+pub returns-else-eq : goal.returns-else-eq
+returns-else-eq c = other_unshown _ _ _ (sym (same_found _) ∙ sym c.eq.ensures ∙ c.if-eq.false)

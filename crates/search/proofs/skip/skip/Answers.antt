@@ -7,9 +7,6 @@ use Rattle.search.proofs.skip.skip.Goals as goal
 pub returns-then-children-eq0 : goal.returns-then-children-eq0
 returns-then-children-eq0 c = Skips.nothing c.none.ensures
 
-pub returns-then-pattern-at : goal.returns-then-pattern-at
-returns-then-pattern-at c = Skips.nothing c.none-then-pattern-at.ensures
-
 pub returns-in-Symbol : goal.returns-in-Symbol
 returns-in-Symbol c = skips_symbol (omega (arith, c.if-children-eq0.false)) (omega (arith, c.if-pattern-at.false)) _ c.decode-code.ensures c.in-Symbol.is c.chain.ensures c.skip_to.ensures
 
@@ -21,6 +18,3 @@ returns-in-Run c = skips_run (omega (arith, c.if-children-eq0.false)) (omega (ar
 
 pub returns-in-Complement : goal.returns-in-Complement
 returns-in-Complement c = Skips.nothing c.none-in-Complement.ensures
-
-pub returns-in-Refused : goal.returns-in-Refused
-returns-in-Refused c = Skips.nothing c.none-in-Refused.ensures

@@ -22,14 +22,11 @@ returns-in_default c = on_ends _ _ _ _ _ c.loop-v.invariant c.walk-w.ensures c.r
 pub returns-then-halts : goal.returns-then-halts
 returns-then-halts c = on_ends _ _ _ _ _ c.loop-v.invariant c.walk-w.ensures c.requires.holding
 
-pub returns-then-end-ne1 : goal.returns-then-end-ne1
-returns-then-end-ne1 c = on_ends _ _ _ _ _ c.loop-v.invariant c.walk-w.ensures c.requires.holding
-
 pub overflow_cast-n : goal.overflow_cast-n
 overflow_cast-n c = omega (arith, c.struct_known-1.given)
 
 pub returns-then-w-n : goal.returns-then-w-n
-returns-then-w-n c = rw c.of.ensures (on_spent _ _ _ _ _ c.loop-v.invariant c.walk-w.ensures c.if-halts.false _ c.in-RunName.is (omega (arith, c.if-end-ne1.false)) c.requires.holding (omega (arith, c.if-w-n.true)))
+returns-then-w-n c = (on_spent _ _ _ _ _ c.loop-v.invariant c.walk-w.ensures c.if-halts.false _ c.in-RunName.is (omega (arith, c.if-end-ne1.false)) c.requires.holding (omega (arith, c.if-w-n.true)))
 
 pub slice_bounds-extents-count : goal.slice_bounds-extents-count
 slice_bounds-extents-count c = on_within _ _ _ _ _ c.loop-v.invariant c.walk-w.ensures c.requires.holding

@@ -19,7 +19,6 @@ use Rattle.search.specs.declared.place.Place.{Place}
 use Rattle.steps.specs.Turn.{step_of, variable_in}
 use Rattle.parts.specs.Packed.{part_of}
 use Rattle.search.proofs.walk.walk.Goals as goal
-use Rattle.search.proofs.walk.walk.Goals.{in-Stops, in-Fails}
 
 -- what is known at a turn of the loop, once its step is
 module _ {table classes pattern bytes : List ℕ} {assigned₀ left₀ : ℕ} {parts₀ stack₀ : List ℕ} {m₀ : Marks} {p₀ : Place}
@@ -158,10 +157,8 @@ pub loop-stop-preserved : goal.loop-stop-preserved
 loop-stop-preserved c = rw (c.push_complement-marks.ensures.marks, c.push_complement-marks.ensures.written, c.passed-place-in-PutsBy.ensures)
     (λ s₀ h. walk_puts _ _ _ _ _ _ _ _ _ _ _ (turn c.loop-stop.invariant c.step_of-step.ensures s₀ h) _ _ _ c.in-PutsBy.is c.push_complement-marks.ensures.is)
 
-pub returns : goal.returns
-returns c = let t = turn c.loop-stop.invariant c.step_of-step.ensures in
-    rw c.of.ensures
-    (elim c.match-step.branch [
-      | in-Stops w ↦ rw (w.stop-is, w.left-is) (λ s₀ h. walk_stops _ _ _ _ _ _ _ _ _ _ _ (t s₀ h) _ w.in-Stops.is)
-      | in-Fails w ↦ rw (w.stop-is, w.left-is) (λ s₀ h. walk_fails _ _ _ _ _ _ _ _ _ _ _ (t s₀ h) w.in-Fails.is)
-    ])
+pub returns-in-Stops : goal.returns-in-Stops
+returns-in-Stops c = λ s₀ h. walk_stops _ _ _ _ _ _ _ _ _ _ _ (turn c.loop-stop.invariant c.step_of-step.ensures s₀ h) _ c.in-Stops.is
+
+pub returns-in-Fails : goal.returns-in-Fails
+returns-in-Fails c = λ s₀ h. walk_fails _ _ _ _ _ _ _ _ _ _ _ (turn c.loop-stop.invariant c.step_of-step.ensures s₀ h) c.in-Fails.is

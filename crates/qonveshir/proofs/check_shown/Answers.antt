@@ -1,6 +1,0 @@
--- `qonveshir::check_shown` meets its contract.
-use mathlib.Core.Path.{◌∙◌}
-use Rattle.qonveshir.proofs.check_shown.Goals as goal
-
-pub returns : goal.returns
-returns c = c.shown.ensures ∙ rw (c.number.ensures, c.index.ensures)

@@ -1,7 +1,0 @@
-use native.Mathlib.Omega.{arith}
-use lib.Seq.{set_out}
-use mathlib.Core.Path.{sym}
-use Rattle.splice.proofs.store.Goals as goal
-
-pub returns-else-at-out : goal.returns-else-at-out
-returns-else-at-out c = sym (set_out _ _ _ (omega arith))

@@ -1,9 +1,0 @@
--- `single` ends and stays within its array.
-use Rattle.std.proofs.Common.{◌-◌, ◌≤◌}
-use Rattle.vector_lines.proofs.forms.single.Given as goal
-
-abbrev pub invariant-loop-i : goal.invariant-loop-i
-invariant-loop-i l = l.i ≤ 256
-
-abbrev pub decreases-loop-i : goal.decreases-loop-i
-decreases-loop-i l = 256 - l.i

@@ -1,9 +1,0 @@
--- The measure is the length of what is left of the words, of which each turn takes a byte at least.
-use Rattle.std.proofs.Common.{length}
-use Rattle.vector_lines.proofs.text.place_among.Given as goal
-
-abbrev pub invariant-loop-rest : goal.invariant-loop-rest
-invariant-loop-rest l = Unit {0}
-
-abbrev pub decreases-loop-rest : goal.decreases-loop-rest
-decreases-loop-rest l = length l.rest
