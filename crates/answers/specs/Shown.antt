@@ -7,6 +7,13 @@ use Rattle.answers.specs.declared.Fault.{Fault}
 abbrev pub nothing : {A : Type 0} → A → ℕ
 nothing a = 0
 
+-- the largest numbers of 32 and of 64 bits
+abbrev pub largest_u32 : ℕ
+largest_u32 = 4294967295
+
+abbrev pub largest_u64 : ℕ
+largest_u64 = 18446744073709551615
+
 -- by what is shown of an answer and of a refusal
 abbrev pub of_result : {T E : Type 0} → (T → ℕ) → (E → ℕ) → Result T E → ℕ
 of_result f g (Ok a) = f a

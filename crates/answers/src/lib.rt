@@ -2,11 +2,11 @@
 // template and of the game of loader and sender; and how each is shown in numbers.
 #![tactic(auto)]
 
-ghost use Rattle.std.specs.Prelude.{◌≡◌, ℕ, Ok};
+ghost use Rattle.std.specs.Prelude.{◌≡◌, ◌≤◌, ◌+◌, ℕ, Ok};
 ghost use Rattle.answers.specs.Refusal.{number_of};
 ghost use Rattle.answers.specs.Fault.{fault_at};
 ghost use Rattle.answers.specs.Part.{is_absent, bound_part};
-ghost use Rattle.answers.specs.Shown.{nothing, of_result};
+ghost use Rattle.answers.specs.Shown.{nothing, largest_u32, largest_u64, of_result};
 ghost use Rattle.answers.specs.Answers.{cost_number, cost_count, answer_number, answer_count, rule_number, rule_index, rule_count, applied_number, applied_count, applied_length, played_number, played_index, played_count};
 
 // The offset of the absent mark: no part within the longest record has it.
@@ -104,6 +104,9 @@ pub trait Shown {
 
     ghost shown_count: { Self → ℕ };
 
+    // The largest count.
+    ghost most_shown: { ℕ };
+
     // Document 01's number: 0 where nothing is refused, 10 none, 11 spent.
     fn number(self) -> u8
         ensures { result ≡ shown_number self };
@@ -114,7 +117,8 @@ pub trait Shown {
 
     // The count, or the length of what was read or written; a refusal shows 0.
     fn count(self) -> u64
-        ensures { result ≡ shown_count self };
+        ensures is { result ≡ shown_count self }
+        ensures within { result ≤ most_shown };
 }
 
 impl Shown for () {
@@ -124,8 +128,10 @@ impl Shown for () {
 
     ghost shown_count = { nothing };
 
+    ghost most_shown = { 0 };
+
     fn number(self) -> u8 {
-        0
+        0 // done
     }
 
     fn index(self) -> usize {
@@ -145,8 +151,10 @@ impl Shown for usize {
 
     ghost shown_count = { λ n. n };
 
+    ghost most_shown = { largest_u64 };
+
     fn number(self) -> u8 {
-        0
+        0 // read, written or accepted
     }
 
     fn index(self) -> usize {
@@ -165,6 +173,8 @@ impl Shown for Option<u32> {
     ghost shown_index = { nothing };
 
     ghost shown_count = { λ a. cost_count (Ok a) };
+
+    ghost most_shown = { largest_u32 };
 
     fn number(self) -> u8 {
         match self {
@@ -192,6 +202,8 @@ impl Shown for Refusal {
 
     ghost shown_count = { nothing };
 
+    ghost most_shown = { 0 };
+
     fn number(self) -> u8 {
         self as u8
     }
@@ -201,7 +213,7 @@ impl Shown for Refusal {
     }
 
     fn count(self) -> u64 {
-        0
+        0 // a refusal counts nothing
     }
 }
 
@@ -212,6 +224,8 @@ impl Shown for Fault {
 
     ghost shown_count = { nothing };
 
+    ghost most_shown = { 0 };
+
     fn number(self) -> u8 {
         self.refusal as u8
     }
@@ -221,7 +235,7 @@ impl Shown for Fault {
     }
 
     fn count(self) -> u64 {
-        0
+        0 // nor does one at an entry
     }
 }
 
@@ -231,6 +245,8 @@ impl<T: Shown, E: Shown> Shown for Result<T, E> {
     ghost shown_index = { of_result T.shown_index E.shown_index };
 
     ghost shown_count = { of_result T.shown_count E.shown_count };
+
+    ghost most_shown = { T.most_shown + E.most_shown };
 
     fn number(self) -> u8 {
         match self {
@@ -274,6 +290,8 @@ impl Shown for Answer {
 
     ghost shown_count = { λ a. answer_count (Ok a) };
 
+    ghost most_shown = { largest_u32 };
+
     fn number(self) -> u8 {
         match self {
             Answer::Bound(_) => 0,
@@ -307,6 +325,8 @@ impl Shown for RuleAnswer {
     ghost shown_index = { λ a. rule_index (Ok a) };
 
     ghost shown_count = { λ a. rule_count (Ok a) };
+
+    ghost most_shown = { largest_u64 };
 
     fn number(self) -> u8 {
         match self {
@@ -358,6 +378,8 @@ impl Shown for Applied {
 
     ghost shown_count = { λ a. applied_count (Ok a) };
 
+    ghost most_shown = { largest_u32 };
+
     fn number(self) -> u8 {
         match self {
             Applied::Bound(_, _) => 0,
@@ -398,6 +420,8 @@ impl Shown for Played {
     ghost shown_index = { λ a. played_index (Ok a) };
 
     ghost shown_count = { λ a. played_count (Ok a) };
+
+    ghost most_shown = { largest_u32 };
 
     fn number(self) -> u8 {
         match self {

@@ -29,6 +29,8 @@ impl Shown for Place {
 
     ghost shown_count = { λ p. p.length };
 
+    ghost most_shown = { 65535 };
+
     fn number(self) -> u8 {
         0
     }

@@ -45,6 +45,7 @@ fn count_nodes(table: &[u8], pattern: &[u8]) -> Option<u32>
 }
 
 // What the match of a pattern can count at most, whatever the record and, for the next answer, the lengths that are given.
+#[inline(always)]
 fn cost_brought(brought: &Brought<'_>, pattern: &[u8]) -> Result<Option<u32>, Refusal>
     ensures is { result ≡ cost_of (brought_of brought.now) pattern.now }
     ensures demand { Demanded (brought_of brought.now) pattern.now result }

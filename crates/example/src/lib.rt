@@ -31,6 +31,7 @@ const FIRST_NAME: u8 = 200;
 const MARK: u8 = 1;
 
 // Marks each byte of the pattern, by its class.
+#[inline(always)]
 fn keep_symbols(classes: &[u8], pattern: &[u8]) -> [u8; BYTES]
     ensures { Marks classes.now pattern.now result }
 {
@@ -72,6 +73,7 @@ fn note_twin(
 }
 
 // For each symbol one more than the next smaller twin; 0 where there is none.
+#[inline(always)]
 fn find_twins(table: &[u8], classes: &[u8], kept: &[u8; BYTES]) -> [u8; BYTES]
     requires table_len_bound { length table.now ≤ largest_table }
     ensures { FindsTwins table.now classes.now kept.now result }

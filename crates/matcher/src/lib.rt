@@ -19,6 +19,7 @@ use term::Edition;
 pub const ANSWER_WIDTH: usize = parts::ANSWER_WIDTH;
 
 // The checks up to the pattern's, in order, for a buffer of so many numbers.
+#[inline(always)]
 pub fn check_rule(brought: &Brought<'_>, pattern: &[u8], width: usize) -> Result<(), Refusal>
     ensures { result ≡ check_of (rule_checked (brought_of brought.now) pattern.now width) }
 {
@@ -36,6 +37,7 @@ pub fn check_rule(brought: &Brought<'_>, pattern: &[u8], width: usize) -> Result
 }
 
 // All checks in order.
+#[inline(always)]
 fn check_input(
     brought: &Brought<'_>,
     pattern: &[u8],
@@ -83,6 +85,7 @@ pub fn match_checked(
 }
 
 // The match with every check, in the language that the call brings.
+#[inline(always)]
 fn match_brought(
     brought: &Brought<'_>,
     pattern: &[u8],
@@ -214,6 +217,12 @@ pub fn next_in(
     ensures buffer { answer.new ≡ next_buffer_of (bringing edition table.now classes.now) pattern.now «record».now given.now allowance answer.old }
     ensures demand { NextDemanded (bringing edition table.now classes.now) pattern.now «record».now given.now answer.old allowance result answer.new }
 {
-    let brought = Brought::bringing(edition, table, classes);
-    next_brought(&brought, pattern, record, given, allowance, answer)
+    next_brought(
+        &Brought::bringing(edition, table, classes),
+        pattern,
+        record,
+        given,
+        allowance,
+        answer,
+    )
 }

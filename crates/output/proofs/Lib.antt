@@ -1,5 +1,4 @@
 -- The laws that the proofs of this crate, and other crates, cite.
-pub mod Copies
 pub mod Puts
 pub mod Fields
 pub mod Decimals

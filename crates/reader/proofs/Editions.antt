@@ -1,13 +1,13 @@
 -- In edition 1 reading does not depend on the class list, and of where a node stands only on whether that is in a list.
 use Prim.Native.Nat.{ℕ, zero, suc}
-use mathlib.Core.Path.{◌≡◌, refl, ap, ap₂, fun_ext}
-use mathlib.Core.List.{List}
+use mathlib.Core.Path.{◌≡◌, refl, sym, ap, ap₂, fun_ext, ◌∙◌}
+use mathlib.Core.List.{List, []}
 use mathlib.Core.Bool.{Bool, true, false, cond}
 use lib.ListN.{length, get_or, drop}
 use lib.Dec.{eqb, leb}
 use Rattle.answers.specs.declared.Refusal.TheVariants.{Short, BadCode, Long}
 use Rattle.term.specs.Code.{code_in}
-use Rattle.term.specs.Language.{language, simple}
+use Rattle.term.specs.Language.{Language, language, simple}
 use Rattle.term.specs.Limits.{longest, nesting, below_of}
 use Rattle.term.specs.Splicing.{in_list}
 use Rattle.term.specs.Term.{term_of}
@@ -18,7 +18,8 @@ use Rattle.term.specs.declared.Code.TheVariants.{Symbol, Name, Run, Complement}
 use Rattle.term.specs.declared.Edition.TheVariants.{One}
 use Rattle.reader.specs.Node.{known, unless_deep, open_node, code_node, node_at}
 use Rattle.reader.specs.Reading.{Parsed, refused, enter, read_all, read_by, read_tree, unless_spare, read_whole, map_parsed, read_record, read_pattern}
-use Rattle.std.specs.Prelude.{Option, None, Result, Err}
+use Rattle.reader.specs.Simple.{read_in, told_in}
+use Rattle.std.specs.Prelude.{Option, Some, None, Result, Err}
 use Rattle.answers.specs.declared.Refusal.{Refusal}
 use Rattle.reader.specs.declared.Open.{Open}
 
@@ -59,3 +60,21 @@ module _ (table classes : List ℕ) where
   pub pattern_one : (s : List ℕ) → read_pattern (language One table classes) s ≡ read_pattern (simple table) s
   unfolding read_pattern
   pattern_one s = ap (map_parsed pattern_of) (whole_one false s)
+
+-- where trees stand in edition 1 as its frames tell it
+
+module _ (table classes : List ℕ) (records : Bool) where
+  by_alike : (n left : ℕ) (stand sight : (Option ℕ)) (s : List ℕ) → in_list stand ≡ in_list sight
+      → read_by (language One table classes) records n left stand s ≡ read_by (language One table classes) records n left sight s
+  unfolding read_by
+  by_alike zero left stand sight s e = refl
+  by_alike (suc n) left stand sight s e =
+      ap (λ (o : Result Open Refusal). enter (code_in records (get_or s 0 0)) o (λ size k inside low. read_all (read_by (language One table classes) records n low inside) k (drop size s)))
+      (node_one table classes stand sight e records left s ∙ sym (node_one table classes sight sight refl records left s))
+
+pub tree_told : (simple : Bool) (l : Language) (records : Bool) (left : ℕ) (stand : (Option ℕ)) (s : List ℕ)
+    → read_tree (read_in simple l) records left (told_in simple stand) s ≡ read_tree (read_in simple l) records left stand s
+unfolding read_tree
+tree_told simple l records left None s = refl
+tree_told true l records left (Some b) s = by_alike l.table [] records (length s) left (Some 0) (Some b) s refl
+tree_told false l records left (Some b) s = refl

@@ -13,7 +13,10 @@ use Rattle.term.specs.Language.{Language}
 use Rattle.term.specs.Limits.{nesting}
 use Rattle.reader.specs.Frame.{frame}
 use Rattle.reader.specs.Node.{node_at}
-use Rattle.reader.specs.Reading.{shown, read_all, read_tree}
+use Rattle.reader.specs.Reading.{Parsed, shown, read_all, read_tree}
+use Rattle.reader.specs.Simple.{read_in, told_in}
+use Rattle.reader.proofs.Editions.{tree_told}
+use Rattle.term.specs.Tree.{Tree}
 use Rattle.reader.specs.declared.Frame.{Frame}
 use Rattle.reader.proofs.Steps.{plus, and_then, all_none, all_more, shown_chain, tree_refused, tree_open, node_within, node_below}
 use Rattle.std.specs.Prelude.{Result, Ok, Err, Option, None}
@@ -34,7 +37,7 @@ module _ {A : Type 0} (no : A) where
   stack zero fs = []
   stack (suc d) fs = get_or fs d no ∷ stack d fs
 
-  stack_length : (d : ℕ) (fs : List A) → length (stack d fs) ≡ d
+  pub stack_length : (d : ℕ) (fs : List A) → length (stack d fs) ≡ d
   stack_length zero fs = refl
   stack_length (suc d) fs = ap suc (stack_length d fs)
 
@@ -265,3 +268,24 @@ module _ {lang : Language} {records : Bool} {s : List ℕ} {around : List Frame}
             kept = rw p (h, omega (arith, i.room, stack_length none depth around), i.kept);
             to_come = rw (p, q) children;
           }
+
+-- Frames as an edition's reader keeps them
+
+module _ (simple : Bool) (l : Language) (records : Bool) where
+  resume_told : (f : Frame) (fs : List Frame) (s : List ℕ)
+      → resume (read_in simple l) records (frame f.count f.left (told_in simple f.stand) ∷ fs) s ≡ resume (read_in simple l) records (f ∷ fs) s
+  unfolding resume
+  resume_told f fs s =
+      ap (λ (t : List ℕ → Parsed Tree). and_then (shown (read_all t f.count s)) (λ n. resume (read_in simple l) records fs (drop n s)))
+      (fun_ext (λ x. tree_told simple l records f.left f.stand x))
+
+  pub reading_told : {s : List ℕ} {around : List Frame} {depth : ℕ} {f : Frame} {at : ℕ} → Reading (read_in simple l) records s around depth f at
+      → Reading (read_in simple l) records s around depth (frame f.count f.left (told_in simple f.stand)) at
+  reading_told {s} {around} {depth} {f} {at} i = record {
+    within = i.within;
+    some = i.some;
+    room = i.room;
+    places = i.places;
+    kept = i.kept;
+    to_come = i.to_come ∙ ap (plus at) (sym (resume_told f (stack none depth around) (drop at s)));
+  }

@@ -11,7 +11,7 @@ ghost use Rattle.reader.specs.Brought.{simply, bringing, brought_accepted, langu
 ghost use Rattle.reader.specs.Lent.{brought_of};
 ghost use Rattle.reader.specs.Node.{opened, list_node, unless_unspliced, unless_deep, code_node, node_at};
 ghost use Rattle.reader.specs.Frame.{frame};
-ghost use Rattle.reader.specs.Simple.{read_in};
+ghost use Rattle.reader.specs.Simple.{read_in, told_in};
 ghost use Rattle.reader.specs.Reading.{shown, read_tree, read_whole, childless, SurelyRead, read_record, read_pattern};
 
 use answers::Refusal;
@@ -227,6 +227,16 @@ impl Frame {
     }
 }
 
+// Of the list that trees stand in, edition 1 asks no more than whether there is one, so its frames keep no symbol.
+fn told<const SIMPLE: bool>(stand: Option<u8>) -> Option<u8>
+    ensures { result ≡ told_in SIMPLE stand }
+{
+    match stand {
+        Some(b) => Some(if SIMPLE { 0 } else { b }),
+        None => None,
+    }
+}
+
 // The tree at the start of s. Still to be read are the trees of `top`, and then those of the frames around it, the innermost first.
 fn read_tree<const SIMPLE: bool>(
     language: &Language<'_>,
@@ -253,13 +263,14 @@ fn read_tree<const SIMPLE: bool>(
                 around[depth] = top;
                 depth += 1;
             }
-            top = Frame::of(kids, low, inside);
+            top = Frame::of(kids, low, told::<SIMPLE>(inside));
         } else if top.count == 0 {
             if depth == 0 {
                 return Ok(at);
             }
             depth -= 1;
-            top = around[depth];
+            let Frame { count, left, stand } = around[depth];
+            top = Frame::of(count, left, told::<SIMPLE>(stand));
         }
     }
 }

@@ -1,12 +1,21 @@
 -- Bytes copied from one stretch to another.
-use Prim.Native.Nat.{ℕ, ◌+◌, ◌-◌, ◌≤◌, ◌<◌}
+use Prim.Native.Nat.{ℕ, suc, ◌+◌, ◌-◌, ◌≤◌, ◌<◌}
 use native.Mathlib.Omega.{arith}
 use mathlib.Core.Path.{◌≡◌, sym, ap, ◌∙◌}
 use mathlib.Core.List.{List, ◌++◌}
-use lib.ListN.{length, set, take, drop, length-drop}
-use lib.Seq.{sets, drop-set-lt, drop-set-add, take-set-le, length-take-le}
+use lib.ListN.{length, get_or, set, take, drop, length-drop, drop_of_length-le}
+use lib.Seq.{sets, drop-cons, drop-set-lt, drop-set-add, take-set-le, length-take-le}
 use Rattle.std.proofs.lemmas.List.Edits.{sets-eq}
 use Rattle.std.specs.List.{copy_within}
+
+-- byte by byte, at the front
+pub front_next : (l bs : List ℕ) (i : ℕ) → i < length bs → sets l i (drop i bs) ≡ sets (set l i (get_or bs i 0)) (i + 1) (drop (i + 1) bs)
+front_next l bs i h =
+    let g : i + 1 ≡ suc i = omega arith in
+    rw (drop-cons bs i 0 h, g)
+
+pub front_end : (l bs : List ℕ) (i : ℕ) → length bs ≤ i → sets l i (drop i bs) ≡ l
+front_end l bs i h = rw (drop_of_length-le bs {i = i} h)
 
 -- a byte outside a stretch is stored: the stretch stays
 pub kept_before : (l : List ℕ) (a n j v : ℕ) → j < a → take n (drop a (set l j v)) ≡ take n (drop a l)

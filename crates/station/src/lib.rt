@@ -133,7 +133,9 @@ fn put_current(bytes: &[u8], records: &mut [u8])
     requires { length bytes.now ≤ length records.old }
     ensures { records.new ≡ sets records.old 0 bytes.now }
 {
-    records[..bytes.len()].copy_from_slice(bytes);
+    for i in 0..bytes.len() {
+        records[i] = bytes[i];
+    }
 }
 
 // A station with an accepted record, which keeps none.
@@ -151,6 +153,7 @@ fn begin(bytes: &[u8], station: Station, records: &mut [u8]) -> Changed<()>
 }
 
 // The checks of a new station's record.
+#[inline(always)]
 fn check_record(brought: &Brought<'_>, bytes: &[u8]) -> Result<(), Refusal>
     ensures { result ≡ record_check (brought_of brought.now) bytes.now }
 {
@@ -165,6 +168,7 @@ fn check_record(brought: &Brought<'_>, bytes: &[u8]) -> Result<(), Refusal>
 }
 
 // A new station, on one by value.
+#[inline(always)]
 fn new_brought(
     brought: &Brought<'_>,
     bytes: &[u8],

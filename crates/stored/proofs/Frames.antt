@@ -1,17 +1,17 @@
 -- The levels of both loops: the reader's frames, each with the place where its first tree starts.
-use Prim.Native.Nat.{ℕ, ◌+◌, ◌≤◌, ◌<◌}
+use Prim.Native.Nat.{ℕ, ◌+◌, ◌-◌, ◌≤◌, ◌<◌}
 use native.Mathlib.Omega.{arith}
 use mathlib.Core.Path.{◌≡◌, refl, ap, ◌∙◌}
 use mathlib.Core.List.{List, [], ◌∷◌, ◌++◌, reverse, reverse-append}
 use mathlib.Core.Bool.{Bool, true, false, ◌||◌, true≢false}
-use lib.ListN.{length, length-reverse}
+use lib.ListN.{length, length-reverse, get_or, set}
 use lib.Dec.{ltb}
 use borrow.Author.Tests.{ltb-false}
 use Rattle.term.specs.Limits.{nesting}
 use Rattle.term.specs.Splicing.{in_list}
 use Rattle.reader.specs.Frame.{frame}
 use Rattle.reader.specs.declared.Frame.{Frame}
-use Rattle.reader.proofs.Frames.{rest_of}
+use Rattle.reader.proofs.Frames.{rest_of, none, stack, stack_length, stack_pushed, stack_popped}
 use Rattle.stored.specs.Reading.{length_bytes}
 use Rattle.stored.specs.Passes.{Stands}
 use Rattle.stored.specs.declared.Level.{Level}
@@ -70,11 +70,25 @@ module _ {P : List Level → Type 0} {around : List Level} {top : Level} {at : �
         let n : Nested (l ∷ reverse left) top.start = rw a at i.nested.3 in
         record { nested = (n.0, n.1, omega (arith, n.2, i.nested.2), n.3); to_go = rw a at q }
 
-pub none_around : (around : List Level) → (0 < length around → ⊥) → around ≡ []
-none_around [] h = refl
-none_around (l ∷ ls) h = absurd (h (omega arith))
-
 -- a node that is no list and has no children
 pub leaf_known : (list : Bool) (k : ℕ) → list || ltb 0 k ≡ false → (list ≡ false) × (k ≡ 0)
 leaf_known true k e = absurd (true≢false e)
 leaf_known false k e = (refl, omega (arith, ltb-false 0 k e))
+
+-- the first so many levels of an array, the innermost last
+
+abbrev pub none_at : Level
+none_at = level none 0
+
+abbrev pub levels_in : ℕ → List Level → List Level
+levels_in d ls = reverse (stack none_at d ls)
+
+pub levels_pushed : (d : ℕ) (ls : List Level) (l : Level) → d < length ls → levels_in (d + 1) (set ls d l) ≡ levels_in d ls ++ l ∷ []
+levels_pushed d ls l h = ap reverse (stack_pushed none_at d ls l h) ∙ reverse-append (l ∷ []) (stack none_at d ls)
+
+pub levels_popped : (d : ℕ) (ls : List Level) → (d ≡ 0 → ⊥) → levels_in d ls ≡ levels_in (d - 1) ls ++ get_or ls (d - 1) none_at ∷ []
+levels_popped d ls h =
+    ap reverse (stack_popped none_at d ls (omega (arith, h))) ∙ reverse-append (get_or ls (d - 1) none_at ∷ []) (stack none_at (d - 1) ls)
+
+pub levels_length : (d : ℕ) (ls : List Level) → length (levels_in d ls) ≡ d
+levels_length d ls = length-reverse (stack none_at d ls) ∙ stack_length none_at d ls

@@ -17,7 +17,6 @@ ghost use Rattle.stored.specs.Passes.{stretched, stripped, own_of, own_size, sto
 ghost use Rattle.stored.specs.Demands.{StoreDemanded, RestoreDemanded};
 
 use answers::Refusal;
-use arrayvec::ArrayVec;
 use reader::{Brought, FRAMES, Frame, Open};
 use sheet::WORD;
 use splice::store as put_byte;
@@ -37,6 +36,11 @@ struct Level {
 }
 
 impl Level {
+    const NONE: Level = Level {
+        frame: Frame::EMPTY,
+        start: 0,
+    };
+
     // A whole record: one tree, with all the nesting left.
     const ROOT: Level = Level {
         frame: Frame {
@@ -46,16 +50,6 @@ impl Level {
         },
         start: 0,
     };
-}
-
-// All zeros, since a new `ArrayVec` is filled with it.
-impl Default for Level {
-    fn default() -> Level {
-        Level {
-            frame: Frame::EMPTY,
-            start: 0,
-        }
-    }
 }
 
 // The checks of a node of the stored form.
@@ -95,7 +89,8 @@ fn agrees(s: &[u8], list: bool, start: usize, end: usize) -> bool
 fn read_tree(language: &Language<'_>, s: &[u8]) -> Result<usize, Refusal>
     ensures { result ≡ shown (read_stored_tree (language_by language.now) nesting None s.now) }
 {
-    let mut around: ArrayVec<Level, FRAMES> = ArrayVec::new();
+    let mut around = [Level::NONE; FRAMES];
+    let mut depth: usize = 0;
     let mut top = Level::ROOT;
     let mut at: usize = 0;
     loop {
@@ -104,10 +99,11 @@ fn read_tree(language: &Language<'_>, s: &[u8]) -> Result<usize, Refusal>
             if !agrees(s, reader::in_list(stand), top.start, at) {
                 return Err(Refusal::Length);
             }
-            let Some(level) = around.pop() else {
+            if depth == 0 {
                 return Ok(at);
-            };
-            top = level;
+            }
+            depth -= 1;
+            top = around[depth];
             continue;
         }
         let Open {
@@ -120,7 +116,8 @@ fn read_tree(language: &Language<'_>, s: &[u8]) -> Result<usize, Refusal>
         at += size;
         top.frame.count -= 1;
         if list | (0 < kids) {
-            around.push(top);
+            around[depth] = top;
+            depth += 1;
             top = Level {
                 frame: Frame::of(kids, low, inside),
                 start: at,
@@ -271,7 +268,8 @@ fn put_tree(table: &[u8], s: &[u8], output: &mut [u8])
     ensures { output.new ≡ sets output.old 0 (stored_trees table.now (record_trees (simple table.now) nesting None 1 s.now)) }
 {
     let language = Brought::simply(table).language();
-    let mut around: ArrayVec<Level, FRAMES> = ArrayVec::new();
+    let mut around = [Level::NONE; FRAMES];
+    let mut depth: usize = 0;
     let mut top = Level::ROOT;
     let mut at: usize = 0;
     let mut end: usize = 0;
@@ -279,10 +277,11 @@ fn put_tree(table: &[u8], s: &[u8], output: &mut [u8])
         let Frame { count, left, stand } = top.frame;
         if count == 0 {
             put_length(reader::in_list(stand), output, top.start, end);
-            let Some(level) = around.pop() else {
+            if depth == 0 {
                 return;
-            };
-            top = level;
+            }
+            depth -= 1;
+            top = around[depth];
             continue;
         }
         let Ok(node) = reader::node_at(&language, &s[at..], true, stand, left) else {
@@ -293,7 +292,8 @@ fn put_tree(table: &[u8], s: &[u8], output: &mut [u8])
         at += node.size;
         top.frame.count -= 1;
         if list | (0 < node.kids) {
-            around.push(top);
+            around[depth] = top;
+            depth += 1;
             top = Level {
                 frame: Frame::of(node.kids, node.low, node.inside),
                 start: end,

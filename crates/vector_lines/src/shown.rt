@@ -79,7 +79,7 @@ fn put_zero(out: &mut Line, word: &[u8], value: u64) {
 }
 
 // Why something is refused, with the index of the entry at fault where it has one.
-pub trait Refused {
+pub trait Refused: Shown + Copy {
     fn put(self, out: &mut Line);
 }
 
@@ -91,9 +91,8 @@ impl Refused for Refusal {
 
 impl Refused for Fault {
     fn put(self, out: &mut Line) {
-        let index = self.index;
-        self.refusal.put(out);
-        let _ = write!(out, " {index}");
+        put_number(out, b" refused", u64::from(self.number()));
+        put_number(out, b"", self.index() as u64);
     }
 }
 
@@ -208,7 +207,7 @@ pub fn show_edition(edition: Edition) -> Line {
 pub fn show_size<E: Refused>(word: &[u8], size: Result<usize, E>) -> Line {
     let mut out = Line::new();
     match size {
-        Ok(n) => put_number(&mut out, word, n as u64),
+        Ok(_) => put_number(&mut out, word, size.count()),
         Err(refused) => refused.put(&mut out),
     }
     out
@@ -217,7 +216,8 @@ pub fn show_size<E: Refused>(word: &[u8], size: Result<usize, E>) -> Line {
 pub fn show_place(place: Result<Place, Refusal>) -> Line {
     let mut out = Line::new();
     match place {
-        Ok(Place { offset, length }) => {
+        Ok(Place { offset, .. }) => {
+            let length = place.count();
             let _ = write!(out, " at {offset} {length}");
         }
         Err(refusal) => refusal.put(&mut out),
@@ -270,7 +270,7 @@ pub fn show_written<E: Refused>(
     let mut out = Line::new();
     match written {
         Ok(length) => {
-            put_number(&mut out, b" written", length as u64);
+            put_number(&mut out, b" written", written.count());
             put_written(&mut out, length, output, stated);
         }
         Err(refused) => {
@@ -313,22 +313,23 @@ pub fn show_played(played: Result<Played, Fault>) -> Line {
     let index = played.index() as u64;
     let count = played.count();
     let mut out = Line::new();
-    match played {
-        Ok(Played::None) => {
+    match played.number() {
+        0 => {
+            put_number(&mut out, b" forced", index);
+            put_zero(&mut out, b" count", count);
+        }
+        10 => {
             put(&mut out, b" none");
             put_zero(&mut out, b" index", index);
             put_zero(&mut out, b" count", count);
         }
-        Ok(Played::Spent(_)) => {
+        11 => {
             put_number(&mut out, b" spent", count);
             put_zero(&mut out, b" index", index);
         }
-        Ok(_) => {
-            put_number(&mut out, b" forced", index);
-            put_zero(&mut out, b" count", count);
-        }
-        Err(fault) => {
-            fault.put(&mut out);
+        number => {
+            put_number(&mut out, b" refused", u64::from(number));
+            put_number(&mut out, b"", index);
             put_zero(&mut out, b" count", count);
         }
     }

@@ -109,6 +109,7 @@ fn put_piece<'a>(s: &'a [u8], out: &mut Bytes) -> Option<&'a [u8]>
 }
 
 // The bytes that a text stands for.
+#[inline(always)]
 pub fn bytes(text: &[u8]) -> Option<Bytes> {
     let mut out = Bytes::new();
     match text {
@@ -139,6 +140,7 @@ fn put_number(item: &[u8], out: &mut Numbers) -> Option<()> {
 }
 
 // The list of 16-bit numbers that a text stands for.
+#[inline(always)]
 fn list(text: &[u8]) -> Option<Numbers> {
     let mut out = Numbers::new();
     if matches!(text, b"-") {
@@ -202,10 +204,12 @@ impl<'a> Fields<'a> {
         if most < n { None } else { Some(n) }
     }
 
+    #[inline(always)]
     pub fn bytes(&mut self) -> Option<Bytes> {
         bytes(self.text())
     }
 
+    #[inline(always)]
     pub fn list(&mut self) -> Option<Numbers> {
         list(self.text())
     }

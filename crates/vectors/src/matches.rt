@@ -38,6 +38,7 @@ struct Call {
 }
 
 impl Call {
+    #[inline(always)]
     fn read(kind: Kind, mut fields: Fields<'_>) -> Option<Call> {
         let rule = fields.bytes()?;
         let record = fields.bytes()?;

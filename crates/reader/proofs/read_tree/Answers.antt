@@ -1,5 +1,5 @@
 -- `reader::read_tree` meets its contract. The invariant: the trees of the frames are still to come. The measure is what is left of the bytes.
-use Rattle.reader.proofs.Frames.{reading_starts, node_refuses, node_ends, depth_within, next_tree, next_around, no_more, child_last, place_free, child_first}
+use Rattle.reader.proofs.Frames.{reading_told, reading_starts, node_refuses, node_ends, depth_within, next_tree, next_around, no_more, child_last, place_free, child_first}
 use Rattle.std.proofs.lemmas.Result.{err_from_is_err_and}
 use native.Mathlib.Omega.{arith}
 use mathlib.Core.Path.{refl, sym}
@@ -37,10 +37,11 @@ loop-size-smaller-then-kids-gt0 g c = omega (arith, node_ends c.loop-size.invari
 
 pub loop-size-preserved-then-kids-gt0 : goal.loop-size-preserved-then-kids-gt0
 loop-size-preserved-then-kids-gt0 g c = let of = c.of-top-then-kids-gt0.ensures in
+    let told = c.told.ensures in
     let some = c.if-kids-gt0.true in
     elim c.if-top-gt0.branch [
-      | then-top-gt0 w ↦ rw (w.around-is, w.depth-is) (child_first c.loop-size.invariant c.node_in.ensures c.in_ok-size.was _ of some (omega (arith, w.if-top-gt0.true)))
-      | else-top-gt0 w ↦ rw (w.around-is, w.depth-is) (child_last c.loop-size.invariant c.node_in.ensures c.in_ok-size.was _ of some (omega (arith, w.if-top-gt0.false)))
+      | then-top-gt0 w ↦ rw (w.around-is, w.depth-is, of, told) (reading_told _ _ _ (child_first c.loop-size.invariant c.node_in.ensures c.in_ok-size.was _ refl some (omega (arith, w.if-top-gt0.true))))
+      | else-top-gt0 w ↦ rw (w.around-is, w.depth-is, of, told) (reading_told _ _ _ (child_last c.loop-size.invariant c.node_in.ensures c.in_ok-size.was _ refl some (omega (arith, w.if-top-gt0.false))))
     ]
 
 pub returns-then-depth-eq0 : goal.returns-then-depth-eq0
@@ -61,8 +62,8 @@ pub loop-size-smaller-then-top-eq0 : goal.loop-size-smaller-then-top-eq0
 loop-size-smaller-then-top-eq0 g c = omega (arith, node_ends c.loop-size.invariant c.node_in.ensures c.in_ok-size.was)
 
 pub loop-size-preserved-then-top-eq0 : goal.loop-size-preserved-then-top-eq0
-loop-size-preserved-then-top-eq0 g c = next_around c.loop-size.invariant c.node_in.ensures c.in_ok-size.was
-    c.if-kids-gt0.false c.if-top-eq0.true c.if-depth-eq0.false
+loop-size-preserved-then-top-eq0 g c = rw (c.of-top-then-top-eq0.ensures, c.told-then-top-eq0.ensures)
+    (reading_told _ _ _ (next_around c.loop-size.invariant c.node_in.ensures c.in_ok-size.was c.if-kids-gt0.false c.if-top-eq0.true c.if-depth-eq0.false))
 
 pub loop-size-smaller : goal.loop-size-smaller
 loop-size-smaller g c = omega (arith, node_ends c.loop-size.invariant c.node_in.ensures c.in_ok-size.was)
