@@ -61,20 +61,26 @@ module _ (table classes : List ℕ) where
   unfolding read_pattern
   pattern_one s = ap (map_parsed pattern_of) (whole_one false s)
 
--- where trees stand in edition 1 as its frames tell it
+-- Where trees stand in edition 1, as its frames tell it
 
-module _ (table classes : List ℕ) (records : Bool) where
-  by_alike : (n left : ℕ) (stand sight : (Option ℕ)) (s : List ℕ) → in_list stand ≡ in_list sight
-      → read_by (language One table classes) records n left stand s ≡ read_by (language One table classes) records n left sight s
+module _ (table classes : List ℕ) where
+  node_told : (records : Bool) (left : ℕ) (stand : (Option ℕ)) (s : List ℕ)
+      → node_at (language One table classes) records (told_in true records stand) left s ≡ node_at (language One table classes) records stand left s
+  unfolding node_at code_node open_node
+  node_told true left stand s = refl
+  node_told false left (Some b) s = node_one table classes (Some 0) (Some b) refl false left s ∙ sym (node_one table classes (Some b) (Some b) refl false left s)
+  node_told false left None s = refl
+
+  by_told : (records : Bool) (n left : ℕ) (stand : (Option ℕ)) (s : List ℕ)
+      → read_by (language One table classes) records n left (told_in true records stand) s ≡ read_by (language One table classes) records n left stand s
   unfolding read_by
-  by_alike zero left stand sight s e = refl
-  by_alike (suc n) left stand sight s e =
+  by_told records zero left stand s = refl
+  by_told records (suc n) left stand s =
       ap (λ (o : Result Open Refusal). enter (code_in records (get_or s 0 0)) o (λ size k inside low. read_all (read_by (language One table classes) records n low inside) k (drop size s)))
-      (node_one table classes stand sight e records left s ∙ sym (node_one table classes sight sight refl records left s))
+      (node_told records left stand s)
 
 pub tree_told : (simple : Bool) (l : Language) (records : Bool) (left : ℕ) (stand : (Option ℕ)) (s : List ℕ)
-    → read_tree (read_in simple l) records left (told_in simple stand) s ≡ read_tree (read_in simple l) records left stand s
+    → read_tree (read_in simple l) records left (told_in simple records stand) s ≡ read_tree (read_in simple l) records left stand s
 unfolding read_tree
-tree_told simple l records left None s = refl
-tree_told true l records left (Some b) s = by_alike l.table [] records (length s) left (Some 0) (Some b) s refl
-tree_told false l records left (Some b) s = refl
+tree_told true l records left stand s = by_told l.table [] records (length s) left stand s
+tree_told false l records left stand s = refl

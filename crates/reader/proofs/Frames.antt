@@ -181,18 +181,34 @@ module _ (lang : Language) (records : Bool) (s : List ℕ) where
   skip_under : (g f : Frame) (fs : List Frame) (at : ℕ) → f.count ≡ 0 → ToCome (g ∷ f ∷ fs) at → ToCome (g ∷ fs) at
   skip_under g f fs at z l = l ∙ ap (plus at) (resume_under lang records g (f ∷ fs) fs (drop at s) (λ d. resume_none lang records f fs d z))
 
-module _ {lang : Language} {records : Bool} {s : List ℕ} {around : List Frame} {depth : ℕ} {top : Frame} {at : ℕ} (i : Reading lang records s around depth top at)
-    {n : (Result Open Refusal)} (is : n ≡ node_at lang records top.stand top.left (take (length s - at) (drop at s))) where
+module _ (lang : Language) (records : Bool) (s : List ℕ) where
+  -- the same, told by what is left of the bytes
+  abbrev pub ReadTo : List Frame → ℕ → Frame → List ℕ → Type 0
+  ReadTo around depth top rest = (rest ≡ drop (length s - length rest) s) × Reading lang records s around depth top (length s - length rest)
+
+  pub read_to_starts : (around : List Frame) (top : Frame) → length around ≡ nesting → top ≡ frame 1 nesting None → ReadTo around 0 top s
+  read_to_starts around top l e =
+      let z : length s - length s ≡ 0 = omega arith in
+      rw z (refl, reading_starts lang records s around top l e)
+
+module _ {lang : Language} {records : Bool} {s : List ℕ} {around : List Frame} {depth : ℕ} {top : Frame} {rest : List ℕ} (l : ReadTo lang records s around depth top rest)
+    {n : (Result Open Refusal)} (is : n ≡ node_at lang records top.stand top.left rest) where
+  abbrev at : ℕ
+  at = length s - length rest
+
+  i : Reading lang records s around depth top at
+  i = l.1
+
   pub refused : {r : Refusal} → n ≡ Err r → shown (read_tree lang records nesting None s) ≡ Err r
   refused {r} e =
-      i.to_come ∙ ap (plus at) (resume_refused lang records top (stack none depth around) (drop at s) r i.some (rw (rest_part at s) at (sym is ∙ e)))
+      i.to_come ∙ ap (plus at) (resume_refused lang records top (stack none depth around) (drop at s) r i.some (rw l.0 at (sym is ∙ e)))
 
   pub node_refuses : {r : Refusal} → n ≡ Err r → Err r ≡ shown (read_tree lang records nesting None s)
   node_refuses e = sym (refused e)
 
   module _ {o : Open} (e : n ≡ Ok o) where
     opens : node_at lang records top.stand top.left (drop at s) ≡ Ok o
-    opens = rw (rest_part at s) at (sym is ∙ e)
+    opens = rw l.0 at (sym is ∙ e)
 
     below : (0 < top.left) × (o.low < top.left + (2 - o.kids))
     below = node_below lang records top.stand top.left (drop at s) opens
@@ -202,90 +218,109 @@ module _ {lang : Language} {records : Bool} {s : List ℕ} {around : List Frame}
         let w = node_within lang records top.stand top.left (drop at s) opens in
         (omega (arith, w, length-drop at s, i.within), w.1)
 
+    pub node_held : o.size ≤ length rest
+    node_held = omega (arith, node_ends, ap length l.0, length-drop at s)
+
     pub depth_within : depth ≤ nesting
     depth_within = omega (arith, i.room, i.some, below)
 
     children : ToCome lang records s (frame o.kids o.low o.inside ∷ rest_of top ∷ stack none depth around) (at + o.size)
     children = children_to_come lang records s top (stack none depth around) at i.some opens i.to_come
 
+    -- what is left of them past the node's own
+    abbrev past : List ℕ
+    past = take (length rest - o.size) (drop o.size rest)
+
+    past_is : past ≡ drop (at + o.size) s
+    past_is = rest_part o.size rest ∙ ap (drop o.size) l.0 ∙ drop-drop o.size at s
+
+    past_at : length s - length past ≡ at + o.size
+    past_at = omega (arith, ap length past_is, length-drop (at + o.size) s, node_ends.0)
+
+    read_to_past : {fs : List Frame} {d : ℕ} {f : Frame} → Reading lang records s fs d f (at + o.size) → ReadTo lang records s fs d f past
+    read_to_past r = rw past_at (past_is, r)
+
     -- a node without children: its frame goes on, or after its last tree the one around it
     next_frames : o.kids ≤ 0 → ToCome lang records s (rest_of top ∷ stack none depth around) (at + o.size)
     next_frames z = skip lang records s (frame o.kids o.low o.inside) (rest_of top ∷ stack none depth around) (at + o.size) (omega arith) children
 
-    pub next_tree : o.kids ≤ 0 → (top.count - 1 ≡ 0 → ⊥) → Reading lang records s around depth (rest_of top) (at + o.size)
-    next_tree z h = record {
+    pub next_tree : o.kids ≤ 0 → (top.count - 1 ≡ 0 → ⊥) → ReadTo lang records s around depth (rest_of top) past
+    next_tree z h = read_to_past (record {
       within = node_ends.0;
       some = omega (arith, h);
       room = omega (arith, i.room, h);
       places = i.places;
       kept = i.kept;
       to_come = next_frames z;
-    }
+    })
 
     last_tree : o.kids ≤ 0 → top.count - 1 ≡ 0 → ToCome lang records s (stack none depth around) (at + o.size)
     last_tree z h = skip lang records s (rest_of top) (stack none depth around) (at + o.size) h (next_frames z)
 
-    pub next_around : o.kids ≤ 0 → top.count - 1 ≡ 0 → (depth ≡ 0 → ⊥) → Reading lang records s around (depth - 1) (get_or around (depth - 1) none) (at + o.size)
+    pub next_around : o.kids ≤ 0 → top.count - 1 ≡ 0 → (depth ≡ 0 → ⊥) → ReadTo lang records s around (depth - 1) (get_or around (depth - 1) none) past
     next_around z h d =
         let p = stack_popped none depth around (omega (arith, d)) in
         let w : Kept (get_or around (depth - 1) none ∷ stack none (depth - 1) around) = rw p at i.kept in
-        record {
+        read_to_past (record {
           within = node_ends.0;
           some = w.0;
           room = omega (arith, w.1, stack_length none (depth - 1) around);
           places = i.places;
           kept = w.2;
           to_come = rw (← p) (last_tree z h);
-        }
+        })
 
-    pub no_more : o.kids ≤ 0 → top.count - 1 ≡ 0 → depth ≡ 0 → shown (read_tree lang records nesting None s) ≡ Ok (at + o.size)
-    no_more z h d = none_to_come lang records s (at + o.size) (rw d at (last_tree z h))
+    pub no_more : o.kids ≤ 0 → top.count - 1 ≡ 0 → depth ≡ 0 → shown (read_tree lang records nesting None s) ≡ Ok (length s - length past)
+    no_more z h d = rw past_at (none_to_come lang records s (at + o.size) (rw d at (last_tree z h)))
 
     pub place_free : 0 < top.count - 1 → depth < nesting
     place_free h = omega (arith, i.room, below)
 
     -- a node with children: they come next, and then what is left of its frame
     module _ (g : Frame) (q : g ≡ frame o.kids o.low o.inside) where
-      pub child_last : 0 < o.kids → top.count - 1 ≤ 0 → Reading lang records s around depth g (at + o.size)
-      child_last z h = record {
+      pub child_last : 0 < o.kids → top.count - 1 ≤ 0 → ReadTo lang records s around depth g past
+      child_last z h = read_to_past (record {
         within = node_ends.0;
         some = rw q z;
         room = rw q (omega (arith, i.room, i.some, below));
         places = i.places;
         kept = i.kept;
         to_come = rw q (skip_under lang records s (frame o.kids o.low o.inside) (rest_of top) (stack none depth around) (at + o.size) (omega arith) children);
-      }
+      })
 
-      pub child_first : 0 < o.kids → 0 < top.count - 1 → Reading lang records s (set around depth (rest_of top)) (depth + 1) g (at + o.size)
+      pub child_first : 0 < o.kids → 0 < top.count - 1 → ReadTo lang records s (set around depth (rest_of top)) (depth + 1) g past
       child_first z h =
           let p : stack none (depth + 1) (set around depth (rest_of top)) ≡ rest_of top ∷ stack none depth around =
           stack_pushed none depth around (rest_of top) (omega (arith, place_free h, i.places)) in
-          record {
+          read_to_past (record {
             within = node_ends.0;
             some = rw q z;
             room = rw q (omega (arith, i.room, below));
             places = length-set around depth (rest_of top) ∙ i.places;
             kept = rw p (h, omega (arith, i.room, stack_length none depth around), i.kept);
             to_come = rw (p, q) children;
-          }
+          })
 
 -- Frames as an edition's reader keeps them
 
 module _ (simple : Bool) (l : Language) (records : Bool) where
   resume_told : (f : Frame) (fs : List Frame) (s : List ℕ)
-      → resume (read_in simple l) records (frame f.count f.left (told_in simple f.stand) ∷ fs) s ≡ resume (read_in simple l) records (f ∷ fs) s
+      → resume (read_in simple l) records (frame f.count f.left (told_in simple records f.stand) ∷ fs) s ≡ resume (read_in simple l) records (f ∷ fs) s
   unfolding resume
   resume_told f fs s =
       ap (λ (t : List ℕ → Parsed Tree). and_then (shown (read_all t f.count s)) (λ n. resume (read_in simple l) records fs (drop n s)))
       (fun_ext (λ x. tree_told simple l records f.left f.stand x))
 
-  pub reading_told : {s : List ℕ} {around : List Frame} {depth : ℕ} {f : Frame} {at : ℕ} → Reading (read_in simple l) records s around depth f at
-      → Reading (read_in simple l) records s around depth (frame f.count f.left (told_in simple f.stand)) at
-  reading_told {s} {around} {depth} {f} {at} i = record {
-    within = i.within;
-    some = i.some;
-    room = i.room;
-    places = i.places;
-    kept = i.kept;
-    to_come = i.to_come ∙ ap (plus at) (sym (resume_told f (stack none depth around) (drop at s)));
-  }
+  pub read_to_told : {s : List ℕ} {around : List Frame} {depth : ℕ} {f : Frame} {rest : List ℕ} → ReadTo (read_in simple l) records s around depth f rest
+      → ReadTo (read_in simple l) records s around depth (frame f.count f.left (told_in simple records f.stand)) rest
+  read_to_told {s} {around} {depth} {f} {rest} (p, i) = (
+    p,
+    record {
+      within = i.within;
+      some = i.some;
+      room = i.room;
+      places = i.places;
+      kept = i.kept;
+      to_come = i.to_come ∙ ap (plus (length s - length rest)) (sym (resume_told f (stack none depth around) (drop (length s - length rest) s)));
+    },
+  )

@@ -166,6 +166,10 @@ fn symbol_node<const SIMPLE: bool>(
         return Err(Refusal::BadCode);
     }
     let entry = language.table[i];
+    // Most nodes have no children: asked first, they take the shortest way.
+    if entry == 0 {
+        return plain_node(0, left);
+    }
     if entry == LIST {
         return list_node(s, left, b, is_unspliced::<SIMPLE>(language, stand, b));
     }
@@ -227,51 +231,58 @@ impl Frame {
     }
 }
 
-// Of the list that trees stand in, edition 1 asks no more than whether there is one, so its frames keep no symbol.
-fn told<const SIMPLE: bool>(stand: Option<u8>) -> Option<u8>
-    ensures { result ≡ told_in SIMPLE stand }
+// Of the list that trees stand in, edition 1 asks nothing in a record, and in a pattern, for a run name, no more than whether there is one. So its frames keep no symbol.
+fn told<const SIMPLE: bool, const RECORDS: bool>(stand: Option<u8>) -> Option<u8>
+    ensures { result ≡ told_in SIMPLE RECORDS stand }
 {
+    if SIMPLE && RECORDS {
+        return None;
+    }
     match stand {
         Some(b) => Some(if SIMPLE { 0 } else { b }),
         None => None,
     }
 }
 
-// The tree at the start of s. Still to be read are the trees of `top`, and then those of the frames around it, the innermost first.
-fn read_tree<const SIMPLE: bool>(
+// The tree at the start of s, a record's or, without RECORDS, a pattern's. Still to be read are the trees of `top`, and then those of the frames around it, the innermost first.
+// A node without children changes the count alone and goes straight on, so that compiled code has a loop of its own for these.
+fn read_tree<const SIMPLE: bool, const RECORDS: bool>(
     language: &Language<'_>,
     s: &[u8],
-    records: bool,
 ) -> Result<usize, Refusal>
-    ensures { result ≡ shown (read_tree (read_in SIMPLE (language_by language.now)) records nesting None s.now) }
+    ensures { result ≡ shown (read_tree (read_in SIMPLE (language_by language.now)) RECORDS nesting None s.now) }
 {
     let mut around = [Frame::EMPTY; FRAMES];
     let mut depth: usize = 0;
     let mut top = Frame::of(1, NESTING, None);
-    let mut at: usize = 0;
+    let mut rest = s;
     loop {
         let Open {
             size,
             kids,
             inside,
             low,
-        } = node_in::<SIMPLE>(language, &s[at..], records, top.stand, top.left)?;
-        at += size;
-        top.count -= 1;
+        } = node_in::<SIMPLE>(language, rest, RECORDS, top.stand, top.left)?;
+        rest = &rest[size..];
         if 0 < kids {
-            if 0 < top.count {
+            if 1 < top.count {
+                top.count -= 1;
                 around[depth] = top;
                 depth += 1;
             }
-            top = Frame::of(kids, low, told::<SIMPLE>(inside));
-        } else if top.count == 0 {
-            if depth == 0 {
-                return Ok(at);
-            }
-            depth -= 1;
-            let Frame { count, left, stand } = around[depth];
-            top = Frame::of(count, left, told::<SIMPLE>(stand));
+            top = Frame::of(kids, low, told::<SIMPLE, RECORDS>(inside));
+            continue;
         }
+        if 1 < top.count {
+            top.count -= 1;
+            continue;
+        }
+        if depth == 0 {
+            return Ok(s.len() - rest.len());
+        }
+        depth -= 1;
+        let Frame { count, left, stand } = around[depth];
+        top = Frame::of(count, left, told::<SIMPLE, RECORDS>(stand));
     }
 }
 
@@ -313,18 +324,18 @@ fn is_leaf(table: &[u8], s: &[u8]) -> bool
     }
 }
 
-// The whole of s as one tree.
-fn read_whole<const SIMPLE: bool>(
-    records: bool,
+// The whole of s as one tree. It is compiled into no caller, so that what these try before it needs no frames.
+#[inline(never)]
+fn read_whole<const SIMPLE: bool, const RECORDS: bool>(
     language: &Language<'_>,
     s: &[u8],
 ) -> Result<usize, Refusal>
-    ensures { result ≡ shown (read_whole records (read_in SIMPLE (language_by language.now)) s.now) }
+    ensures { result ≡ shown (read_whole RECORDS (read_in SIMPLE (language_by language.now)) s.now) }
 {
-    if longest_of(records) < s.len() {
+    if longest_of(RECORDS) < s.len() {
         return Err(Refusal::Long);
     }
-    let end = read_tree::<SIMPLE>(language, s, records)?;
+    let end = read_tree::<SIMPLE, RECORDS>(language, s)?;
     if end < s.len() {
         return Err(Refusal::Spare);
     }
@@ -425,8 +436,7 @@ pub fn read_record(table: &[u8], bytes: &[u8]) -> Result<usize, Refusal>
     if is_shallow(table, bytes) {
         return Ok(bytes.len());
     }
-    read_whole::<true>(
-        true,
+    read_whole::<true, true>(
         &Language {
             edition: Edition::One,
             table,
@@ -443,8 +453,7 @@ pub fn read_pattern(table: &[u8], bytes: &[u8]) -> Result<usize, Refusal>
     if is_leaf(table, bytes) {
         return Ok(bytes.len());
     }
-    read_whole::<true>(
-        false,
+    read_whole::<true, false>(
         &Language {
             edition: Edition::One,
             table,
@@ -460,7 +469,7 @@ pub fn read_record_in(language: &Language<'_>, bytes: &[u8]) -> Result<usize, Re
 {
     match language.edition {
         Edition::One => read_record(language.table, bytes),
-        Edition::Two => read_whole::<false>(true, language, bytes),
+        Edition::Two => read_whole::<false, true>(language, bytes),
     }
 }
 
@@ -469,6 +478,6 @@ pub fn read_pattern_in(language: &Language<'_>, bytes: &[u8]) -> Result<usize, R
 {
     match language.edition {
         Edition::One => read_pattern(language.table, bytes),
-        Edition::Two => read_whole::<false>(false, language, bytes),
+        Edition::Two => read_whole::<false, false>(language, bytes),
     }
 }
